@@ -1,19 +1,13 @@
 -- What a request does, what it leaves, and when it may fail halfway. `reach` is what is known of the files, and `stream` what an output has taken.
 --     form_of            how `list` shows nodes
 --     said_of            what a command says that is done or fails
---     Extracts           what `extract` makes and reports, by the arguments that ask for it
---     DoesExtract, LeavesExtract   the cases of `extract`
 --     Does               what a request that was done did, and whether nothing is lacking
 --     Leaves             what no crash and no refusal touches, whatever the status
 --     MayFail            what may be where a file has changed and the request was refused
-use Rattle.std.specs.Prelude.{◌≡◌, ⊤, ℕ, Bool, true, false, List, MatchOption, Result, Ok, Err}
-use Rattle.clap.specs.declared.parser.matches.Found.{Found}
+use Rattle.std.specs.Prelude.{◌≡◌, ⊤, ℕ, Bool, true, List, MatchOption, Result, Ok, Err}
 use Rattle.udfs_reading.specs.Device.{Stream}
 use Rattle.udfs_overview.specs.Summaries.{summary_text}
 use Rattle.udfs_overview.specs.declared.node_list.ListForm.{ListForm}
-use Rattle.udfs_words.specs.Asking.{has_lost, has_manifest, has_only}
-use Rattle.udfs_words.specs.Requests.{IsExtract}
-use Rattle.udfs_words.specs.declared.request.ExtractRequest.{ExtractRequest}
 use Rattle.udfs_words.specs.declared.request.ListRequest.{ListRequest}
 use Rattle.udfs_words.specs.declared.request.Request.{Request}
 use Rattle.udfs_words.specs.declared.request.Request.TheVariants as request
@@ -29,10 +23,8 @@ use Rattle.udfs_reports.specs.Paging.{IsPage, IsPageFree}
 use Rattle.udfs_reports.specs.Reporting.{form_text}
 use Rattle.udfs_reports.specs.Rereading.{IsMap, IsMapFree, IsSomeMap, numbers_of}
 use Rattle.udfs_reports.specs.Telling.{PrintsText}
-use Rattle.udfs_extraction.specs.ByWords.{AddsAsked, ExtractsAllAsked, ExtractsAsked, HasFreeManifest, HasNewFolder, ListsAddsAsked, ListsAsked}
-use Rattle.udfs_extraction.specs.LostFiles.{lost_others}
-use Rattle.udfs_extraction.specs.Sparing.{ExtractSpares}
-use Rattle.udfs_extraction.specs.Timing.{IsGoodWithTimes}
+use Rattle.udfs_extraction.specs.ByRequest.{IsExtracted}
+use Rattle.udfs_extraction.specs.Sparing.{LeavesExtract}
 
 -- what is to be shown, and how
 abbrev pub form_of : ListRequest → ListForm
@@ -42,28 +34,6 @@ form_of r = record { torn = r.torn; null = r.null; paths = r.paths }
 abbrev pub said_of : {A E : Type 0} → Result A E → Result Bool E
 said_of (Ok done) = Ok true
 said_of (Err e) = Err e
-
--- ---- by the arguments that ask for it
-
--- the nodes are made and reported, with the lost files and the manifest where they are asked for; with times, one that could not be set is lacking too
-pub record Extracts {F I M S W O : Type 0} (reach : Reach F I M S W) (stream : O → Stream) (words : Found) (old new : F) (before after : O) (all : Bool) : Type 0 where
-  pub nodes : (good : Bool) × IsGoodWithTimes words good all × (has_lost words ≡ false → has_manifest words ≡ false → has_only words ≡ false → ExtractsAllAsked reach.files reach.output words reach.remaining stream old new before after good)
-  pub chosen : (good : Bool) × IsGoodWithTimes words good all × (has_lost words ≡ false → has_manifest words ≡ false → ExtractsAsked reach.files reach.output words reach.remaining stream old new before after good)
-  pub listed : (good : Bool) × IsGoodWithTimes words good all × (has_lost words ≡ false → has_manifest words ≡ true → ListsAsked reach.files reach.output words reach.remaining stream old new before after good × HasFreeManifest reach.files words old)
-  pub lost : (good : Bool) × IsGoodWithTimes words good all × (has_lost words ≡ true → has_manifest words ≡ false → AddsAsked reach.files reach.output words reach.remaining stream old new before after good)
-  pub listed_lost : (good : Bool) × IsGoodWithTimes words good all × (has_lost words ≡ true → has_manifest words ≡ true → ListsAddsAsked reach.files reach.output words reach.remaining stream old new before after good)
-  pub free : (has_lost words ≡ true → HasNewFolder reach.files words (lost_others words) old) × (has_lost words ≡ true → has_manifest words ≡ true → HasFreeManifest reach.files words old)
-
-module _ {F I M S W : Type 0} (reach : Reach F I M S W) (old new : F) where
-  -- the files of the volume are written
-  abbrev pub DoesExtract : {O : Type 0} → (O → Stream) → ExtractRequest → O → O → Bool → Type 0
-  DoesExtract stream r before after whole = (words : Found) × IsExtract words r × Extracts reach stream words old new before after whole
-
-  -- what they do not take the place of
-  abbrev pub LeavesExtract : ExtractRequest → Type 0
-  LeavesExtract r = (words : Found) × IsExtract words r × ExtractSpares reach.files.tells reach.files.holds reach.files.real reach.files.may_leave reach.files.moment reach.files.left_since words old new
-
--- ---- by the request
 
 module _ {F I M S W : Type 0} (reach : Reach F I M S W) (old : F) where
   -- what was done, and whether nothing is lacking
@@ -77,7 +47,7 @@ module _ {F I M S W : Type 0} (reach : Reach F I M S W) (old : F) where
   Does stream (request.List r) new before after whole = PrintsText reach old (list_of (form_of r)) r.volume (stream before) (stream after) whole
   Does stream (request.Summary r) new before after whole = PrintsText reach old summary_text r.volume (stream before) (stream after) whole
   Does stream (request.Page r) new before after whole = IsPut reach (IsPage reach old r whole) r.out.now old new × IsPageFree reach old r
-  Does stream (request.Extract r) new before after whole = DoesExtract reach old new stream r before after whole
+  Does stream (request.Extract r) new before after whole = IsExtracted reach stream r old new before after whole
 
   -- what is left, whatever the status, and by a crash at any moment
   abbrev pub Leaves : Request → F → Type 0
@@ -89,7 +59,7 @@ module _ {F I M S W : Type 0} (reach : Reach F I M S W) (old : F) where
   Leaves (request.List r) new = new ≡ old
   Leaves (request.Summary r) new = new ≡ old
   Leaves (request.Page r) new = Spares reach (λ bytes. (whole : Bool) × IsPage reach old r whole bytes) r.out.now old new
-  Leaves (request.Extract r) new = LeavesExtract reach old new r
+  Leaves (request.Extract r) new = LeavesExtract reach old r new
 
   -- a call failed where a file has changed and the request was refused
   abbrev pub MayFail : Request → F → Type 0

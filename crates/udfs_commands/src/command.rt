@@ -17,7 +17,6 @@ use std::alloc::{AllocError, Global};
 use udfs_common::files::Files;
 use udfs_common::known::Known;
 use udfs_common::refusal::Refusal;
-use udfs_extraction::times::keep_times;
 use udfs_reading::Sink;
 use udfs_words::reading::{UsageFault, read};
 use udfs_words::request::Request;
@@ -66,10 +65,7 @@ pub fn run<F: Files, O: Sink, E: Sink>(
         Err(fault) => return refuse_usage(alloc, fault, err),
     };
     set_tone(found, files);
-    if let Err(AllocError) = keep_times(found, files) {
-        return refuse(alloc, &Refusal::Memory(AllocError), err);
-    }
-    let outcome = perform(alloc, name, found, &request, files, out);
+    let outcome = perform(alloc, &request, files, out);
     finish(alloc, outcome, &request, found, words, files, err)
 }
 

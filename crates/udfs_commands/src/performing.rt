@@ -1,16 +1,13 @@
 //! What is asked for is done.
 
 ghost use Rattle.std.specs.Prelude.{◌≡◌, ◌⊎◌, IfOk, OnErr};
-ghost use Rattle.clap.specs.Matches.{found_of};
-ghost use Rattle.udfs_words.specs.Requests.{IsExtract, IsRequest};
-ghost use Rattle.udfs_commands.specs.Doing.{Does, DoesExtract, Leaves, LeavesExtract, MayFail, form_of, said_of};
+ghost use Rattle.udfs_commands.specs.Doing.{Does, Leaves, MayFail, form_of, said_of};
 
-use clap::ArgMatches;
 use std::alloc::Global;
 use udfs_common::files::Files;
 use udfs_common::known::Known;
 use udfs_common::refusal::Refusal;
-use udfs_extraction::timed_words::extract_timed;
+use udfs_extraction::extract::extract;
 use udfs_overview::ListForm;
 use udfs_reading::Sink;
 use udfs_reports::list::NodeLines;
@@ -23,7 +20,7 @@ use udfs_reports::telling::tell;
 use udfs_tables::forget::forget;
 use udfs_tables::image::image;
 use udfs_tables::merge::merge;
-use udfs_words::request::{ExtractRequest, ListRequest, Request};
+use udfs_words::request::{ListRequest, Request};
 
 /// How `list` is asked to show nodes.
 fn node_lines(request: &ListRequest<'_>) -> NodeLines
@@ -48,34 +45,13 @@ fn all_or_none(outcome: Result<(), Refusal>) -> Result<bool, Refusal>
     }
 }
 
-/// Does what `extract` is asked for.
-fn extract_by_words<F: Files, O: Sink>(
-    alloc: Global,
-    words: &ArgMatches<'_>,
-    request: &ExtractRequest<'_>,
-    files: &mut F,
-    out: &mut O,
-) -> Result<bool, Refusal>
-    requires { IsExtract (found_of words.now) request.now }
-    ensures done { IfOk result (DoesExtract ⟦<F as Known>⟧.reach files.old files.new O.stream request.now out.old out.new) }
-    ensures left { LeavesExtract ⟦<F as Known>⟧.reach files.old files.new request.now }
-{
-    match extract_timed(alloc, words, files, out) {
-        Ok(all) => Ok(all),
-        Err(refusal) => Err(refusal),
-    }
-}
-
-/// Does what is asked for, and returns whether nothing is lacking. `words` are the arguments that ask for it, of the command `name`.
+/// Does what is asked for, and returns whether nothing is lacking.
 pub fn perform<F: Files, O: Sink>(
     alloc: Global,
-    name: &str,
-    words: &ArgMatches<'_>,
     request: &Request<'_>,
     files: &mut F,
     out: &mut O,
 ) -> Result<bool, Refusal>
-    requires { IsRequest name.now (found_of words.now) request.now }
     ensures done { IfOk result (Does ⟦<F as Known>⟧.reach files.old O.stream request.now files.new out.old out.new) }
     // What is there stays, whatever the result, and through a crash at any moment.
     ensures left { Leaves ⟦<F as Known>⟧.reach files.old request.now files.new }
@@ -97,6 +73,6 @@ pub fn perform<F: Files, O: Sink>(
         Request::List(list) => tell(alloc, &list.volume, &node_lines(list), files, out),
         Request::Summary(summary) => tell(alloc, &summary.volume, &Summary, files, out),
         Request::Page(asked) => page(alloc, asked, files),
-        Request::Extract(asked) => extract_by_words(alloc, words, asked, files, out),
+        Request::Extract(asked) => extract(alloc, asked, files, out),
     }
 }

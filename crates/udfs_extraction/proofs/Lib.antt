@@ -1,6 +1,7 @@
 pub mod ChoosingLemmas
 mod PutNodes
 mod ChosenAll
+mod ExtractLemmas
 pub mod AskedNames
 mod DigestLemmas
 mod ManifestLemmas
@@ -9,5 +10,6 @@ mod ShortNameLemmas
 mod ShortNameSizes
 mod PlaceLemmas
 mod ListedLemmas
+mod NoNode
 mod RefusedLemmas
 pub mod ManifestJob

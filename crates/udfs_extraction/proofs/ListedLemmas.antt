@@ -23,9 +23,9 @@ use Rattle.udfs_salvage.specs.declared.extraction.Fill.{Fill}
 use Rattle.udfs_extraction.specs.Choosing.{chosen, is_chosen, is_node}
 use Rattle.udfs_extraction.specs.Extracting.{deed}
 use Rattle.udfs_extraction.specs.LostFiles.{lost_line}
-use Rattle.udfs_extraction.specs.declared.extract.Deed.TheVariants.{File, Skip}
-use Rattle.udfs_extraction.specs.declared.extract.Fate.{Fate}
-use Rattle.udfs_extraction.specs.declared.extract.Fate.TheVariants.{Made, Written, Failed, Left, Skipped, Passed}
+use Rattle.udfs_extraction.specs.declared.nodes.Deed.TheVariants.{File, Skip}
+use Rattle.udfs_extraction.specs.declared.nodes.Fate.{Fate}
+use Rattle.udfs_extraction.specs.declared.nodes.Fate.TheVariants.{Made, Written, Failed, Left, Skipped, Passed}
 
 same_offered : (M : Blocks) (a : Answer Found) (at : LongAd) (s : Standing) (size : Option ℕ) (fill : Fill) → is_offered (standing_in M a at s) size fill ≡ is_offered s size fill
 same_offered M (found f) at standing.Whole size fill = refl

@@ -1,9 +1,12 @@
 -- The lines of a manifest, one after another; and that a file with them is put.
-use Rattle.std.proofs.Common.{◌≡◌, ◌∙◌, ◌+◌, ◌<◌, ◌≤◌, ℕ, zero, suc, List, [], ◌∷◌, ◌++◌, Bool, Option, Some, None, ap, append_assoc, arith, get_or, inl, inr, length, map, refl, slice_get, sym, take, ⊎_elim}
+use Rattle.std.proofs.Common.{◌≡◌, ◌≢◌, ◌⊎◌, ◌∙◌, ◌+◌, ◌<◌, ◌≤◌, ℕ, zero, suc, List, [], ◌∷◌, ◌++◌, Bool, Option, Some, None, ap, append_assoc, arith, get_or, inl, inr, length, map, refl, slice_get, sym, take, ⊎_elim}
 use Rattle.std.specs.Io.KnownBytes.{Appends}
 use Rattle.std.proofs.lemmas.List.{append-nil, take_more}
 use Rattle.udfs_files.specs.Disk.{Disk, Goes, Replaced}
 use Rattle.udfs_files.specs.Jobs.{HoldsSome, LeavesSome, ReplacedBySome}
+use Rattle.udfs_files.specs.declared.replacing.JobError.{JobError}
+use Rattle.udfs_files.specs.declared.replacing.JobError.TheVariants.{Files, Refused, RefusedLeft}
+use Rattle.udfs_files.specs.declared.replacing.ReplaceError.TheVariants.{LeftBehind, NotKept, NotMade, NotWritten, OutOfMemory}
 use Rattle.udfs_common.specs.Keeping.{IsKept}
 use Rattle.udfs_salvage.specs.Reports.{Report}
 use Rattle.udfs_extraction.specs.Manifests.{note_text, notes_text}
@@ -45,11 +48,25 @@ none_at f (x ∷ xs) (suc i) few = none_at f xs i (omega (arith, few))
 
 -- ---- the file is put
 
+-- the path holds the text
+pub job_holds : (h : Option (Option (List ℕ))) (text : List ℕ) → HoldsSome (λ b. Appends (Some []) (Some b) text) h → h ≡ Some (Some text)
+job_holds h text held = held.2 ∙ ap (λ (b : List ℕ). Some (Some b)) held.1
+
+-- after an error it holds that only if the text is not kept for sure, and else what it held
+pub job_stands : (A B : Type 0) (X : Type 0) (error : JobError X) → (error ≢ Files NotKept → A) → (error ≡ Files NotKept → B) → A ⊎ B
+job_stands A B X (Files NotKept) refused kept = inr (kept refl)
+job_stands A B X (Files OutOfMemory) refused kept = inl (refused (λ e. cc))
+job_stands A B X (Files NotMade) refused kept = inl (refused (λ e. cc))
+job_stands A B X (Files NotWritten) refused kept = inl (refused (λ e. cc))
+job_stands A B X (Files LeftBehind) refused kept = inl (refused (λ e. cc))
+job_stands A B X (Refused x) refused kept = inl (refused (λ e. cc))
+job_stands A B X (RefusedLeft x) refused kept = inl (refused (λ e. cc))
+
 -- the path holds the text, and each crash leaves it
 pub job_kept : (holds : List ℕ → Option (Option (List ℕ))) (may_leave : Disk → Type 0) (path text : List ℕ) → HoldsSome (λ b. Appends (Some []) (Some b) text) (holds path)
     → ((c : Disk) → may_leave c → LeavesSome (λ b. Appends (Some []) (Some b) text) (c path)) → IsKept holds may_leave path text
 job_kept holds may_leave path text held durable = record {
-  held = held.2 ∙ ap (λ (b : List ℕ). Some (Some b)) held.1;
+  held = job_holds (holds path) text held;
   durable = λ c left. let some = durable c left in some.2 ∙ ap Some some.1;
 }
 

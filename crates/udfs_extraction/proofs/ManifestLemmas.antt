@@ -3,29 +3,35 @@ use Rattle.std.proofs.lemmas.List.{append-nil}
 use Rattle.std.proofs.lemmas.List.Concat.{flat_map-append}
 use Rattle.sha2.specs.Sha256.{sha256}
 use Rattle.std.proofs.Common.{◌≡◌, ◌≢◌, ◌⊎◌, inl, inr, ⊎_elim, ℕ, suc, ◌+◌, arith, ◌++◌, List, [], ◌∷◌, Bool, true, false, Option, Some, None, refl, sym, ◌∙◌, subst, length, ap, slice_get, drop, append_assoc, codes}
-use Rattle.udfs_files.specs.Disk.{Disk}
-use Rattle.std.specs.Prelude.{◌&&◌}
+use Rattle.udfs_files.specs.Disk.{Fails, SinkFails}
+use Rattle.std.specs.Prelude.{◌&&◌, MatchOption, is_some, option_map}
 use Rattle.std.specs.List.{list_all}
-use Rattle.udfs_lattice.specs.Tables.{Table, state_of}
+use Rattle.udfs_lattice.specs.Tables.{Table}
 use Rattle.udfs_osta.specs.Escapes.{escaped}
 use Rattle.udfs_volume.specs.Answers.{Answer, found, holes, faulty}
-use Rattle.udfs_volume.specs.declared.profiles.Profile.{Profile}
 use Rattle.udfs_walk.specs.NodeFields.{NodeFields}
 use Rattle.udfs_salvage.specs.Found.{Found, volume_now}
 use Rattle.udfs_salvage.specs.declared.volumes.Volume as code_volume
 use Rattle.udfs_salvage.specs.NodeTexts.{names_text}
-use Rattle.udfs_salvage.specs.Reports.{IsReportBy, Report}
+use Rattle.udfs_salvage.specs.Reports.{Report}
 use Rattle.udfs_walk.specs.Unsettled.{is_whole}
-use Rattle.udfs_salvage.specs.declared.extraction.Fill.{Fill}
+use Rattle.udfs_words.specs.Requests.{texts}
+use Rattle.udfs_words.specs.declared.request.ExtractRequest.{ExtractRequest}
+use Rattle.udfs_common.specs.Reach.{Reach}
+use Rattle.udfs_common.specs.Refusing.{IsUnput}
+use Rattle.udfs_common.specs.declared.refusal.Refusal.{Refusal}
+use Rattle.udfs_common.specs.declared.refusal.Refusal.TheVariants.{Unkept}
 use Rattle.udfs_extraction.specs.Choosing.{chosen, goes_on, is_node}
-use Rattle.udfs_extraction.specs.Extracting.{IsDone, IsElsewhere, Puts, PutsBy, Stay, all_good, path_below}
-use Rattle.udfs_extraction.specs.Manifests.{AreLines, IsBeside, IsLine, IsNoted, ListsChosen, ListsOf, MayPutLast, PutsListed, PutsWith, SparesListed, digest_line, note_text, notes_of, notes_text}
-use Rattle.udfs_extraction.specs.ShortNames.{placed}
-use Rattle.udfs_extraction.specs.declared.extract.Fate.{Fate}
+use Rattle.udfs_extraction.specs.Extracting.{IsDone, IsElsewhere, Puts, PutsBy, PutsNone, SparesNodes, Stay, all_good, path_below}
+use Rattle.udfs_extraction.specs.ByRequest.{IsNodePut, MakesNodes, PutsManifest, fill_of}
+use Rattle.udfs_extraction.specs.Manifests.{AreLines, ByManifest, IsBeside, IsLine, IsManifest, IsNoted, IsPutLast, MayPut, MayPutLast, PutsListed, PutsNoted, PutsWith, digest_line, note_text, notes_of, notes_text}
+use Rattle.udfs_extraction.specs.Refused.{Unlisted}
+use Rattle.udfs_extraction.specs.Sparing.{SparesListed}
+use Rattle.udfs_extraction.specs.ShortNames.{own_name, placed}
+use Rattle.udfs_extraction.specs.declared.nodes.Fate.{Fate}
 use Rattle.udfs_extraction.specs.declared.manifest.Noted.{Noted}
-use Rattle.udfs_extraction.specs.declared.extract.Fate.TheVariants.{Made, Written, Failed, Left, Skipped, Passed}
+use Rattle.udfs_extraction.specs.declared.nodes.Fate.TheVariants.{Made, Written, Failed, Left, Skipped, Passed}
 use Rattle.udfs_extraction.proofs.ChoosingLemmas.{on_behind}
-use Rattle.udfs_extraction.proofs.PutNodes.{spares_nothing}
 use Rattle.udfs_reading.specs.Device.{Stream}
 
 abbrev Held : Type 0
@@ -93,23 +99,6 @@ by_both (found f) A B N M to or puts = to puts
 by_both (holes blocks) A B N M to or puts = or puts
 by_both (faulty fault) A B N M to or puts = or puts
 
--- there is a text, so the volume opens
-pub listed_by : (volume : Answer Found) (only : List (List ℕ)) (own : NodeFields → Option (List ℕ)) (P : ℕ → NodeFields → Fate → Type 0) (Is Is' : List Fate → List ℕ → Type 0) (Put : List ℕ → Type 0) (nodes : List NodeFields) (old new : Stream) (good : Bool) (manifest : Option (List ℕ)) (text : List ℕ) (N M : Type 0)
-    → ((fs : List Fate) (t : List ℕ) → Is fs t → Is' fs t) → PutsBy volume (PutsWith only own P Is nodes old new good manifest) (N × (manifest ≡ None)) → manifest ≡ Some text → Put text → PutsBy volume (PutsListed only own P Is' Put nodes old new good) M
-listed_by (found f) only own P Is Is' Put nodes old new good manifest text N M to puts is put =
-    let e : Some text ≡ Some puts.text = sym is ∙ puts.has in
-    let same : text ≡ puts.text = cc in
-    record { puts = puts.puts; text = puts.text; is_text = to _ _ puts.is_text; put = subst Put same put }
-listed_by (holes blocks) only own P Is Is' Put nodes old new good manifest text N M to puts is put = let bad : None ≡ Some text = sym puts.1 ∙ is in absurd (let no : ⊥ = cc in no)
-listed_by (faulty fault) only own P Is Is' Put nodes old new good manifest text N M to puts is put = let bad : None ≡ Some text = sym puts.1 ∙ is in absurd (let no : ⊥ = cc in no)
-
--- there is none, so it does not
-pub unlisted_by : (volume : Answer Found) (only : List (List ℕ)) (own : NodeFields → Option (List ℕ)) (P : ℕ → NodeFields → Fate → Type 0) (Is : List Fate → List ℕ → Type 0) (nodes : List NodeFields) (old new : Stream) (good : Bool) (manifest : Option (List ℕ)) (L N M : Type 0)
-    → PutsBy volume (PutsWith only own P Is nodes old new good manifest) (N × (manifest ≡ None)) → manifest ≡ None → (N → M) → PutsBy volume L M
-unlisted_by (found f) only own P Is nodes old new good manifest L N M puts none to = let bad : None ≡ Some puts.text = sym none ∙ puts.has in absurd (let no : ⊥ = cc in no)
-unlisted_by (holes blocks) only own P Is nodes old new good manifest L N M puts none to = to puts.0
-unlisted_by (faulty fault) only own P Is nodes old new good manifest L N M puts none to = to puts.0
-
 -- the text is that of some fates
 pub text_of : (volume : Answer Found) (only : List (List ℕ)) (own : NodeFields → Option (List ℕ)) (P : ℕ → NodeFields → Fate → Type 0) (Is : List Fate → List ℕ → Type 0) (nodes : List NodeFields) (old new : Stream) (good : Bool) (manifest : Option (List ℕ)) (text : List ℕ) (N : Type 0)
     → PutsBy volume (PutsWith only own P Is nodes old new good manifest) (N × (manifest ≡ None)) → manifest ≡ Some text → (fates : List Fate) × Is fates text
@@ -141,50 +130,87 @@ puts_with only own P Is nodes old new good fates heard nothing_failed whole text
   has = refl;
 }
 
--- of the report of a table
-pub lists_chosen : {F : Type 0} (only : List (List ℕ)) (fill : Fill) (short : Bool) (P : F → Table → Report → ℕ → NodeFields → Fate → Type 0) (Is : F → Report → List Fate → List ℕ → Type 0) (Put : F → List ℕ → Type 0) (holds : F → Held) (folder : List ℕ) (before after : F) (profile : Profile) (last : ℕ) (old new : Stream) (good : Bool)
-    (r t u : Table) (mid : F) (report : Report) → r ≡ t → t ≡ u → IsReportBy profile (state_of t) last report → ListsOf only short (λ f. P f r) Is Put before mid after report old new good → ((q : List ℕ) → IsElsewhere only fill short report folder q → holds mid q ≡ holds before q)
-    → ListsChosen only fill short P Is Put holds folder before after profile last old new good u
-lists_chosen only fill short P Is Put holds folder before after profile last old new good r t u mid report one two is_report puts elsewhere =
-    subst (λ x. ListsChosen only fill short P Is Put holds folder before after profile last old new good x) two (record {
-      mid = mid;
-      report = report;
-      is_report = is_report;
-      puts = subst (λ x. ListsOf only short (λ f. P f x) Is Put before mid after report old new good) one puts;
-      elsewhere = elsewhere;
-    })
+-- ---- the manifest is put
 
--- what is known of the text that is put may be told otherwise
-pub lists_by : {F : Type 0} (only : List (List ℕ)) (fill : Fill) (short : Bool) (P : F → Table → Report → ℕ → NodeFields → Fate → Type 0) (Is : F → Report → List Fate → List ℕ → Type 0) (Put Put' : F → List ℕ → Type 0) (holds : F → Held) (folder : List ℕ) (before after : F) (profile : Profile) (last : ℕ) (old new : Stream) (good : Bool) (table : Table)
-    → ((f : F) (text : List ℕ) → Put f text → Put' f text) → ListsChosen only fill short P Is Put holds folder before after profile last old new good table → ListsChosen only fill short P Is Put' holds folder before after profile last old new good table
-lists_by only fill short P Is Put Put' holds folder before after profile last old new good table to x = record {
-  mid = x.mid;
-  report = x.report;
-  is_report = x.is_report;
-  puts = by_both x.report.volume _ _ _ _ (λ l. record { puts = l.puts; text = l.text; is_text = l.is_text; put = to x.mid l.text l.put }) (λ n. n) x.puts;
-  elsewhere = x.elsewhere;
+module _ {F I M S W : Type 0} (reach : Reach F I M S W) (r : ExtractRequest) (table : Table) (report : Report) (old one two : F) (before after : Stream) (good : Bool) where
+  abbrev WasNoted : Bool → Option (List ℕ) → Type 0
+  WasNoted digest text = PutsNoted (texts r.only.items) r.short_names (IsNodePut reach r one table)
+      (λ told fates t. digest ≡ true → reach.files.tells → IsManifest (reach.files.holds one) r.folder.now r.short_names told fates t) old one report before after good text
+
+  -- of a volume that opens
+  with_text : (place text : Option (List ℕ)) (digest : Bool) → digest ≡ is_some place
+      → PutsWith (texts r.only.items) (own_name r.short_names report) (IsNodePut reach r one table report)
+      (λ fates t. digest ≡ true → reach.files.tells → IsManifest (reach.files.holds one) r.folder.now r.short_names report fates t) report.nodes before after good text
+      → ByManifest (two ≡ one) place text (λ there t. reach.files.tells → IsPutLast reach.files there one two t)
+      → PutsListed (texts r.only.items) (own_name r.short_names report) (IsNodePut reach r one table report) (PutsManifest reach r place one two report) report.nodes before after good
+  with_text None text digest is puts put = record { puts = puts.puts; listed = put }
+  with_text (Some there) None digest is puts put = let bad : None ≡ Some puts.text = puts.has in absurd (let no : ⊥ = cc in no)
+  with_text (Some there) (Some t) digest is puts put =
+      let e : Some t ≡ Some puts.text = puts.has in
+      let same : puts.text ≡ t = cc in
+      record { puts = puts.puts; listed = (t, λ told. (subst (λ (x : List ℕ). IsManifest (reach.files.holds one) r.folder.now r.short_names report puts.puts.fates x) same (puts.is_text is told), put told)) }
+
+  -- of one that does not
+  without_text : (place text : Option (List ℕ)) → text ≡ None → ByManifest (two ≡ one) place text (λ there t. reach.files.tells → IsPutLast reach.files there one two t) → two ≡ one
+  without_text None text none put = put
+  without_text (Some there) None none put = put
+  without_text (Some there) (Some t) none put = absurd (let no : ⊥ = cc in no)
+
+-- the nodes and their manifest
+pub listed : {F I M S W : Type 0} (reach : Reach F I M S W) (r : ExtractRequest) (table : Table) (report : Report) (old one two : F) (before after : Stream) (good : Bool) (place text : Option (List ℕ)) (digest : Bool) → digest ≡ is_some place
+    → WasNoted reach r table report old one two before after good digest text → ByManifest (two ≡ one) place text (λ there t. reach.files.tells → IsPutLast reach.files there one two t)
+    → ((q : List ℕ) → IsElsewhere (texts r.only.items) (fill_of r.fill) r.short_names report r.folder.now q → reach.files.holds one q ≡ reach.files.holds old q) → MakesNodes reach r place old one two before after table report good
+listed reach r table report old one two before after good place text digest is puts put elsewhere = record { puts = by report.volume puts; elsewhere = elsewhere }
+  where
+    by : (volume : Answer Found)
+        → PutsBy volume (PutsWith (texts r.only.items) (own_name r.short_names report) (IsNodePut reach r one table report)
+        (λ fates t. digest ≡ true → reach.files.tells → IsManifest (reach.files.holds one) r.folder.now r.short_names report fates t) report.nodes before after good text) (PutsNone old one report.volume before after good × (text ≡ None))
+        → PutsBy volume (PutsListed (texts r.only.items) (own_name r.short_names report) (IsNodePut reach r one table report) (PutsManifest reach r place one two report) report.nodes before after good)
+        (PutsNone old one report.volume before after good × (two ≡ one))
+    by (found f) p = with_text reach r table report old one two before after good place text digest is p put
+    by (holes blocks) n = (n.0, without_text reach r table report old one two before after good place text n.1 put)
+    by (faulty fault) n = (n.0, without_text reach r table report old one two before after good place text n.1 put)
+
+-- what may be at its place is a manifest of the files
+pub spares_listed : {F I M S W : Type 0} (reach : Reach F I M S W) (r : ExtractRequest) (table : Table) (report : Report) (old one two : F) (before after : Stream) (good : Bool) (place text : Option (List ℕ)) (digest : Bool) → digest ≡ is_some place
+    → WasNoted reach r table report old one two before after good digest text → ByManifest (two ≡ one) place text (λ there t. reach.files.tells → MayPut reach.files there one two t)
+    → SparesNodes reach.files r.folder.now old one → SparesListed reach r place old two
+spares_listed reach r table report old one two before after good place text digest is puts may nodes = record { one = one; nodes = nodes; last = by place text is puts may }
+  where
+    by : (p t : Option (List ℕ)) → digest ≡ is_some p → WasNoted reach r table report old one two before after good digest t → ByManifest (two ≡ one) p t (λ there x. reach.files.tells → MayPut reach.files there one two x)
+        → MatchOption p (two ≡ one) (λ there. reach.files.tells → (two ≡ one) ⊎ MayPutLast reach.files r.short_names r.folder.now there one two)
+    by None t is puts may = may
+    by (Some there) None is puts may = λ told. inl may
+    by (Some there) (Some t) is puts may = λ told.
+        let of = text_of report.volume (texts r.only.items) (own_name r.short_names report) (IsNodePut reach r one table report) (λ fates x. digest ≡ true → reach.files.tells → IsManifest (reach.files.holds one) r.folder.now r.short_names report fates x) report.nodes before after good (Some t) t _ puts refl in
+        inr (record { report = report; fates = of.0; text = t; is_manifest = of.1 is told; may = may told })
+
+-- nothing was begun of a manifest, if one is asked for
+pub spares_unlisted : {F I M S W : Type 0} (reach : Reach F I M S W) (r : ExtractRequest) (place : Option (List ℕ)) (old one : F) → SparesNodes reach.files r.folder.now old one → SparesListed reach r place old one
+spares_unlisted reach r place old one nodes = record { one = one; nodes = nodes; last = by place }
+  where
+    by : (p : Option (List ℕ)) → MatchOption p (one ≡ one) (λ there. reach.files.tells → (one ≡ one) ⊎ MayPutLast reach.files r.short_names r.folder.now there one one)
+    by None = refl
+    by (Some there) = λ told. inl refl
+
+-- the nodes were put, and their manifest was not
+pub unlisted : {F I M S W : Type 0} (reach : Reach F I M S W) (r : ExtractRequest) (table : Table) (report : Report) (old one two : F) (before after : Stream) (good : Bool) (place text : Option (List ℕ)) (digest : Bool) (refusal : Refusal)
+    → WasNoted reach r table report old one two before after good digest text
+    → MatchOption place ⊥ (λ there. IsUnput (Fails reach.files.faults ⊎ SinkFails reach.output) refusal × (refusal ≢ Unkept → reach.files.holds two there ≡ reach.files.holds one there))
+    → MatchOption place ⊥ (λ there. Unlisted reach r there old two before after table report refusal)
+unlisted reach r table report old one two before after good None text digest refusal puts why = why
+unlisted reach r table report old one two before after good (Some there) text digest refusal puts why = record {
+  one = one;
+  good = good;
+  puts = by_both report.volume _ _ _ _ (λ p. p.puts) (λ n. n.0) puts;
+  unput = why.0;
+  stays = why.1;
 }
 
--- nothing was begun
-pub nothing_listed : {F : Type 0} (tells : Type 0) (holds : F → Held) (may_leave : F → Disk → Type 0) (moment : F → ℕ) (left_since : F → ℕ → Disk → Type 0) (short : Bool) (folder place : List ℕ) (files : F) → SparesListed tells holds may_leave moment left_since short folder place files files
-nothing_listed tells holds may_leave moment left_since short folder place files = record {
-  mid = files;
-  stays = λ told q bytes is. is;
-  outside = λ q out. refl;
-  crash = λ told. spares_nothing moment may_leave left_since files folder (holds files);
-  last = λ told. inl refl;
-}
-
--- so may its place
-pub spares_at_place : {F : Type 0} (tells : Type 0) (holds : F → Held) (may_leave : F → Disk → Type 0) (moment : F → ℕ) (left_since : F → ℕ → Disk → Type 0) (short : Bool) (folder place real : List ℕ) (before after : F) → (tells → place ≡ real)
-    → SparesListed tells holds may_leave moment left_since short folder place before after → SparesListed tells holds may_leave moment left_since short folder real before after
-spares_at_place tells holds may_leave moment left_since short folder place real before after same x = record {
-  mid = x.mid;
-  stays = x.stays;
-  outside = x.outside;
-  crash = x.crash;
-  last = λ told. subst (λ p. (after ≡ x.mid) ⊎ MayPutLast holds may_leave moment left_since short folder p x.mid after) (same told) (x.last told);
-}
+-- whether there is a place
+pub some_place : {A B : Type 0} (f : A → B) (place : Option A) (digest : Bool) → digest ≡ is_some place → digest ≡ is_some (option_map f place)
+some_place f None digest is = is
+some_place f (Some p) digest is = is
 
 -- ---- its place
 

@@ -17,8 +17,8 @@ use Rattle.udfs_salvage.specs.Reports.{Report}
 use Rattle.udfs_salvage.specs.declared.extraction.Fill.{Fill}
 use Rattle.udfs_extraction.specs.Extracting.{Each, IsDone, IsIn, IsPut, IsSafe, Spares, Stay, TellsLines, TellsOn, all_good, deed, fate_line, fate_lines, is_good}
 use Rattle.udfs_common.specs.Keeping.{IsKept}
-use Rattle.udfs_extraction.specs.declared.extract.Deed.TheVariants.{Folder, File, Skip}
-use Rattle.udfs_extraction.specs.declared.extract.Fate.{Fate}
+use Rattle.udfs_extraction.specs.declared.nodes.Deed.TheVariants.{Folder, File, Skip}
+use Rattle.udfs_extraction.specs.declared.nodes.Fate.{Fate}
 use Rattle.udfs_reading.specs.Device.{Stream}
 
 abbrev pub Held : Type 0

@@ -4,12 +4,15 @@
 --     is_chosen only path     one of the arguments asks for a path
 --     chosen only nodes       the nodes that are asked for
 --     is_node nodes word      the argument is a node's path
+--     RootAsksForAll          `/` asks for all nodes
 --     AsksByNames             an argument that is not empty asks for a path exactly where it is how its first names are printed, or all of them
-use Rattle.std.specs.Prelude.{◌≡◌, ◌≢◌, ℕ, suc, ◌++◌, ◌||◌, Bool, true, List, [], codes, length, take}
-use Rattle.std.specs.List.{filter, list_any}
+use Rattle.std.specs.Prelude.{◌≡◌, ◌≢◌, ℕ, suc, ◌++◌, ◌||◌, Bool, true, List, [], ◌∷◌, codes, length, take}
+use Rattle.std.specs.List.{filter, list_all, list_any}
 use Rattle.std.specs.Str.{bytes_eq}
 use Rattle.udfs_walk.specs.NodeFields.{NodeFields}
+use Rattle.udfs_walk.specs.Unsettled.{is_whole}
 use Rattle.udfs_salvage.specs.NodeTexts.{path_name}
+use Rattle.udfs_salvage.specs.Reports.{all_whole}
 
 -- the text begins with this front and a `/`
 abbrev pub goes_on : List ℕ → List ℕ → Bool
@@ -35,3 +38,7 @@ is_node nodes word = list_any (λ n. bytes_eq (path_name n.path) word) nodes
 abbrev pub AsksByNames : Type 0
 AsksByNames = (word : List ℕ) (path : List (List ℕ)) → word ≢ []
     → (is_under word (path_name path) ≡ true → (k : ℕ) × (path_name (take k path) ≡ word)) × ((k : ℕ) → path_name (take k path) ≡ word → is_under word (path_name path) ≡ true)
+
+-- `/` asks for all nodes; and, being one of them itself, for some
+abbrev pub RootAsksForAll : Type 0
+RootAsksForAll = (nodes : List NodeFields) → (chosen (codes "/" ∷ []) nodes ≡ nodes) × (list_all (is_node nodes) (codes "/" ∷ []) ≡ true → list_all (λ n. is_whole n.standing) nodes ≡ all_whole nodes)

@@ -4,15 +4,16 @@
 --     IsIn folder q                    a path below a folder by escaped names
 --     Spares folder held               nothing outside of the folder changes, nor any file that was there
 --     IsSafe .. path bytes             a path holds these bytes, and since some moment each crash leaves them
---     IsPut .. index node fate         what the fate of a node says of its file
+--     IsPut, IsPutAt .. index node fate    what the fate of a node says of its file
+--     SparesNodes                      no file that was there changes, nor anything outside of the folder, whatever crashes
 --     Puts                             nodes from the first after the root on, with their fates and lines
---     PutsReport                       all nodes with their files and lines, or the line of a volume that does not open
 --     IsDone only P index node fate    this holds of a node that is asked for, and any other is passed over
---     ExtractsChosen                   what is made and reported of the nodes that are asked for, where any other is passed over
-use Rattle.std.specs.Prelude.{◌≡◌, ◌≢◌, ℕ, ◌≤◌, Bool, true, false, List, [], ◌∷◌, ◌++◌, ⊤, suc, Option, Some, None, cond, codes, drop, length, slice_get, if◌then◌else◌, ◌&&◌}
+--     PutsOf                           what is made and reported of the nodes that are asked for, where any other is passed over
+use Rattle.std.specs.Prelude.{◌≡◌, ◌≢◌, ◌⊎◌, ℕ, ◌≤◌, Bool, true, false, List, [], ◌∷◌, ◌++◌, ⊤, suc, Option, Some, None, cond, codes, drop, length, slice_get, if◌then◌else◌, ◌&&◌}
 use Rattle.std.specs.List.{list_all}
 use Rattle.udfs_file.specs.declared.cells.Cell.{Cell}
-use Rattle.udfs_files.specs.Disk.{Disk}
+use Rattle.udfs_files.specs.Disk.{Disk, Fails, Goes, SinkFails}
+use Rattle.udfs_files.specs.declared.files.Files.{Ghosts}
 use Rattle.udfs_reading.specs.Writing.{Wrote, Failed as WriteFailed}
 use Rattle.udfs_walk.specs.NodeFields.{NodeFields}
 use Rattle.udfs_volume.specs.declared.profiles.Profile.{Profile}
@@ -28,15 +29,15 @@ use Rattle.udfs_lattice.specs.Tables.{Table, state_of}
 use Rattle.udfs_walk.specs.declared.standings.Standing.{Standing}
 use Rattle.udfs_walk.specs.declared.standings.Standing.TheVariants as standing
 use Rattle.udfs_salvage.specs.Extraction.{is_offered}
-use Rattle.udfs_salvage.specs.Reports.{Report, IsReportBy, all_whole}
+use Rattle.udfs_salvage.specs.Reports.{Report, IsReportBy}
 use Rattle.udfs_walk.specs.Unsettled.{is_whole}
 use Rattle.udfs_salvage.specs.declared.extraction.Fill.{Fill}
 use Rattle.udfs_extraction.specs.Choosing.{chosen, is_chosen, is_node}
 use Rattle.udfs_extraction.specs.ShortNames.{own_name, placed}
-use Rattle.udfs_extraction.specs.declared.extract.Deed.{Deed}
-use Rattle.udfs_extraction.specs.declared.extract.Deed.TheVariants.{Folder, File, Skip}
-use Rattle.udfs_extraction.specs.declared.extract.Fate.{Fate}
-use Rattle.udfs_extraction.specs.declared.extract.Fate.TheVariants.{Made, Written, Failed, Left, Skipped, Passed}
+use Rattle.udfs_extraction.specs.declared.nodes.Deed.{Deed}
+use Rattle.udfs_extraction.specs.declared.nodes.Deed.TheVariants.{Folder, File, Skip}
+use Rattle.udfs_extraction.specs.declared.nodes.Fate.{Fate}
+use Rattle.udfs_extraction.specs.declared.nodes.Fate.TheVariants.{Made, Written, Failed, Left, Skipped, Passed}
 use Rattle.udfs_reading.specs.Device.{Stream}
 
 -- a directory is made, unless it is a loop
@@ -111,6 +112,12 @@ pub record Spares (folder : List ℕ) (held : List ℕ → Option (Option (List 
 abbrev pub Stay : (List ℕ → Option (Option (List ℕ))) → (List ℕ → Option (Option (List ℕ))) → Type 0
 Stay old new = (q bytes : List ℕ) → old q ≡ Some (Some bytes) → new q ≡ Some (Some bytes)
 
+-- no file that was there changes, nor anything outside of the folder, and no crash at any moment changes them
+pub record SparesNodes {F I M S W : Type 0} (files : Ghosts F I M S W) (folder : List ℕ) (before after : F) : Type 0 where
+  pub stays : files.tells → Stay (files.holds before) (files.holds after)
+  pub outside : (q : List ℕ) → (¬ IsIn folder q) → files.holds after q ≡ files.holds before q
+  pub crash : files.tells → Goes files.moment files.may_leave files.left_since before after (Spares folder (files.holds before))
+
 -- the path holds the bytes, and since some moment each crash leaves them
 pub record IsSafe (holds : List ℕ → Option (Option (List ℕ))) (moment : ℕ) (left_since : ℕ → Disk → Type 0) (path bytes : List ℕ) : Type 0 where
   pub held : holds path ≡ Some (Some bytes)
@@ -125,6 +132,10 @@ pub record IsPut (tells fails : Type 0) (table : Table) (report : Report) (fill 
   pub written : fate ≡ Written → tells → (profile : Profile) (last : ℕ) → IsReportBy profile (state_of table) last report → (cs : List Cell) × HasCellsInBy profile (state_of table) last index cs
       × IsSafe holds moment left_since (path_below folder (placed short report index n)) (filled (fill_byte fill) cs)
   pub failed : is_good fate ≡ false → (profile : Profile) (last : ℕ) → IsReportBy profile (state_of table) last report → fails
+
+-- the same at some moment
+abbrev pub IsPutAt : {F I M S W : Type 0} → Ghosts F I M S W → (W → Stream) → F → Table → Report → Fill → Bool → List ℕ → ℕ → NodeFields → Fate → Type 0
+IsPutAt files output at table report fill short folder = IsPut files.tells (Fails files.faults ⊎ SinkFails output) table report fill short folder (files.holds at) (files.moment at) (files.left_since at)
 
 -- this holds of each node, of which the first has this index, and its fate, as far as there are fates
 abbrev pub Each : (ℕ → NodeFields → Fate → Type 0) → ℕ → List NodeFields → List Fate → Type 0
@@ -147,13 +158,6 @@ pub record Puts (own : NodeFields → Option (List ℕ)) (P : ℕ → NodeFields
   pub each : Each P 1 (drop 1 nodes) fates
   pub lines : TellsLines heard old new (fate_lines own (drop 1 nodes) fates)
 
--- all of them have their fates, and it is good where none failed and all nodes are whole
-pub record PutsAll (own : NodeFields → Option (List ℕ)) (P : ℕ → NodeFields → Fate → Type 0) (nodes : List NodeFields) (old new : Stream) (good : Bool) : Type 0 where
-  pub fates : List Fate
-  pub puts : Puts own P nodes old new true fates
-  pub all : length fates ≡ length (drop 1 nodes)
-  pub says : good ≡ (all_good fates && all_whole nodes)
-
 -- nothing is made of a volume that does not open, but its line is printed
 pub record PutsNone {F : Type 0} (before after : F) (volume : Answer Found) (old new : Stream) (good : Bool) : Type 0 where
   pub untouched : after ≡ before
@@ -165,16 +169,6 @@ abbrev pub PutsBy : Answer Found → Type 0 → Type 0 → Type 0
 PutsBy (found f) opens does_not = opens
 PutsBy (holes listed) opens does_not = does_not
 PutsBy (faulty fault) opens does_not = does_not
-
--- what is made and printed for a report
-abbrev pub PutsReport : {F : Type 0} → Bool → (Report → ℕ → NodeFields → Fate → Type 0) → F → F → Report → Stream → Stream → Bool → Type 0
-PutsReport short P before after report old new good = PutsBy report.volume (PutsAll (own_name short report) (P report) report.nodes old new good) (PutsNone before after report.volume old new good)
-
--- of the report of the table by the rules of a profile
-pub record ExtractsAll {F : Type 0} (short : Bool) (P : Table → Report → ℕ → NodeFields → Fate → Type 0) (before after : F) (profile : Profile) (last : ℕ) (old new : Stream) (good : Bool) (table : Table) : Type 0 where
-  pub report : Report
-  pub is_report : IsReportBy profile (state_of table) last report
-  pub puts : PutsReport short (P table) before after report old new good
 
 -- this holds of a node that one of the paths in `only` asks for, and any other is passed over
 pub record IsDone (only : List (List ℕ)) (P : ℕ → NodeFields → Fate → Type 0) (index : ℕ) (n : NodeFields) (fate : Fate) : Type 0 where
@@ -196,11 +190,3 @@ PutsOf only short P before after report old new good = PutsBy report.volume (Put
 -- no node that is asked for, and of which a file is to be written, has its file at this path
 abbrev pub IsElsewhere : List (List ℕ) → Fill → Bool → Report → List ℕ → List ℕ → Type 0
 IsElsewhere only fill short report folder q = (k : ℕ) (n : NodeFields) → slice_get report.nodes k ≡ Some n → is_chosen only n.path ≡ true → deed n.kind n.standing n.size fill ≡ File → q ≢ path_below folder (placed short report k n)
-
--- of the report of the table by the rules of a profile; and no path changes but those of nodes that are asked for and of which a file is to be written
-pub record ExtractsChosen {F : Type 0} (only : List (List ℕ)) (fill : Fill) (short : Bool) (P : Table → Report → ℕ → NodeFields → Fate → Type 0) (holds : F → List ℕ → Option (Option (List ℕ))) (folder : List ℕ) (before after : F) (profile : Profile) (last : ℕ)
-    (old new : Stream) (good : Bool) (table : Table) : Type 0 where
-  pub report : Report
-  pub is_report : IsReportBy profile (state_of table) last report
-  pub puts : PutsOf only short (P table) before after report old new good
-  pub elsewhere : (q : List ℕ) → IsElsewhere only fill short report folder q → holds after q ≡ holds before q

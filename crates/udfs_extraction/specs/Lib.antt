@@ -1,11 +1,10 @@
-pub mod ByWords
+pub mod ByRequest
 pub mod Choosing
 pub mod Extracting
 pub mod Digests
 pub mod SumLines
 pub mod Manifests
 pub mod LostFiles
-pub mod Timing
 pub mod ShortNames
 pub mod Sparing
 pub mod Refused

@@ -4,28 +4,26 @@
 --     notes_of fate digest index              what is noted of a node
 --     notes_text short report noted           the lines of the files that were noted
 --     PutsNoted                               what is made and printed for a report, with the text of the manifest
---     ListsChosen                             the same of the report of a table, and the manifest is put after the files
---     SparesListed                            what is left as it was, whatever is returned
+--     IsPutLast                               a manifest is put after the files
+--     MayPutLast                              it is, or it was to be
 --     IsFreeManifest                          a manifest takes the place of no file but a manifest, of none of the inputs, and of none that is written
 --     IsSparedManifest                        why its place is rejected
-use Rattle.std.specs.Prelude.{◌≡◌, ◌≢◌, ◌⊎◌, ℕ, Bool, true, false, List, [], ◌∷◌, ◌++◌, suc, Option, Some, None, codes, drop, flat_map, slice_get}
+use Rattle.std.specs.Prelude.{◌≡◌, ◌≢◌, ◌⊎◌, ℕ, Bool, true, false, List, [], ◌∷◌, ◌++◌, suc, Option, Some, None, MatchOption, codes, drop, flat_map, slice_get}
 use Rattle.sha2.specs.Sha256.{sha256}
-use Rattle.udfs_files.specs.Disk.{Disk, Goes, IsOwn, Replaced}
-use Rattle.udfs_lattice.specs.Tables.{Table, state_of}
-use Rattle.udfs_volume.specs.declared.profiles.Profile.{Profile}
+use Rattle.udfs_files.specs.Disk.{Goes, IsOwn, Replaced}
+use Rattle.udfs_files.specs.declared.files.Files.{Ghosts}
 use Rattle.udfs_walk.specs.NodeFields.{NodeFields}
 use Rattle.udfs_salvage.specs.NodeTexts.{names_text}
-use Rattle.udfs_salvage.specs.Reports.{Report, IsReportBy}
-use Rattle.udfs_salvage.specs.declared.extraction.Fill.{Fill}
+use Rattle.udfs_salvage.specs.Reports.{Report}
 use Rattle.udfs_extraction.specs.Choosing.{goes_on}
-use Rattle.udfs_extraction.specs.Extracting.{IsElsewhere, IsIn, PutsBy, PutsChosen, PutsNone, Spares, Stay, path_below}
+use Rattle.udfs_extraction.specs.Extracting.{IsIn, PutsBy, PutsChosen, PutsNone, path_below}
 use Rattle.udfs_common.specs.Guarding.{NoneLeads, SomeLeads}
 use Rattle.udfs_common.specs.Keeping.{IsKept}
 use Rattle.udfs_extraction.specs.ShortNames.{own_name, placed}
 use Rattle.udfs_extraction.specs.SumLines.{begins_as_sums, sum_line}
-use Rattle.udfs_extraction.specs.declared.extract.Fate.{Fate}
+use Rattle.udfs_extraction.specs.declared.nodes.Fate.{Fate}
 use Rattle.udfs_extraction.specs.declared.manifest.Noted.{Noted}
-use Rattle.udfs_extraction.specs.declared.extract.Fate.TheVariants.{Made, Written, Failed, Left, Skipped, Passed}
+use Rattle.udfs_extraction.specs.declared.nodes.Fate.TheVariants.{Made, Written, Failed, Left, Skipped, Passed}
 use Rattle.udfs_reading.specs.Device.{Stream}
 
 -- the digest of the bytes, and the path in the folder, with no `/` in front
@@ -93,50 +91,33 @@ PutsNoted only short P Is before after report old new good manifest = PutsBy rep
 -- ---- the manifest is put
 
 -- a text is at its place, each crash leaves it, and one in between leaves it or what was there; no other path changes, but those of new files that are to go in its place
-pub record IsPutLast {F : Type 0} (holds : F → List ℕ → Option (Option (List ℕ))) (may_leave : F → Disk → Type 0) (moment : F → ℕ) (left_since : F → ℕ → Disk → Type 0) (place : List ℕ) (mid after : F) (text : List ℕ) : Type 0 where
-  pub kept : IsKept (holds after) (may_leave after) place text
-  pub crash : Goes moment may_leave left_since mid after (Replaced place text)
-  pub elsewhere : (q : List ℕ) → q ≢ place → (¬ IsOwn place q) → holds after q ≡ holds mid q
+pub record IsPutLast {F I M S W : Type 0} (files : Ghosts F I M S W) (place : List ℕ) (mid after : F) (text : List ℕ) : Type 0 where
+  pub kept : IsKept (files.holds after) (files.may_leave after) place text
+  pub crash : Goes files.moment files.may_leave files.left_since mid after (Replaced place text)
+  pub elsewhere : (q : List ℕ) → q ≢ place → (¬ IsOwn place q) → files.holds after q ≡ files.holds mid q
 
--- the manifest of the files as they are then, and this holds of it
-pub record PutsListed (only : List (List ℕ)) (own : NodeFields → Option (List ℕ)) (P : ℕ → NodeFields → Fate → Type 0) (Is : List Fate → List ℕ → Type 0) (Put : List ℕ → Type 0) (nodes : List NodeFields) (old new : Stream) (good : Bool) : Type 0 where
-  pub puts : PutsChosen only own P nodes old new good
-  pub text : List ℕ
-  pub is_text : Is puts.fates text
-  pub put : Put text
+-- a text is at its place, or what was there; a crash at any moment leaves one of them; no other path changes, but those of new files that are to go in its place
+pub record MayPut {F I M S W : Type 0} (files : Ghosts F I M S W) (place : List ℕ) (mid after : F) (text : List ℕ) : Type 0 where
+  pub stands : (files.holds after place ≡ files.holds mid place) ⊎ (files.holds after place ≡ Some (Some text))
+  pub crash : Goes files.moment files.may_leave files.left_since mid after (Replaced place text)
+  pub elsewhere : (q : List ℕ) → q ≢ place → (¬ IsOwn place q) → files.holds after q ≡ files.holds mid q
 
--- At some moment all is made and reported as without a manifest; then it is put. Of a volume that does not open, none is.
-abbrev pub ListsOf : {F : Type 0} → List (List ℕ) → Bool → (F → Report → ℕ → NodeFields → Fate → Type 0) → (F → Report → List Fate → List ℕ → Type 0) → (F → List ℕ → Type 0) → F → F → F → Report → Stream → Stream → Bool → Type 0
-ListsOf only short P Is Put before mid after report old new good =
-    PutsBy report.volume (PutsListed only (own_name short report) (P mid report) (Is mid report) (Put mid) report.nodes old new good) (PutsNone before mid report.volume old new good × (after ≡ mid))
-
--- the same of the report of a table by the rules of a profile; and until the manifest is put no path changes but those of nodes that are asked for and of which a file is to be written
-pub record ListsChosen {F : Type 0} (only : List (List ℕ)) (fill : Fill) (short : Bool) (P : F → Table → Report → ℕ → NodeFields → Fate → Type 0) (Is : F → Report → List Fate → List ℕ → Type 0) (Put : F → List ℕ → Type 0) (holds : F → List ℕ → Option (Option (List ℕ))) (folder : List ℕ)
-    (before after : F) (profile : Profile) (last : ℕ) (old new : Stream) (good : Bool) (table : Table) : Type 0 where
-  pub mid : F
-  pub report : Report
-  pub is_report : IsReportBy profile (state_of table) last report
-  pub puts : ListsOf only short (λ f. P f table) Is Put before mid after report old new good
-  pub elsewhere : (q : List ℕ) → IsElsewhere only fill short report folder q → holds mid q ≡ holds before q
-
--- ---- what is left as it was
-
--- a manifest of files as they are is put, or was to be: a crash leaves it whole, or what was there; no other path changes, but those of new files that are to go in its place
-pub record MayPutLast {F : Type 0} (holds : F → List ℕ → Option (Option (List ℕ))) (may_leave : F → Disk → Type 0) (moment : F → ℕ) (left_since : F → ℕ → Disk → Type 0) (short : Bool) (folder place : List ℕ) (mid after : F) : Type 0 where
+-- the same of a manifest of files as they are
+pub record MayPutLast {F I M S W : Type 0} (files : Ghosts F I M S W) (short : Bool) (folder place : List ℕ) (mid after : F) : Type 0 where
   pub report : Report
   pub fates : List Fate
   pub text : List ℕ
-  pub is_manifest : IsManifest (holds mid) folder short report fates text
-  pub crash : Goes moment may_leave left_since mid after (Replaced place text)
-  pub elsewhere : (q : List ℕ) → q ≢ place → (¬ IsOwn place q) → holds after q ≡ holds mid q
+  pub is_manifest : IsManifest (files.holds mid) folder short report fates text
+  pub may : MayPut files place mid after text
 
--- until some moment no file that was there changes, nor anything outside the new folder, crashes included; then nothing changes, or a manifest is put
-pub record SparesListed {F : Type 0} (tells : Type 0) (holds : F → List ℕ → Option (Option (List ℕ))) (may_leave : F → Disk → Type 0) (moment : F → ℕ) (left_since : F → ℕ → Disk → Type 0) (short : Bool) (folder place : List ℕ) (before after : F) : Type 0 where
-  pub mid : F
-  pub stays : tells → Stay (holds before) (holds mid)
-  pub outside : (q : List ℕ) → (¬ IsIn folder q) → holds mid q ≡ holds before q
-  pub crash : tells → Goes moment may_leave left_since before mid (Spares folder (holds before))
-  pub last : tells → (after ≡ mid) ⊎ MayPutLast holds may_leave moment left_since short folder place mid after
+-- where there are a place and a text, this holds of both; and else nothing has changed
+abbrev pub ByManifest : Type 0 → Option (List ℕ) → Option (List ℕ) → (List ℕ → List ℕ → Type 0) → Type 0
+ByManifest Same place text Holds = MatchOption place Same (λ there. MatchOption text Same (Holds there))
+
+-- the nodes that are asked for are made and reported, and this holds of their fates
+pub record PutsListed (only : List (List ℕ)) (own : NodeFields → Option (List ℕ)) (P : ℕ → NodeFields → Fate → Type 0) (Listed : List Fate → Type 0) (nodes : List NodeFields) (old new : Stream) (good : Bool) : Type 0 where
+  pub puts : PutsChosen only own P nodes old new good
+  pub listed : Listed puts.fates
 
 -- ---- its place
 

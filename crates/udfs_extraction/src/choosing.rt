@@ -5,7 +5,7 @@ ghost use Rattle.std.specs.List.{list_all, list_any};
 ghost use Rattle.std.specs.Str.{bytes_eq};
 ghost use Rattle.udfs_salvage.specs.NodeTexts.{path_name};
 ghost use Rattle.udfs_walk.specs.Unsettled.{is_whole};
-ghost use Rattle.udfs_extraction.specs.Choosing.{AsksByNames, chosen, goes_on, is_chosen, is_node, is_under};
+ghost use Rattle.udfs_extraction.specs.Choosing.{AsksByNames, RootAsksForAll, chosen, goes_on, is_chosen, is_node, is_under};
 ghost use Rattle.udfs_extraction.specs.Refused.{NamesNoNode};
 
 use std::alloc::{AllocError, Global};
@@ -14,7 +14,7 @@ use udfs_salvage::push_names;
 use udfs_walk::{Node, Path, Standing};
 
 /// The path that asks for all nodes: that of the root.
-pub const ALL: &str = "/";
+const ALL: &str = "/";
 
 /// Whether a text begins with `front` and then a `/`.
 pub fn goes_on(front: &str, text: &str) -> bool
@@ -143,7 +143,9 @@ pub fn chosen_are_whole(alloc: Global, only: &[&str], nodes: &[Node]) -> Result<
     Ok(true)
 }
 
-/// A law: an argument that is not empty asks for exactly the nodes whose first names, or all of them, are printed so. It never matches a part of a name.
+/// A law: an argument that is not empty asks for exactly the nodes whose first names, or all of them, are printed so. It never matches a part of a name. The root's
+/// asks for all.
 pub fn asks_by_names()
-    ensures { AsksByNames }
+    ensures names { AsksByNames }
+    ensures all { RootAsksForAll }
 {}

@@ -1,6 +1,6 @@
 //! What is shown to a person of a file or a folder that could not be written.
 
-use crate::extract::Fate;
+use crate::nodes::Fate;
 use std::alloc::{AllocError, Global};
 use std::fmt::Write;
 use udfs_common::files::Files;

@@ -4,23 +4,21 @@
 
 mod choosing;
 mod digesting;
-mod extract;
-mod extract_manifest;
-mod extract_unnamed;
-mod extract_words;
+pub mod extract;
 mod fate_remarks;
 mod manifest;
 mod manifest_place;
+mod manifest_put;
 mod manifest_text;
 mod node_files;
+mod nodes;
+mod out_places;
 mod places;
 mod short_names;
 mod spare;
 mod telling;
-pub mod timed_words;
-pub mod times;
+mod times;
 mod unnamed;
 mod unnamed_place;
-mod unnamed_words;
 
 pub use choosing::asks_by_names;

@@ -6,7 +6,7 @@ ghost use Rattle.std.specs.List.{list_any};
 ghost use Rattle.udfs_extraction.specs.Manifests.{notes_of};
 ghost use Rattle.udfs_extraction.specs.SumLines.{must_escape, path_byte, path_text, sum_line};
 
-use crate::extract::{Done, Fate};
+use crate::nodes::{Done, Fate};
 use std::alloc::{AllocError, Global};
 
 /// Whether a byte of a path is written with a backslash: a backslash, a line feed and a carriage return are.

@@ -13,7 +13,7 @@ ghost use Rattle.udfs_salvage.specs.Found.{volume_now};
 ghost use Rattle.udfs_salvage.specs.NodeTexts.{names_text};
 ghost use Rattle.udfs_salvage.specs.Listings.{full_in, listing_now};
 ghost use Rattle.udfs_salvage.specs.Reports.{IsReportBy};
-ghost use Rattle.udfs_extraction.specs.Extracting.{IsDone, IsFateOf, IsIn, IsPut, Spares, Stay, deed, path_below};
+ghost use Rattle.udfs_extraction.specs.Extracting.{IsDone, IsFateOf, IsIn, IsPutAt, Spares, Stay, deed, path_below};
 ghost use Rattle.udfs_common.specs.Keeping.{IsKept};
 ghost use Rattle.udfs_extraction.specs.Choosing.{is_chosen};
 ghost use Rattle.udfs_extraction.specs.Manifests.{IsNoted};
@@ -21,7 +21,7 @@ ghost use Rattle.udfs_extraction.specs.ShortNames.{placed};
 
 use crate::choosing::{is_above, is_chosen};
 use crate::digesting::{Filled, fill_noting};
-use crate::extract::{Deed, Done, Fate};
+use crate::nodes::{Deed, Done, Fate};
 use crate::spare::Spare;
 use std::alloc::{AllocError, Global};
 use udfs_common::files::Files;
@@ -262,7 +262,7 @@ fn put_at<F: Files>(
 ) -> Result<Done, AllocError>
     requires { index < length listing.now.nodes.items }
     ensures put { IfOk result (λ done. (n : NodeFields) (short : Bool) (folder : List ℕ) → slice_get (listing_now listing.now).nodes index ≡ Some n → path.now ≡ path_below folder (placed short (listing_now listing.now) index n) →
-        IsPut F.tells (Fails F.faults ⊎ SinkFails F.Output.stream) listing.now.table.now (listing_now listing.now) fill short folder (F.holds files.new) (F.moment files.new) (F.left_since files.new) index n done.fate) }
+        IsPutAt F.Files F.Output.stream files.new listing.now.table.now (listing_now listing.now) fill short folder index n done.fate) }
     ensures digest { IfOk result (λ done. IsNoted digest F.tells (F.holds files.new) path.now done.fate done.digest) }
     ensures stays { F.tells → Stay (F.holds files.old) (F.holds files.new) }
     ensures others { (q : List ℕ) → q ≢ path.now → F.holds files.new q ≡ F.holds files.old q }
@@ -300,7 +300,7 @@ fn put_node<F: Files>(
     requires index { index < length listing.now.nodes.items }
     requires names { (names : List (List ℕ)) × (place.now ≡ names_text names) }
     ensures put { IfOk result (λ done. (n : NodeFields) (short : Bool) → slice_get (listing_now listing.now).nodes index ≡ Some n → place.now ≡ names_text (placed short (listing_now listing.now) index n) →
-        IsPut F.tells (Fails F.faults ⊎ SinkFails F.Output.stream) listing.now.table.now (listing_now listing.now) fill short folder.now (F.holds files.new) (F.moment files.new) (F.left_since files.new) index n done.fate) }
+        IsPutAt F.Files F.Output.stream files.new listing.now.table.now (listing_now listing.now) fill short folder.now index n done.fate) }
     ensures digest { IfOk result (λ done. IsNoted digest F.tells (F.holds files.new) (folder.now ++ place.now) done.fate done.digest) }
     ensures stays { F.tells → Stay (F.holds files.old) (F.holds files.new) }
     ensures outside { (q : List ℕ) → (¬ IsIn folder.now q) → F.holds files.new q ≡ F.holds files.old q }
@@ -358,7 +358,7 @@ pub fn put_chosen<F: Files>(
     requires index { index < length listing.now.nodes.items }
     requires names { (names : List (List ℕ)) × (place.now ≡ names_text names) }
     ensures put { IfOk result (λ done. (n : NodeFields) (short : Bool) → slice_get (listing_now listing.now).nodes index ≡ Some n → place.now ≡ names_text (placed short (listing_now listing.now) index n) → IsDone (map (λ word. word.now) only.now)
-        (IsPut F.tells (Fails F.faults ⊎ SinkFails F.Output.stream) listing.now.table.now (listing_now listing.now) fill short folder.now (F.holds files.new) (F.moment files.new) (F.left_since files.new)) index n done.fate) }
+        (IsPutAt F.Files F.Output.stream files.new listing.now.table.now (listing_now listing.now) fill short folder.now) index n done.fate) }
     ensures digest { IfOk result (λ done. IsNoted digest F.tells (F.holds files.new) (folder.now ++ place.now) done.fate done.digest) }
     ensures stays { F.tells → Stay (F.holds files.old) (F.holds files.new) }
     ensures outside { (q : List ℕ) → (¬ IsIn folder.now q) → F.holds files.new q ≡ F.holds files.old q }

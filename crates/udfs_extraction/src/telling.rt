@@ -5,7 +5,7 @@ ghost use Rattle.udfs_salvage.specs.NodeTexts.{names_text};
 ghost use Rattle.udfs_salvage.specs.Texts.{line};
 ghost use Rattle.udfs_extraction.specs.Extracting.{TellsOn, fate_line, written_line};
 
-use crate::extract::Fate;
+use crate::nodes::Fate;
 use std::alloc::{AllocError, Global};
 use udfs_osta::Name;
 use udfs_reading::{Sink, WriteFault, write_all};

@@ -1,16 +1,12 @@
 //! The times of what is made: those that the volume has.
 
-ghost use Rattle.std.specs.Prelude.{◌≡◌, true, false, codes};
-ghost use Rattle.clap.specs.Matches.{found_of};
-ghost use Rattle.udfs_words.specs.Asking.{IsPicked};
-ghost use Rattle.udfs_extraction.specs.Timing.{IsGoodWithTimes};
+ghost use Rattle.udfs_extraction.specs.ByRequest.{IsGoodWithTimes};
 
 use crate::choosing::is_above;
-use crate::extract::Fate;
 use crate::node_files::{node_at, path_in};
+use crate::nodes::Fate;
 use crate::places::place_from;
 use crate::unnamed::{lost_path, push_lost_name};
-use clap::ArgMatches;
 use std::alloc::{AllocError, Global};
 use std::fmt::Write;
 use udfs_common::files::Files;
@@ -19,38 +15,31 @@ use udfs_file::Kind;
 use udfs_osta::Stamp;
 use udfs_overview::push_shown_path;
 use udfs_salvage::Listing;
+use udfs_times::Times;
 use udfs_walk::{Node, Unnamed};
-use udfs_words::words::TIMES;
 
-/// Whether the arguments ask that times are set.
-fn asked_times(words: &ArgMatches<'_>) -> bool
-    ensures { IsPicked (found_of words.now) (codes "times") true false result }
-{
-    words.get_flag(TIMES)
-}
-
-/// Has times set from now on where the arguments ask for it, by the zone of the machine's clock.
-pub fn keep_times<F: Files>(words: &ArgMatches<'_>, files: &F) -> Result<(), AllocError> {
-    if asked_times(words) {
-        files.times().keep(files.zone()?);
+/// The times of what is made: where they are asked for they are kept, by the zone of the machine's clock.
+pub fn times_for<F: Files>(asked: bool, files: &F) -> Result<Times, AllocError> {
+    let times = Times::new();
+    if asked {
+        times.keep(files.zone()?);
     }
-    Ok(())
+    Ok(times)
 }
 
-/// Whether all is good where this is: where times are to be set, one that could not be set is lacking too.
-pub fn told_good<F: Files>(good: bool, words: &ArgMatches<'_>, files: &F) -> bool
-    ensures { IsGoodWithTimes (found_of words.now) good result }
+/// Whether all is good where this is: where times are asked for, one that could not be set is lacking too.
+pub fn told_good(good: bool, asked: bool, times: &Times) -> bool
+    ensures { IsGoodWithTimes asked good result }
 {
-    let times = asked_times(words);
-    if times && files.times().are_lacking() {
+    if asked && times.are_lacking() {
         return false;
     }
     good
 }
 
 /// Notes that a time could not be set, and shows this line as a remark, unless memory ran out for it.
-fn miss<F: Files>(line: Result<String, AllocError>, files: &F) {
-    files.times().lack();
+fn miss<F: Files>(line: Result<String, AllocError>, times: &Times, files: &F) {
+    times.lack();
     if let Ok(line) = line {
         files.remark(line.as_str());
     }
@@ -82,25 +71,32 @@ fn of_lost<F: Files>(
 }
 
 /// Sets the time of what is at a path by a stamp, if times are kept and it gives a moment since 1970. Returns `false` where it could not be set, else `true`.
-fn set_time<F: Files>(stamp: Stamp, path: &str, files: &F) -> bool {
-    match files.times().moment(stamp) {
+fn set_time<F: Files>(stamp: Stamp, path: &str, times: &Times, files: &F) -> bool {
+    match times.moment(stamp) {
         Some(micros) => files.set_modified(path, micros).is_ok(),
         None => true,
     }
 }
 
 /// Sets the time of what was made for a node at a place in a folder.
-fn set_node_time<F: Files>(alloc: Global, node: &Node, folder: &str, place: &str, files: &F) {
+fn set_node_time<F: Files>(
+    alloc: Global,
+    node: &Node,
+    folder: &str,
+    place: &str,
+    times: &Times,
+    files: &F,
+) {
     let Some(stamp) = node.stamp else {
         return;
     };
     match path_in(alloc, folder, place) {
         Ok(path) => {
-            if !set_time(stamp, path.as_str(), files) {
-                miss(of_node(alloc, node, files), files);
+            if !set_time(stamp, path.as_str(), times, files) {
+                miss(of_node(alloc, node, files), times, files);
             }
         }
-        Err(AllocError) => files.times().lack(),
+        Err(AllocError) => times.lack(),
     }
 }
 
@@ -111,18 +107,19 @@ pub fn set_lost_time<F: Files>(
     entry: &Unnamed,
     fate: Fate,
     folder: &str,
+    times: &Times,
     files: &F,
 ) {
-    if fate != Fate::Written || !files.times().are_kept() {
+    if fate != Fate::Written || !times.are_kept() {
         return;
     }
     match lost_path(alloc, folder, two, entry) {
         Ok(path) => {
-            if !set_time(entry.stamp, path.as_str(), files) {
-                miss(of_lost(alloc, two, entry, files), files);
+            if !set_time(entry.stamp, path.as_str(), times, files) {
+                miss(of_lost(alloc, two, entry, files), times, files);
             }
         }
-        Err(AllocError) => files.times().lack(),
+        Err(AllocError) => times.lack(),
     }
 }
 
@@ -151,22 +148,23 @@ pub fn note_time<F: Files>(
     folder: &str,
     place: &str,
     made: &mut Vec<usize>,
+    times: &Times,
     files: &F,
 ) {
-    if !files.times().are_kept() {
+    if !times.are_kept() {
         return;
     }
     if fate == Fate::Written {
-        set_node_time(alloc, node, folder, place, files);
+        set_node_time(alloc, node, folder, place, times, files);
     }
     match is_folder_made(alloc, only, node, fate) {
         Ok(true) => {
             if made.push(index).is_err() {
-                files.times().lack();
+                times.lack();
             }
         }
         Ok(false) => {}
-        Err(AllocError) => files.times().lack(),
+        Err(AllocError) => times.lack(),
     }
 }
 
@@ -180,6 +178,7 @@ fn set_folder_time<F: Files>(
     short: bool,
     folder: &str,
     way: &mut Vec<usize>,
+    times: &Times,
     files: &F,
 ) -> usize {
     if index >= listing.nodes.len() {
@@ -192,12 +191,13 @@ fn set_folder_time<F: Files>(
                 node_at(listing, index),
                 folder,
                 place.as_str(),
+                times,
                 files,
             );
             index
         }
         Err(AllocError) => {
-            files.times().lack();
+            times.lack();
             way.clear();
             0
         }
@@ -212,17 +212,20 @@ pub fn set_folder_times<F: Files>(
     made: &[usize],
     short: bool,
     folder: &str,
+    times: &Times,
     files: &F,
 ) {
-    if !files.times().are_kept() {
+    if !times.are_kept() {
         return;
     }
     let mut way = Vec::new(alloc);
     let mut at = 0;
     for index in made {
-        at = set_folder_time(alloc, listing, at, *index, short, folder, &mut way, files);
+        at = set_folder_time(
+            alloc, listing, at, *index, short, folder, &mut way, times, files,
+        );
     }
     if let Some(root) = listing.nodes.first() {
-        set_node_time(alloc, root, folder, "", files);
+        set_node_time(alloc, root, folder, "", times, files);
     }
 }

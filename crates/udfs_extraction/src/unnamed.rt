@@ -1,6 +1,6 @@
 //! Lost files, which are written to a folder of their own: whole files with data that no name leads to.
 
-ghost use Rattle.std.specs.Prelude.{◌≡◌, ◌≢◌, ◌<◌, ◌⊎◌, ◌++◌, ℕ, Bool, false, true, List, [], Some, None, IfOk, IfErr, OnOk, OnErr, length, slice_get, string_bytes};
+ghost use Rattle.std.specs.Prelude.{◌≡◌, ◌≢◌, ◌<◌, ◌⊎◌, ◌++◌, ⊤, ℕ, Bool, false, true, List, [], Some, None, IfOk, IfErr, MatchOption, OnOk, OnErr, alloc_error, length, slice_get, string_bytes};
 ghost use Rattle.std.specs.Io.KnownBytes.{Appends};
 ghost use Rattle.udfs_file.specs.declared.cells.Cell.{Cell};
 ghost use Rattle.udfs_files.specs.Disk.{Same, SameBut, Goes, Fails, SinkFails};
@@ -16,20 +16,24 @@ ghost use Rattle.udfs_salvage.specs.Texts.{has_two, line};
 ghost use Rattle.udfs_salvage.specs.UnnamedExtraction.{HasUnnamedCellsBy, is_lost_file};
 ghost use Rattle.udfs_extraction.specs.Extracting.{IsFateOf, TellsLines, TellsOn, all_good};
 ghost use Rattle.udfs_common.specs.Keeping.{IsKept};
+ghost use Rattle.udfs_extraction.specs.ByRequest.{MakesLost};
 ghost use Rattle.udfs_extraction.specs.Refused.{LostStops};
-ghost use Rattle.udfs_extraction.specs.LostFiles.{EachLost, IsLostPut, PutsLost, SparesLost, lost_line, lost_lines, lost_name, lost_path};
+ghost use Rattle.udfs_extraction.specs.LostFiles.{EachLost, IsLostPutAt, PutsLost, SparesLost, lost_line, lost_lines, lost_name, lost_path};
 
-use crate::extract::{Deed, Fate, still_good};
 use crate::node_files::{finish_file, give_up, put_folder};
+use crate::nodes::{Deed, Fate, still_good};
 use crate::short_names::push_icb_number;
 use crate::spare::Spare;
 use crate::times::set_lost_time;
 use std::alloc::{AllocError, Global};
 use udfs_common::files::Files;
+use udfs_common::known::Known;
 use udfs_common::refusal::Refusal;
 use udfs_files::{Job, fill_by};
 use udfs_reading::{Sink, WriteFault, write_all};
+use udfs_remarks::looking::unnamed_in;
 use udfs_salvage::{ExtractError, Listing, Volume, has_two_partitions, is_lost_file, write_lost};
+use udfs_times::Times;
 use udfs_walk::Unnamed;
 
 /// Appends the name of the file of an entry: its logical block, with the partition reference in front where there are two partitions.
@@ -226,8 +230,8 @@ fn put_entry<F: Files>(
     requires index { index < length entries.now }
     requires entries { AreUnnamed listing.now entries.now }
     ensures put { IfOk result (λ fate. (u : Unnamed) → slice_get (listing_now listing.now).unnamed index ≡ Some u →
-        IsLostPut F.tells (Fails F.faults ⊎ SinkFails F.Output.stream) listing.now.table.now (listing_now listing.now) folder.now two (F.holds files.new) (F.moment files.new) (F.left_since files.new) u fate) }
-    ensures spares { SparesLost F.tells F.holds F.may_leave F.moment F.left_since folder.now files.old files.new }
+        IsLostPutAt F.Files F.Output.stream files.new listing.now.table.now (listing_now listing.now) folder.now two u fate) }
+    ensures spares { SparesLost F.Files folder.now files.old files.new }
 {
     let entry = entry_at(entries, index);
     if !is_lost_file(entry) {
@@ -254,14 +258,15 @@ fn put_entries<F: Files, O: Sink>(
     entries: &[Unnamed],
     two: bool,
     folder: &str,
+    times: &Times,
     files: &mut F,
     out: &mut O,
 ) -> Result<ToldLost, AllocError>
     requires { AreUnnamed listing.now entries.now }
-    ensures put { (heard : Bool) × (fates : List Fate) × EachLost (IsLostPut F.tells (Fails F.faults ⊎ SinkFails F.Output.stream) listing.now.table.now (listing_now listing.now) folder.now two (F.holds files.new) (F.moment files.new) (F.left_since files.new)) (listing_now listing.now).unnamed fates ×
+    ensures put { (heard : Bool) × (fates : List Fate) × EachLost (IsLostPutAt F.Files F.Output.stream files.new listing.now.table.now (listing_now listing.now) folder.now two) (listing_now listing.now).unnamed fates ×
         TellsLines heard (O.stream out.old) (O.stream out.new) (lost_lines two (listing_now listing.now).unnamed fates) ×
         IfOk result (λ told. (length fates ≡ length (listing_now listing.now).unnamed) × (told.heard ≡ heard) × (told.good ≡ all_good fates)) }
-    ensures spares { SparesLost F.tells F.holds F.may_leave F.moment F.left_since folder.now files.old files.new }
+    ensures spares { SparesLost F.Files folder.now files.old files.new }
 {
     let spare = Spare::new();
     let mut good = true;
@@ -271,7 +276,7 @@ fn put_entries<F: Files, O: Sink>(
         let entry = entry_at(entries, index);
         good = still_good(good, fate);
         heard = tell_lost(alloc, heard, fate, two, entry, out)?;
-        set_lost_time(alloc, two, entry, fate, folder, files);
+        set_lost_time(alloc, two, entry, fate, folder, times, files);
     }
     Ok(ToldLost { good, heard })
 }
@@ -289,26 +294,26 @@ fn make_if_open<F: Files>(volume: &Volume, folder: &str, files: &mut F) -> bool
 }
 
 /// Makes a folder where the volume opens, and writes each lost file of the report to it, named by the number of its block. Returns whether none failed.
-pub fn put_lost<F: Files, O: Sink>(
+fn put_lost<F: Files, O: Sink>(
     alloc: Global,
     listing: &Listing<'_>,
     entries: &[Unnamed],
     folder: &str,
+    times: &Times,
     files: &mut F,
     out: &mut O,
 ) -> Result<bool, Refusal>
     requires { AreUnnamed listing.now entries.now }
-    ensures put { IfOk result (λ good. PutsLost (IsLostPut F.tells (Fails F.faults ⊎ SinkFails F.Output.stream) listing.now.table.now (listing_now listing.now) folder.now (has_two (volume_now listing.now.volume)) (F.holds files.new) (F.moment files.new) (F.left_since files.new))
+    ensures put { IfOk result (λ good. PutsLost (IsLostPutAt F.Files F.Output.stream files.new listing.now.table.now (listing_now listing.now) folder.now (has_two (volume_now listing.now.volume)))
         (has_two (volume_now listing.now.volume)) (listing_now listing.now).unnamed (O.stream out.old) (O.stream out.new) good) }
     ensures why { IfErr result (LostStops F.Files F.Output.stream folder.now files.new (O.stream out.old) (O.stream out.new) listing.now.table.now (listing_now listing.now)) }
-    ensures spares { SparesLost F.tells F.holds F.may_leave F.moment F.left_since folder.now files.old files.new }
-    ensures no_node { IfErr result (λ refusal. (i : ℕ) → refusal ≢ Refusal.NoNode i) }
+    ensures spares { SparesLost F.Files folder.now files.old files.new }
 {
     if !make_if_open(&listing.volume, folder, files) {
         return Err(Refusal::LostFolder);
     }
     let two = has_two_partitions(&listing.volume);
-    let told = match put_entries(alloc, listing, entries, two, folder, files, out) {
+    let told = match put_entries(alloc, listing, entries, two, folder, times, files, out) {
         Ok(told) => told,
         Err(AllocError) => return Err(Refusal::Memory(AllocError)),
     };
@@ -316,4 +321,40 @@ pub fn put_lost<F: Files, O: Sink>(
         return Err(Refusal::Output);
     }
     Ok(told.good)
+}
+
+/// The entries that no name leads to, where lost files are asked for; and else none, though there may be some.
+pub fn lost_entries(
+    alloc: Global,
+    listing: &Listing<'_>,
+    lost: Option<&str>,
+) -> Result<Vec<Unnamed>, Refusal>
+    ensures entries { IfOk result (λ entries. MatchOption lost.entry ⊤ (λ folder. AreUnnamed listing.now entries.items)) }
+    ensures refused { IfErr result (λ refusal. refusal ≡ Refusal.Memory alloc_error) }
+{
+    match lost {
+        None => Ok(Vec::new(alloc)),
+        Some(_) => unnamed_in(alloc, listing),
+    }
+}
+
+/// Writes the lost files of a report into a folder of their own, where they are asked for, and returns whether none failed.
+pub fn add_lost<F: Files, O: Sink>(
+    alloc: Global,
+    listing: &Listing<'_>,
+    entries: &[Unnamed],
+    lost: Option<&str>,
+    times: &Times,
+    files: &mut F,
+    out: &mut O,
+) -> Result<bool, Refusal>
+    requires { MatchOption lost ⊤ (λ folder. AreUnnamed listing.now entries.now) }
+    ensures made { IfOk result (MakesLost ⟦<F as Known>⟧.reach O.stream lost.entry files.old files.new out.old out.new listing.now.table.now (listing_now listing.now)) }
+    ensures why { IfErr result (λ refusal. MatchOption lost.entry ⊥ (λ folder. LostStops F.Files F.Output.stream folder.now files.new (O.stream out.old) (O.stream out.new) listing.now.table.now (listing_now listing.now) refusal)) }
+    ensures spares { MatchOption lost.entry (files.new ≡ files.old) (λ folder. SparesLost F.Files folder.now files.old files.new) }
+{
+    match lost {
+        None => Ok(true),
+        Some(folder) => put_lost(alloc, listing, entries, folder, times, files, out),
+    }
 }

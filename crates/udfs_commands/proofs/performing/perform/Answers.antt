@@ -68,3 +68,9 @@ returns-in-Page-clause-left g c = rw c.in-Page.is c.page.ensures.puts.spares
 
 pub returns-in-Page-clause-failed : goal.returns-in-Page-clause-failed
 returns-in-Page-clause-failed g c = rw c.in-Page.is c.page.ensures.puts.failed
+
+pub returns-in-Extract-clause-done : goal.returns-in-Extract-clause-done
+returns-in-Extract-clause-done g c = rw c.in-Extract.is c.extract.ensures.done
+
+pub returns-in-Extract-clause-left : goal.returns-in-Extract-clause-left
+returns-in-Extract-clause-left g c = rw c.in-Extract.is c.extract.ensures.left

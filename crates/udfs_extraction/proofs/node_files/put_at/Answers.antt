@@ -5,8 +5,8 @@ use Rattle.udfs_salvage.specs.Found.{volume_now}
 use Rattle.udfs_salvage.specs.Listings.{full_in}
 use Rattle.udfs_salvage.specs.Extraction.{is_offered, filled, fill_byte}
 use Rattle.udfs_extraction.specs.Extracting.{IsFateOf, IsSafe, deed, is_good}
-use Rattle.udfs_extraction.specs.declared.extract.Deed.TheVariants.{File, Folder, Skip}
-use Rattle.udfs_extraction.specs.declared.extract.Fate.TheVariants.{Written, Skipped}
+use Rattle.udfs_extraction.specs.declared.nodes.Deed.TheVariants.{File, Folder, Skip}
+use Rattle.udfs_extraction.specs.declared.nodes.Fate.TheVariants.{Written, Skipped}
 use Rattle.udfs_extraction.proofs.ListedLemmas.{same_deed}
 use Rattle.udfs_extraction.proofs.PutNodes.{offered, safe, spares_at, stay_by}
 use Rattle.udfs_extraction.proofs.node_files.put_at.Goals as goal

@@ -7,7 +7,7 @@ use Rattle.udfs_salvage.specs.Found.{volume_now}
 use Rattle.udfs_salvage.specs.Listings.{full_entry_in, listing_now}
 use Rattle.udfs_extraction.specs.Extracting.{TellsLines, TellsOn, is_good}
 use Rattle.udfs_extraction.specs.LostFiles.{IsLostPut, lost_line, lost_lines}
-use Rattle.udfs_extraction.specs.declared.extract.Fate.{Fate}
+use Rattle.udfs_extraction.specs.declared.nodes.Fate.{Fate}
 use Rattle.udfs_extraction.proofs.ListedLemmas.{full_at, same_line}
 use Rattle.udfs_extraction.proofs.LostLemmas.{each_lost_map, each_lost_more, lost_lines_more, lost_on, lost_still, nothing_lost}
 use Rattle.udfs_extraction.proofs.PutNodes.{good_more, tells_on}
@@ -16,14 +16,14 @@ use Rattle.udfs_extraction.proofs.unnamed.put_entries.Goals as goal
 pub loop-index-init : goal.loop-index-init
 loop-index-init g c = record {
   put = ([], tt, record { given = search rules; kept = refl }, refl, refl);
-  spares = nothing_lost _ _ _ _ _ c.args.folder.now c.args.files.now;
+  spares = nothing_lost _ c.args.folder.now c.args.files.now;
 }
 
 pub returns-in_err-fate-clause-spares : goal.returns-in_err-fate-clause-spares
-returns-in_err-fate-clause-spares g c = lost_on _ _ _ _ _ c.args.folder.now _ _ _ c.loop-index.invariant.spares c.put_entry.ensures.spares
+returns-in_err-fate-clause-spares g c = lost_on _ c.args.folder.now _ _ _ c.loop-index.invariant.spares c.put_entry.ensures.spares
 
 pub returns-in_err-heard-clause-spares : goal.returns-in_err-heard-clause-spares
-returns-in_err-heard-clause-spares g c = lost_on _ _ _ _ _ c.args.folder.now _ _ _ c.loop-index.invariant.spares c.put_entry.ensures.spares
+returns-in_err-heard-clause-spares g c = lost_on _ c.args.folder.now _ _ _ c.loop-index.invariant.spares c.put_entry.ensures.spares
 
 pub returns-in_err-fate-clause-put : goal.returns-in_err-fate-clause-put
 returns-in_err-fate-clause-put g c =
@@ -31,7 +31,7 @@ returns-in_err-fate-clause-put g c =
     let put = c.loop-index.invariant.put in (
       c.loop-index.heard,
       put.0,
-      each_lost_map _ _ (λ w f. lost_still F.tells F.holds F.may_leave F.moment F.left_since (Fails F.faults ⊎ SinkFails g.F.Output.Sink.stream) c.args.listing.now.table.now (listing_now c.args.listing.now) c.args.folder.now c.args.two c.loop-index.files c.put_entry.new.files (g.met.F.Files.counts_now c.loop-index.files) c.put_entry.ensures.spares w f) _ put.0 put.1,
+      each_lost_map _ _ (λ w f. lost_still F (Fails F.faults ⊎ SinkFails g.F.Output.Sink.stream) c.args.listing.now.table.now (listing_now c.args.listing.now) c.args.folder.now c.args.two c.loop-index.files c.put_entry.new.files (g.met.F.Files.counts_now c.loop-index.files) c.put_entry.ensures.spares w f) _ put.0 put.1,
       put.2,
       search rules,
     )
@@ -43,7 +43,7 @@ returns-in_err-heard-clause-put g c =
     let put = c.loop-index.invariant.put in (
       c.loop-index.heard,
       put.0,
-      each_lost_map _ _ (λ w f. lost_still F.tells F.holds F.may_leave F.moment F.left_since (Fails F.faults ⊎ SinkFails g.F.Output.Sink.stream) c.args.listing.now.table.now (listing_now c.args.listing.now) c.args.folder.now c.args.two c.loop-index.files c.put_entry.new.files (g.met.F.Files.counts_now c.loop-index.files) c.put_entry.ensures.spares w f) _ put.0 put.1,
+      each_lost_map _ _ (λ w f. lost_still F (Fails F.faults ⊎ SinkFails g.F.Output.Sink.stream) c.args.listing.now.table.now (listing_now c.args.listing.now) c.args.folder.now c.args.two c.loop-index.files c.put_entry.new.files (g.met.F.Files.counts_now c.loop-index.files) c.put_entry.ensures.spares w f) _ put.0 put.1,
       subst (λ o. TellsLines c.loop-index.heard (S.stream c.args.out.now) (S.stream o) (lost_lines c.args.two (listing_now c.args.listing.now).unnamed put.0)) (sym c.in_err-heard.ensures.memory) put.2,
       search rules,
     )
@@ -70,7 +70,7 @@ loop-index-preserved g c =
       put = (
         fates ++ fate ∷ [],
         each_lost_more P us fates u fate at
-            (each_lost_map _ P (λ w f. lost_still F.tells F.holds F.may_leave F.moment F.left_since (Fails F.faults ⊎ SinkFails g.F.Output.Sink.stream) c.args.listing.now.table.now (listing_now c.args.listing.now) c.args.folder.now two c.loop-index.files c.put_entry.new.files (g.met.F.Files.counts_now c.loop-index.files) c.put_entry.ensures.spares w f) us fates inv.put.1)
+            (each_lost_map _ P (λ w f. lost_still F (Fails F.faults ⊎ SinkFails g.F.Output.Sink.stream) c.args.listing.now.table.now (listing_now c.args.listing.now) c.args.folder.now two c.loop-index.files c.put_entry.new.files (g.met.F.Files.counts_now c.loop-index.files) c.put_entry.ensures.spares w f) us fates inv.put.1)
             (c.in_ok-fate.ensures.put u there),
         subst (λ t. TellsLines c.in_ok-heard.heard (S.stream c.args.out.now) (S.stream c.tell_lost.new.out) t) (sym (lost_lines_more two us fates u fate at))
             (tells_on c.loop-index.heard c.in_ok-heard.heard (S.stream c.args.out.now) (S.stream c.loop-index.out) (S.stream c.tell_lost.new.out) (lost_lines two us fates) (lost_line two fate u) inv.put.2
@@ -78,7 +78,7 @@ loop-index-preserved g c =
         (let more = length-append fates (fate ∷ []) in omega (arith, count, more)),
         c.still_good-good.ensures ∙ ap (λ b. if is_good fate then b else false) inv.put.4 ∙ sym (good_more fates fate),
       );
-      spares = lost_on _ _ _ _ _ c.args.folder.now _ _ _ inv.spares c.put_entry.ensures.spares;
+      spares = lost_on _ c.args.folder.now _ _ _ inv.spares c.put_entry.ensures.spares;
     }
 
 pub returns-clause-put : goal.returns-clause-put

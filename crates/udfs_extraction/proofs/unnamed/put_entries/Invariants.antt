@@ -4,7 +4,7 @@ use Rattle.udfs_files.specs.Disk.{Fails, SinkFails}
 use Rattle.udfs_salvage.specs.Listings.{listing_now}
 use Rattle.udfs_extraction.specs.Extracting.{TellsLines, all_good}
 use Rattle.udfs_extraction.specs.LostFiles.{EachLost, IsLostPut, SparesLost, lost_lines}
-use Rattle.udfs_extraction.specs.declared.extract.Fate.{Fate}
+use Rattle.udfs_extraction.specs.declared.nodes.Fate.{Fate}
 use Rattle.udfs_extraction.proofs.unnamed.put_entries.Given as goal
 
 abbrev pub invariant-loop-index : goal.invariant-loop-index
@@ -14,5 +14,5 @@ invariant-loop-index g l =
     record {
       put : (fates : List Fate) × EachLost (IsLostPut F.tells (Fails F.faults ⊎ SinkFails g.F.Output.Sink.stream) l.listing.table.now (listing_now l.listing) l.folder l.two (F.holds l.files) (F.moment l.files) (F.left_since l.files)) (listing_now l.listing).unnamed fates ×
           TellsLines l.heard (S.stream l.initial.out) (S.stream l.out) (lost_lines l.two (listing_now l.listing).unnamed fates) × (length fates ≡ l.index) × (l.good ≡ all_good fates);
-      spares : SparesLost F.tells F.holds F.may_leave F.moment F.left_since l.folder l.initial.files l.files;
+      spares : SparesLost F l.folder l.initial.files l.files;
     }

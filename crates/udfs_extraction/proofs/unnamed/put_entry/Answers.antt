@@ -7,8 +7,8 @@ use Rattle.udfs_salvage.specs.Listings.{full_entry_in, listing_now}
 use Rattle.udfs_salvage.specs.UnnamedExtraction.{is_lost_file}
 use Rattle.udfs_extraction.specs.Extracting.{IsFateOf, IsSafe, is_good}
 use Rattle.udfs_extraction.specs.LostFiles.{lost_name, lost_path}
-use Rattle.udfs_extraction.specs.declared.extract.Deed.TheVariants.{File, Skip}
-use Rattle.udfs_extraction.specs.declared.extract.Fate.TheVariants.{Written, Skipped}
+use Rattle.udfs_extraction.specs.declared.nodes.Deed.TheVariants.{File, Skip}
+use Rattle.udfs_extraction.specs.declared.nodes.Fate.TheVariants.{Written, Skipped}
 use Rattle.udfs_extraction.proofs.ListedLemmas.{full_at, same_lost}
 use Rattle.udfs_extraction.proofs.LostLemmas.{lost_at, nothing_lost}
 use Rattle.udfs_extraction.proofs.PutNodes.{safe}
@@ -30,15 +30,15 @@ returns-then-not-is_lost_file-clause-put g c u at =
     }
 
 pub returns-then-not-is_lost_file-clause-spares : goal.returns-then-not-is_lost_file-clause-spares
-returns-then-not-is_lost_file-clause-spares g c = nothing_lost _ _ _ _ _ _ _
+returns-then-not-is_lost_file-clause-spares g c = nothing_lost _ _ _
 
 pub returns-in_err-path-clause-spares : goal.returns-in_err-path-clause-spares
-returns-in_err-path-clause-spares g c = nothing_lost _ _ _ _ _ _ _
+returns-in_err-path-clause-spares g c = nothing_lost _ _ _
 
 pub returns-in_err-fate-clause-spares : goal.returns-in_err-fate-clause-spares
 returns-in_err-fate-clause-spares g c =
     let w = c.write_lost_file.ensures in
-    lost_at _ _ _ _ _ c.args.folder.now c.as_str.result.now _ _ (lost_name c.args.two c.entry_at-entry.result.now, search rules) w.others w.there w.crash w.stays
+    lost_at _ c.args.folder.now c.as_str.result.now _ _ (lost_name c.args.two c.entry_at-entry.result.now, search rules) w.others w.there w.crash w.stays
 
 pub returns-clause-put : goal.returns-clause-put
 returns-clause-put g c u at =
@@ -67,4 +67,4 @@ returns-clause-put g c u at =
 pub returns-clause-spares : goal.returns-clause-spares
 returns-clause-spares g c =
     let w = c.write_lost_file.ensures in
-    lost_at _ _ _ _ _ c.args.folder.now c.as_str.result.now _ _ (lost_name c.args.two c.entry_at-entry.result.now, search rules) w.others w.there w.crash w.stays
+    lost_at _ c.args.folder.now c.as_str.result.now _ _ (lost_name c.args.two c.entry_at-entry.result.now, search rules) w.others w.there w.crash w.stays

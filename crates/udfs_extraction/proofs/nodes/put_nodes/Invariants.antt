@@ -5,8 +5,8 @@ use Rattle.udfs_salvage.specs.Listings.{listing_now}
 use Rattle.udfs_extraction.specs.Extracting.{IsDone, IsElsewhere, IsIn, IsPut, Puts, Spares, Stay, all_good}
 use Rattle.udfs_extraction.specs.Manifests.{IsManifest, notes_text}
 use Rattle.udfs_extraction.specs.ShortNames.{IsWay, own_name}
-use Rattle.udfs_extraction.specs.declared.extract.Fate.{Fate}
-use Rattle.udfs_extraction.proofs.extract.put_nodes.Given as goal
+use Rattle.udfs_extraction.specs.declared.nodes.Fate.{Fate}
+use Rattle.udfs_extraction.proofs.nodes.put_nodes.Given as goal
 
 abbrev pub invariant-loop-index : goal.invariant-loop-index
 invariant-loop-index g l =

@@ -7,12 +7,12 @@ use Rattle.udfs_lattice.specs.Tables.{state_of}
 use Rattle.udfs_salvage.specs.Found.{volume_now}
 use Rattle.udfs_salvage.specs.Listings.{full_in, listing_now}
 use Rattle.udfs_extraction.specs.Extracting.{IsDone, IsPut, TellsLines, TellsOn, fate_line, fate_lines, is_good}
-use Rattle.udfs_extraction.specs.declared.extract.Fate.{Fate}
+use Rattle.udfs_extraction.specs.declared.nodes.Fate.{Fate}
 use Rattle.udfs_extraction.specs.Manifests.{AreLines, IsLine, IsNoted, notes_of, notes_text}
 use Rattle.udfs_extraction.specs.ShortNames.{IsWay, own_name, placed}
 use Rattle.udfs_extraction.proofs.ManifestLemmas.{line_more, lines_still, noted_line, notes_more}
 use Rattle.udfs_extraction.proofs.PutNodes.{all_behind, done_still, each_few, each_map, each_more, good_more, lines_more, one_on, spares_nothing, spares_on, tells_on}
-use Rattle.udfs_extraction.proofs.extract.put_nodes.Goals as goal
+use Rattle.udfs_extraction.proofs.nodes.put_nodes.Goals as goal
 
 pub loop-index-init : goal.loop-index-init
 loop-index-init g c =

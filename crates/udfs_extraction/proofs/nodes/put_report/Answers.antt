@@ -11,7 +11,7 @@ use Rattle.udfs_extraction.proofs.ListedLemmas.{same_chosen, same_named}
 use Rattle.udfs_extraction.proofs.ManifestLemmas.{by_open, puts_with}
 use Rattle.udfs_extraction.proofs.PutNodes.{spares_all, spares_on}
 use Rattle.udfs_extraction.proofs.RefusedLemmas.{unnamed_before}
-use Rattle.udfs_extraction.proofs.extract.put_report.Goals as goal
+use Rattle.udfs_extraction.proofs.nodes.put_report.Goals as goal
 
 pub returns-in-Err-put_nodes-clause-crash : goal.returns-in-Err-put_nodes-clause-crash
 returns-in-Err-put_nodes-clause-crash g c told =
@@ -50,13 +50,13 @@ pub returns-in-Err-clause-why : goal.returns-in-Err-clause-why
 returns-in-Err-clause-why g c =
     let l = c.args.listing.now in
     let why = rw c.deref.ensures.value at c.in-Err.ensures.why in
-    by_open _ _ c.in-Open.is _ _ (inl (unnamed_before _ (state_of l.table.now) (volume_now l.volume) _ l.nodes.items _ _ why))
+    by_open _ _ c.in-Open.is _ _ (inl (unnamed_before _ (state_of l.table.now) (volume_now l.volume) _ l.nodes.items _ _ _ why))
 
 pub returns-in-Err-chosen_are_whole-clause-why : goal.returns-in-Err-chosen_are_whole-clause-why
-returns-in-Err-chosen_are_whole-clause-why g c = by_open _ _ c.in-Open.is _ _ (inl (refl, inl (search rules)))
+returns-in-Err-chosen_are_whole-clause-why g c = by_open _ _ c.in-Open.is _ _ (inl (refl, inl (refl, inl (search rules))))
 
 pub returns-then-ne-clause-why : goal.returns-then-ne-clause-why
-returns-then-ne-clause-why g c = by_open _ _ c.in-Open.is _ _ (inl (refl, inr (inr (refl, c.put_folder.ensures.cause (search rules)))))
+returns-then-ne-clause-why g c = by_open _ _ c.in-Open.is _ _ (inl (refl, inr (refl, c.put_folder.ensures.cause (search rules))))
 
 pub returns-in-Err-put_nodes-clause-why : goal.returns-in-Err-put_nodes-clause-why
 returns-in-Err-put_nodes-clause-why g c =

@@ -1,0 +1,114 @@
+-- What `extract` makes and reports by its request `r`. `reach` is what is known of the files, and `stream` what an output has taken.
+--     fill_of fill                   what is written of torn files
+--     others r                       paths that may not lead to the folder for lost files
+--     IsPlace reach old r place      where the manifest goes
+--     HaveFreePlaces reach old r     the manifest takes the place of nothing but a manifest, and the folder for lost files is not there
+--     IsNodePut                      what the fate of a node says of its file
+--     PutsManifest                   the manifest is put, if one is asked for
+--     MakesNodes                     the nodes are made and reported, and then their manifest is put
+--     MakesLost                      the lost files are made and reported, if they are asked for
+--     Makes                          the nodes, and then the lost files
+--     IsGoodWithTimes                whether nothing is lacking, times among it
+--     IsExtracted                    all of this for the report of the volume
+use Rattle.std.specs.Prelude.{◌≡◌, ⊤, ℕ, Bool, true, false, List, [], ◌∷◌, ◌&&◌, Option, Some, None, MatchOption}
+use Rattle.std.specs.Borrow.{Bor}
+use Rattle.udfs_lattice.specs.Tables.{Table, state_of}
+use Rattle.udfs_reading.specs.Device.{Stream}
+use Rattle.udfs_walk.specs.NodeFields.{NodeFields}
+use Rattle.udfs_salvage.specs.Reports.{Report, IsReportBy}
+use Rattle.udfs_salvage.specs.Texts.{has_two}
+use Rattle.udfs_salvage.specs.declared.extraction.Fill.{Fill}
+use Rattle.udfs_salvage.specs.declared.extraction.Fill.TheVariants.{Refuse, Byte}
+use Rattle.udfs_words.specs.Requests.{texts}
+use Rattle.udfs_words.specs.declared.request.ExtractRequest.{ExtractRequest}
+use Rattle.udfs_common.specs.Reach.{Reach}
+use Rattle.udfs_common.specs.Volumes.{OfVolume}
+use Rattle.udfs_extraction.specs.Extracting.{IsElsewhere, IsPutAt, PutsBy, PutsNone}
+use Rattle.udfs_extraction.specs.LostFiles.{IsLostPutAt, IsNewFolder, PutsLost, SparesLost}
+use Rattle.udfs_extraction.specs.Manifests.{IsFreeManifest, IsManifest, IsPutLast, PutsListed}
+use Rattle.udfs_extraction.specs.ShortNames.{own_name}
+use Rattle.udfs_extraction.specs.declared.nodes.Fate.{Fate}
+
+-- zeros in the holes of a torn file, where it is to be filled
+abbrev pub fill_of : Bool → Fill
+fill_of true = Byte 0
+fill_of false = Refuse
+
+-- ---- where they go
+
+-- the path that is asked for, if one is
+abbrev some_path : Option (Bor (List ℕ)) → List (List ℕ)
+some_path None = []
+some_path (Some path) = path.now ∷ []
+
+-- the folder of the nodes, and the manifest
+abbrev pub others : ExtractRequest → List (List ℕ)
+others r = r.folder.now ∷ some_path r.manifest
+
+module _ {F I M S W : Type 0} (reach : Reach F I M S W) (old : F) (r : ExtractRequest) where
+  -- where its path leads, if a manifest is asked for
+  abbrev pub IsPlace : Option (List ℕ) → Type 0
+  IsPlace place = MatchOption r.manifest (place ≡ None) (λ path. (there : List ℕ) × (place ≡ Some there) × (reach.files.tells → there ≡ reach.files.real old path.now))
+
+  -- where it is known what files hold: it takes the place of no file but a manifest, and never that of an input, nor of a file that is written
+  abbrev pub IsManifestFree : Type 0
+  IsManifestFree = MatchOption r.manifest ⊤ (λ path. reach.files.tells → IsFreeManifest (reach.files.holds old) (reach.files.real old) (texts r.volume.inputs.files.items) (texts r.volume.inputs.parts.items) r.folder.now path.now)
+
+  -- where it is known what files hold: nothing is where the folder for lost files is to be, and the other paths do not lead there
+  abbrev pub IsLostFree : Type 0
+  IsLostFree = MatchOption r.lost ⊤ (λ path. reach.files.tells → IsNewFolder (reach.files.holds old) (reach.files.real old) (others r) path.now)
+
+  -- both
+  abbrev pub HaveFreePlaces : Type 0
+  HaveFreePlaces = IsManifestFree × IsLostFree
+
+-- ---- what is made
+
+module _ {F I M S W : Type 0} (reach : Reach F I M S W) where
+  -- what the fate of a node says of its file at some moment
+  abbrev pub IsNodePut : ExtractRequest → F → Table → Report → ℕ → NodeFields → Fate → Type 0
+  IsNodePut r at table report = IsPutAt reach.files reach.output at table report (fill_of r.fill) r.short_names r.folder.now
+
+  -- the manifest of the nodes with these fates, as their files are at moment `one`, is put at its place; or none is asked for
+  abbrev pub PutsManifest : ExtractRequest → Option (List ℕ) → F → F → Report → List Fate → Type 0
+  PutsManifest r place one two report fates = MatchOption place (two ≡ one)
+      (λ there. (text : List ℕ) × (reach.files.tells → IsManifest (reach.files.holds one) r.folder.now r.short_names report fates text × IsPutLast reach.files there one two text))
+
+-- At moment `one` the nodes that are asked for are made and reported, and any other is passed over; then their manifest is put. Of a volume that does not open there is none of this. No path
+-- has changed by then but those of nodes that are asked for and of which a file is to be written
+pub record MakesNodes {F I M S W : Type 0} (reach : Reach F I M S W) (r : ExtractRequest) (place : Option (List ℕ)) (old one two : F) (before after : Stream) (table : Table) (report : Report) (good : Bool) : Type 0 where
+  pub puts : PutsBy report.volume
+      (PutsListed (texts r.only.items) (own_name r.short_names report) (IsNodePut reach r one table report) (PutsManifest reach r place one two report) report.nodes before after good)
+      (PutsNone old one report.volume before after good × (two ≡ one))
+  pub elsewhere : (q : List ℕ) → IsElsewhere (texts r.only.items) (fill_of r.fill) r.short_names report r.folder.now q → reach.files.holds one q ≡ reach.files.holds old q
+
+-- the lost files are made and reported, and nothing outside of their folder changes; or they are not asked for
+abbrev pub MakesLost : {F I M S W O : Type 0} → Reach F I M S W → (O → Stream) → Option (Bor (List ℕ)) → F → F → O → O → Table → Report → Bool → Type 0
+MakesLost reach stream lost two new between after table report good = MatchOption lost ((new ≡ two) × (after ≡ between) × (good ≡ true))
+    (λ folder. PutsLost (IsLostPutAt reach.files reach.output new table report folder.now (has_two report.volume))
+    (has_two report.volume) report.unnamed (stream between) (stream after) good × SparesLost reach.files folder.now two new)
+
+-- the nodes and their manifest, and then the lost files; it is good where both are
+pub record Makes {F I M S W O : Type 0} (reach : Reach F I M S W) (stream : O → Stream) (r : ExtractRequest) (place : Option (List ℕ)) (old new : F) (before after : O) (table : Table) (report : Report) (good : Bool) : Type 0 where
+  pub one : F
+  pub two : F
+  pub between : O
+  pub nodes_good : Bool
+  pub lost_good : Bool
+  pub nodes : MakesNodes reach r place old one two (stream before) (stream between) table report nodes_good
+  pub lost : MakesLost reach stream r.lost two new between after table report lost_good
+  pub says : good ≡ (nodes_good && lost_good)
+
+-- without times `all` is `good`; with them it is true only where `good` is, and may be false for a time that could not be set
+pub record IsGoodWithTimes (times good all : Bool) : Type 0 where
+  pub untimed : times ≡ false → all ≡ good
+  pub never_more : all ≡ true → good ≡ true
+
+-- the report of the volume was made, at places where nothing is that is to stay
+pub record IsExtracted {F I M S W O : Type 0} (reach : Reach F I M S W) (stream : O → Stream) (r : ExtractRequest) (old new : F) (before after : O) (all : Bool) : Type 0 where
+  pub free : HaveFreePlaces reach old r
+  pub place : Option (List ℕ)
+  pub is_place : IsPlace reach old r place
+  pub good : Bool
+  pub of : OfVolume reach old r.volume (λ last table. (report : Report) × IsReportBy r.volume.profile (state_of table) last report × Makes reach stream r place old new before after table report good)
+  pub says : IsGoodWithTimes r.times good all

@@ -1,0 +1,265 @@
+//! The files and folders of a volume, written into a new folder.
+
+ghost use Rattle.std.specs.Prelude.{◌≡◌, ◌<◌, ◌⊎◌, ℕ, Bool, true, false, ◌&&◌, List, Some, IfOk, IfErr, length, drop, None, Option, map, option_map, if◌then◌else◌};
+ghost use Rattle.udfs_files.specs.Disk.{Goes, Fails, SinkFails};
+ghost use Rattle.udfs_salvage.specs.Listings.{listing_now};
+ghost use Rattle.udfs_words.specs.Requests.{texts};
+ghost use Rattle.udfs_extraction.specs.ByRequest.{IsNodePut, fill_of};
+ghost use Rattle.udfs_extraction.specs.Extracting.{IsDone, IsElsewhere, IsIn, IsPutAt, Puts, Spares, SparesNodes, Stay, all_good, is_good};
+ghost use Rattle.udfs_extraction.specs.Manifests.{IsManifest, PutsNoted, notes_text};
+ghost use Rattle.udfs_extraction.specs.ShortNames.{own_name};
+ghost use Rattle.udfs_extraction.specs.Refused.{NodesStop};
+
+use crate::choosing::{all_are_nodes, chosen_are_whole};
+use crate::fate_remarks::remark_on_fate;
+use crate::manifest::{Noted, note};
+use crate::node_files::{node_at, put_chosen, put_folder};
+use crate::places::place_of;
+use crate::spare::Spare;
+use crate::telling::tell;
+use crate::times::{note_time, set_folder_times};
+use std::alloc::{AllocError, Global};
+use udfs_common::files::Files;
+use udfs_common::known::Known;
+use udfs_common::refusal::Refusal;
+use udfs_reading::Sink;
+use udfs_remarks::no_reports::refused_run;
+use udfs_remarks::remarks::{remark_on_left_out, remark_on_listing};
+use udfs_salvage::{Fill, Listing, Volume, write_volume_line};
+use udfs_times::Times;
+use udfs_words::request::ExtractRequest;
+
+/// What is done with a node.
+#[derive(Clone, Copy, PartialEq, Eq)]
+pub enum Deed {
+    /// A folder is made.
+    Folder,
+    /// A file is written.
+    File,
+    /// It is passed over.
+    Skip,
+}
+
+/// What became of a node.
+#[derive(Clone, Copy, PartialEq, Eq)]
+pub enum Fate {
+    /// Its folder was made.
+    Made,
+    /// Its file was written, and is on the disk, with its name.
+    Written,
+    /// Its folder or file could not be made or written. What was begun of a file is removed.
+    Failed,
+    /// The same, but what was begun of its file could not be removed.
+    Left,
+    /// Nothing is made for it.
+    Skipped,
+    /// It is not asked for.
+    Passed,
+}
+
+/// What became of a node, and the digest of its file where that is wanted and the file was written.
+#[derive(Clone, Copy)]
+pub struct Done {
+    /// What became of it.
+    pub fate: Fate,
+    /// The digest of the bytes that were written.
+    pub digest: Option<[u8; 32]>,
+}
+
+/// What became of the nodes of a volume.
+#[derive(Drop)]
+struct Told {
+    /// Whether no file and no folder failed.
+    good: bool,
+    /// Whether the output took all lines.
+    heard: bool,
+    /// The files that were written, with their digests, where these are wanted.
+    manifest: Vec<Noted>,
+}
+
+/// Whether nothing failed so far, and neither did this.
+pub fn still_good(good: bool, fate: Fate) -> bool
+    ensures { result ≡ (if is_good fate then good else false) }
+{
+    match fate {
+        Fate::Made | Fate::Written | Fate::Skipped | Fate::Passed => good,
+        Fate::Failed | Fate::Left => false,
+    }
+}
+
+/// Goes through the nodes after the root, in order. Where the output fails, it goes on, but prints no more.
+fn put_nodes<F: Files, O: Sink>(
+    alloc: Global,
+    listing: &Listing<'_>,
+    only: &[&str],
+    fill: Fill,
+    short: bool,
+    digest: bool,
+    folder: &str,
+    times: &Times,
+    files: &mut F,
+    out: &mut O,
+) -> Result<Told, AllocError>
+    ensures put { (heard : Bool) × (fates : List Fate) × Puts (own_name short (listing_now listing.now)) (IsDone (texts only.now)
+        (IsPutAt F.Files F.Output.stream files.new listing.now.table.now (listing_now listing.now) fill short folder.now))
+        (listing_now listing.now).nodes (O.stream out.old) (O.stream out.new) heard fates ×
+        IfOk result (λ told. (length fates ≡ length (drop 1 (listing_now listing.now).nodes)) × (told.heard ≡ heard) × (told.good ≡ all_good fates) ×
+        (digest ≡ true → F.tells → IsManifest (F.holds files.new) folder.now short (listing_now listing.now) fates (notes_text short (listing_now listing.now) told.manifest.items))) }
+    ensures stays { F.tells → Stay (F.holds files.old) (F.holds files.new) }
+    ensures outside { (q : List ℕ) → (¬ IsIn folder.now q) → F.holds files.new q ≡ F.holds files.old q }
+    ensures elsewhere { (q : List ℕ) → IsElsewhere (texts only.now) fill short (listing_now listing.now) folder.now q → F.holds files.new q ≡ F.holds files.old q }
+    ensures crash { F.tells → Goes F.moment F.may_leave F.left_since files.old files.new (Spares folder.now (F.holds files.old)) }
+{
+    let spare = Spare::new();
+    let mut good = true;
+    let mut heard = true;
+    let mut manifest = Vec::new(alloc);
+    let mut made = Vec::new(alloc);
+    let mut way = Vec::new(alloc);
+    for index in 1..listing.nodes.len() {
+        let target = place_of(alloc, listing, index, short, &mut way)?;
+        let place = target.text.as_str();
+        let done = put_chosen(
+            alloc, listing, index, only, fill, digest, folder, place, &spare, files,
+        )?;
+        let node = node_at(listing, index);
+        note(&mut manifest, done, index)?;
+        good = still_good(good, done.fate);
+        heard = tell(alloc, heard, done.fate, &node.path, &target.own, out)?;
+        remark_on_fate(alloc, done.fate, &node.path, files);
+        note_time(
+            alloc, node, index, only, done.fate, folder, place, &mut made, times, files,
+        );
+    }
+    set_folder_times(alloc, listing, made.as_slice(), short, folder, times, files);
+    Ok(Told {
+        good,
+        heard,
+        manifest,
+    })
+}
+
+/// Whether nothing failed, and all is whole.
+pub fn is_all_good(good: bool, whole: bool) -> bool
+    ensures { result ≡ (good && whole) }
+{
+    good && whole
+}
+
+/// What was made of a report.
+#[derive(Drop)]
+pub struct Made {
+    /// Whether all nodes that are asked for are whole and nothing failed.
+    pub good: bool,
+    /// The files that were written, with their digests where these are wanted, where the volume opens.
+    pub manifest: Option<Vec<Noted>>,
+}
+
+/// Makes the folder and what the report has for it, as far as it is asked for; where the volume does not open, it makes nothing, and prints the line of the
+/// volume. Where `digest` says so, the digests of the files are taken while they are written.
+pub fn put_report<F: Files, O: Sink>(
+    alloc: Global,
+    listing: &Listing<'_>,
+    only: &[&str],
+    fill: Fill,
+    short: bool,
+    digest: bool,
+    folder: &str,
+    times: &Times,
+    files: &mut F,
+    out: &mut O,
+) -> Result<Made, Refusal>
+    ensures put { IfOk result (λ made. PutsNoted (texts only.now) short
+        (λ told. IsPutAt F.Files F.Output.stream files.new listing.now.table.now told fill short folder.now)
+        (λ told fates text. digest ≡ true → F.tells → IsManifest (F.holds files.new) folder.now short told fates text)
+        files.old files.new (listing_now listing.now) (O.stream out.old) (O.stream out.new) made.good (option_map (λ m. notes_text short (listing_now listing.now) m.items) made.manifest)) }
+    ensures why { IfErr result (NodesStop F.Files F.Output.stream (texts only.now) folder.now fill short files.old files.new (O.stream out.old) (O.stream out.new) listing.now.table.now (listing_now listing.now)) }
+    ensures stays { F.tells → Stay (F.holds files.old) (F.holds files.new) }
+    ensures outside { (q : List ℕ) → (¬ IsIn folder.now q) → F.holds files.new q ≡ F.holds files.old q }
+    ensures elsewhere { (q : List ℕ) → IsElsewhere (texts only.now) fill short (listing_now listing.now) folder.now q → F.holds files.new q ≡ F.holds files.old q }
+    ensures crash { F.tells → Goes F.moment F.may_leave F.left_since files.old files.new (Spares folder.now (F.holds files.old)) }
+{
+    match &listing.volume {
+        Volume::Open(_) => {
+            match all_are_nodes(alloc, only, &listing.nodes) {
+                Ok(()) => {}
+                Err(refusal) => return Err(refusal),
+            }
+            let whole = match chosen_are_whole(alloc, only, &listing.nodes) {
+                Ok(whole) => whole,
+                Err(AllocError) => return Err(Refusal::Memory(AllocError)),
+            };
+            if put_folder(folder, files) != Fate::Made {
+                return Err(Refusal::Folder);
+            }
+            let told = match put_nodes(
+                alloc, listing, only, fill, short, digest, folder, times, files, out,
+            ) {
+                Ok(told) => told,
+                Err(AllocError) => return Err(Refusal::Memory(AllocError)),
+            };
+            if !told.heard {
+                return Err(Refusal::Output);
+            }
+            remark_on_left_out(alloc, listing, files);
+            Ok(Made {
+                good: is_all_good(told.good, whole),
+                manifest: Some(told.manifest),
+            })
+        }
+        _ => {
+            if let Err(error) = write_volume_line(&listing.volume, out) {
+                return Err(refused_run(error));
+            }
+            remark_on_listing(alloc, listing, files);
+            Ok(Made {
+                good: false,
+                manifest: None,
+            })
+        }
+    }
+}
+
+/// What is written of torn files: zeros in their holes where they are to be filled, and else nothing.
+fn fill_of(fill: bool) -> Fill
+    ensures { result ≡ fill_of fill }
+{
+    if fill { Fill::Byte(0) } else { Fill::Refuse }
+}
+
+/// Makes what a request asks for of a report: see [`put_report`].
+pub fn make_nodes<F: Files, O: Sink>(
+    alloc: Global,
+    listing: &Listing<'_>,
+    request: &ExtractRequest<'_>,
+    digest: bool,
+    times: &Times,
+    files: &mut F,
+    out: &mut O,
+) -> Result<Made, Refusal>
+    ensures put { IfOk result (λ made. PutsNoted (texts request.now.only.items) request.now.short_names (IsNodePut ⟦<F as Known>⟧.reach request.now files.new listing.now.table.now)
+        (λ told fates text. digest ≡ true → F.tells → IsManifest (F.holds files.new) request.now.folder.now request.now.short_names told fates text)
+        files.old files.new (listing_now listing.now) (O.stream out.old) (O.stream out.new) made.good (option_map (λ m. notes_text request.now.short_names (listing_now listing.now) m.items) made.manifest)) }
+    ensures why { IfErr result (NodesStop F.Files F.Output.stream (texts request.now.only.items) request.now.folder.now (fill_of request.now.fill) request.now.short_names files.old files.new (O.stream out.old) (O.stream out.new) listing.now.table.now (listing_now listing.now)) }
+    ensures elsewhere { (q : List ℕ) → IsElsewhere (texts request.now.only.items) (fill_of request.now.fill) request.now.short_names (listing_now listing.now) request.now.folder.now q → F.holds files.new q ≡ F.holds files.old q }
+    ensures spares { SparesNodes F.Files request.now.folder.now files.old files.new }
+{
+    let only = request.only.as_slice();
+    let fill = fill_of(request.fill);
+    let short = request.short_names;
+    match put_report(
+        alloc,
+        listing,
+        only,
+        fill,
+        short,
+        digest,
+        request.folder,
+        times,
+        files,
+        out,
+    ) {
+        Ok(made) => Ok(made),
+        Err(refusal) => Err(refusal),
+    }
+}

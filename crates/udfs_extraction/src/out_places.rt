@@ -1,0 +1,80 @@
+//! Where a manifest and lost files go: found before anything is read or made.
+
+ghost use Rattle.std.specs.Prelude.{◌≡◌, ◌⊎◌, IfOk, IfErr, MatchOption, OnOk, alloc_error, option_map, string_bytes};
+ghost use Rattle.udfs_common.specs.Volumes.{IsNoVolume};
+ghost use Rattle.udfs_extraction.specs.ByRequest.{HaveFreePlaces, IsLostFree, IsManifestFree, IsPlace};
+ghost use Rattle.udfs_extraction.specs.Refused.{IsPlaceRefused, IsUnbegun};
+
+use crate::manifest_place::find_manifest;
+use crate::unnamed_place::find_new_folder;
+use std::alloc::Global;
+use udfs_common::files::Files;
+use udfs_common::known::Known;
+use udfs_common::refusal::Refusal;
+use udfs_common::volumes::unwritten_volume;
+use udfs_words::request::ExtractRequest;
+
+/// Where the manifest goes, every link followed, if one is asked for.
+fn find_manifest_place<F: Files>(
+    alloc: Global,
+    request: &ExtractRequest<'_>,
+    files: &F,
+) -> Result<Option<String>, Refusal>
+    ensures leads { IfOk result (λ place. IsPlace ⟦<F as Known>⟧.reach files.now request.now (option_map string_bytes place)) }
+    ensures free { OnOk result (IsManifestFree ⟦<F as Known>⟧.reach files.now request.now) }
+    ensures why { IfErr result (λ refusal. (refusal ≡ Refusal.Memory alloc_error) ⊎ IsPlaceRefused ⟦<F as Known>⟧.reach files.now request.now refusal ⊎ IsNoVolume ⟦<F as Known>⟧.reach files.now request.now.volume refusal) }
+{
+    let given = request.volume.inputs.files.as_slice();
+    let parts = request.volume.inputs.parts.as_slice();
+    let Some(path) = request.manifest else {
+        return Ok(None);
+    };
+    match find_manifest(alloc, given, parts, request.folder, path, files) {
+        Ok(place) => Ok(Some(place)),
+        Err(Refusal::Output) => Err(unwritten_volume(alloc, &request.volume, files)),
+        Err(refusal) => Err(refusal),
+    }
+}
+
+/// Judges where the folder for lost files is to be made, if they are asked for.
+fn find_lost_folder<F: Files>(
+    alloc: Global,
+    request: &ExtractRequest<'_>,
+    files: &F,
+) -> Result<(), Refusal>
+    ensures free { OnOk result (IsLostFree ⟦<F as Known>⟧.reach files.now request.now) }
+    ensures why { IfErr result (λ refusal. (refusal ≡ Refusal.Memory alloc_error) ⊎ MatchOption request.now.lost ⊥ (λ path. refusal ≡ Refusal.LostSpared)) }
+{
+    let Some(lost) = request.lost else {
+        return Ok(());
+    };
+    match request.manifest {
+        None => find_new_folder(alloc, &[request.folder], lost, files),
+        Some(manifest) => find_new_folder(alloc, &[request.folder, manifest], lost, files),
+    }
+}
+
+/// Where the manifest goes, every link followed, if one is asked for. The manifest is judged first, and then the folder for lost files.
+///
+/// # Errors
+///
+/// `Spared` where the manifest would take the place of an input, or of a file that is no manifest, or might come into the way of the files; where that could not be
+/// found out, what is wrong with the inputs, or else `Output`. `LostSpared` where the folder for lost files is there. `Memory` if memory runs out.
+pub fn find_places<F: Files>(
+    alloc: Global,
+    request: &ExtractRequest<'_>,
+    files: &F,
+) -> Result<Option<String>, Refusal>
+    ensures leads { IfOk result (λ place. IsPlace ⟦<F as Known>⟧.reach files.now request.now (option_map string_bytes place)) }
+    ensures free { OnOk result (HaveFreePlaces ⟦<F as Known>⟧.reach files.now request.now) }
+    ensures why { IfErr result (IsUnbegun ⟦<F as Known>⟧.reach files.now request.now) }
+{
+    let place = match find_manifest_place(alloc, request, files) {
+        Ok(place) => place,
+        Err(refusal) => return Err(refusal),
+    };
+    match find_lost_folder(alloc, request, files) {
+        Ok(()) => Ok(place),
+        Err(refusal) => Err(refusal),
+    }
+}
