@@ -1,3 +1,4 @@
 pub mod AskingLemmas
 pub mod GrammarLemmas
+pub mod GroupLemmas
 pub mod LineLemmas

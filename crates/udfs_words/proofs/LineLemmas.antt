@@ -8,9 +8,10 @@ use Rattle.clap.specs.Matches.{first_value, matched_of, one_text, raw_values}
 use Rattle.clap.specs.declared.parser.matches.Found.{Found}
 use Rattle.clap.specs.declared.parser.matches.MatchedArg.{MatchedArg}
 use Rattle.clap.proofs.WalkLemmas.{first_value-rows, one_text-rows, raw_values-rows}
-use Rattle.udfs_words.specs.Asking.{IsKnownProfile, IsLastOfSize, IsOneEnd, IsPicked, IsToldLast, are_two_streams, input_texts, is_twice, list_texts, names_stream, takes_streams}
+use Rattle.udfs_words.specs.Asking.{IsGoodGroup, IsGroup, IsKnownProfile, IsLastOfSize, IsOneEnd, IsPicked, IsToldLast, are_two_streams, input_texts, is_mapped, is_twice, list_texts, names_stream, number_of, takes_streams}
 use Rattle.udfs_words.specs.Grammar.{program_app}
 use Rattle.udfs_words.specs.Requests.{IsLastSource, optional_text}
+use Rattle.udfs_words.specs.declared.group.GroupSize.{GroupSize}
 use Rattle.udfs_words.specs.declared.request.LastSource.{LastSource}
 use Rattle.udfs_words.specs.declared.request.LastSource.TheVariants.{Block, OfMaps}
 use Rattle.udfs_words.specs.Obeying.{IsAsked, given_in}
@@ -54,6 +55,17 @@ no_size words none size given = let z : Some given.0 ≡ None = sym given.1 ∙ 
 -- no rules are named
 pub no_profile : (words : Found) → first_value words (codes "profile") ≡ None → IsKnownProfile words
 no_profile words none name given = let z : Some name ≡ None = sym given ∙ none in absurd (let never : ⊥ = cc in never)
+
+-- nor groups
+pub no_group : (words : Found) → first_value words (codes "group") ≡ None → IsGoodGroup words
+no_group words none number given = let z : Some number ≡ None = sym given ∙ none in absurd (let never : ⊥ = cc in never)
+
+-- the number of a size of groups, beside a mapfile
+pub good_group : (words : Found) (size : GroupSize) → first_value words (codes "group") ≡ Some (number_of size) → is_mapped words ≡ true → IsGoodGroup words
+good_group words size is mapped number given = ((size, same _ _ (sym given ∙ is)), mapped)
+
+pub group_is : (words : Found) (group : Option GroupSize) (size : GroupSize) → IsGroup words group → first_value words (codes "group") ≡ Some (number_of size) → group ≡ Some size
+group_is words group size is e = (is size).1 e
 
 abbrev pub two : Text → List Text → List Text → Bool
 two name inputs lists = takes_streams name && (is_twice inputs || is_twice lists || (names_stream inputs && names_stream lists))

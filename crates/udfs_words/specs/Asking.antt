@@ -8,6 +8,10 @@
 --     list_texts words                            the paths of the lists of blocks, in order
 --     out_text words                              the path of the output
 --     is_mapped words, mapfile_text words         a mapfile is asked for, and its path
+--     blocks_in size, number_of size              how many blocks a group of this size has, and their number as it is given
+--     IsGoodGroup words                           a group that is given has a size, and a mapfile is asked for
+--     IsGroupFault words fault                    what is wrong with it
+--     IsGroup words group                         the size of the group that is given
 --     folder_text words                           the path of the new folder
 --     IsKnownProfile words                        the value of `--profile`, if one is given, names a profile
 --     IsUnknownProfile words name                 this is the value of `--profile`, and it names no profile
@@ -22,7 +26,7 @@
 --     IsLastOfSize size last                      the last block of a disc of this size; or 0, for which there is no report, where no disc has it
 --     IsToldLast words last                       the last block as given, or else `IsLastOfSize` of the size given; or 0, where neither is a number
 --     IsLast found inputs words last              the same, or where neither is given the block with which all mapfiles end
-use Rattle.std.specs.Prelude.{◌≡◌, ◌≢◌, ◌⊎◌, ℕ, ◌+◌, ◌*◌, ◌%◌, ◌^◌, ◌<◌, ◌&&◌, ◌||◌, Bool, false, is_some, List, [], ◌∷◌, ◌++◌, All, Option, Some, None, IfSome, Ok, codes, map, option_map, unwrap_or, if◌then◌else◌, true}
+use Rattle.std.specs.Prelude.{◌≡◌, ◌≢◌, ◌⊎◌, ◌↔◌, ℕ, ◌+◌, ◌*◌, ◌%◌, ◌^◌, ◌<◌, ◌&&◌, ◌||◌, Bool, false, is_some, List, [], ◌∷◌, ◌++◌, All, Option, Some, None, IfSome, Ok, codes, map, option_map, unwrap_or, if◌then◌else◌, true}
 use Rattle.std.specs.Str.{bytes_eq}
 use Rattle.clap.specs.Matches.{matched_of, first_value, one_text, raw_values}
 use Rattle.clap.specs.declared.parser.matches.Found.{Found}
@@ -32,6 +36,10 @@ use Rattle.std.specs.Str.Parse.{IsNumeral, digits_value, without_leading_plus}
 use Rattle.udfs_rescue.specs.declared.run.Run.{Run}
 use Rattle.udfs_rescue.specs.Lines.{outcome}
 use Rattle.udfs_rescue.specs.Runs.{end_of_runs}
+use Rattle.udfs_words.specs.declared.group.GroupFault.{GroupFault}
+use Rattle.udfs_words.specs.declared.group.GroupFault.TheVariants as grouping
+use Rattle.udfs_words.specs.declared.group.GroupSize.{GroupSize}
+use Rattle.udfs_words.specs.declared.group.GroupSize.TheVariants.{Two, Four, Eight, Sixteen, ThirtyTwo}
 use Rattle.udfs_words.specs.declared.input_path.InputPath.{InputPath}
 use Rattle.udfs_words.specs.declared.input_path.InputPath.TheVariants as path
 use Rattle.udfs_words.specs.declared.last.EndFault.{EndFault}
@@ -112,6 +120,35 @@ is_mapped words = is_some (matched_of words (codes "mapfile"))
 -- that path
 abbrev pub mapfile_text : Found → List ℕ
 mapfile_text words = unwrap_or (first_value words (codes "mapfile")) []
+
+-- how many blocks a group of this size has
+abbrev pub blocks_in : GroupSize → ℕ
+blocks_in Two = 2
+blocks_in Four = 4
+blocks_in Eight = 8
+blocks_in Sixteen = 16
+blocks_in ThirtyTwo = 32
+
+-- their number, as it is given
+abbrev pub number_of : GroupSize → List ℕ
+number_of Two = codes "2"
+number_of Four = codes "4"
+number_of Eight = codes "8"
+number_of Sixteen = codes "16"
+number_of ThirtyTwo = codes "32"
+
+-- the number of a group that is given is that of one of these sizes, and a mapfile is asked for
+abbrev pub IsGoodGroup : Found → Type 0
+IsGoodGroup words = (number : List ℕ) → first_value words (codes "group") ≡ Some number → ((size : GroupSize) × (number ≡ number_of size)) × (is_mapped words ≡ true)
+
+-- the number that is given is that of no size, or there is one and no mapfile
+abbrev pub IsGroupFault : Found → GroupFault → Type 0
+IsGroupFault words (grouping.Size number) = (first_value words (codes "group") ≡ Some number.now) × ((size : GroupSize) → number.now ≢ number_of size)
+IsGroupFault words grouping.NoMapfile = (is_some (first_value words (codes "group")) ≡ true) × (is_mapped words ≡ false)
+
+-- a group has the size whose number is given
+abbrev pub IsGroup : Found → Option GroupSize → Type 0
+IsGroup words group = (size : GroupSize) → (group ≡ Some size) ↔ (first_value words (codes "group") ≡ Some (number_of size))
 
 -- what was given as the new folder, a path
 abbrev pub folder_text : Found → List ℕ

@@ -33,6 +33,10 @@ size_rule = record (option_rule (codes "size") false) { parser = Some (Unsigned 
 abbrev pub mapfile_rule : Rule
 mapfile_rule = option_rule (codes "mapfile") false
 
+-- `--group G`
+abbrev pub group_rule : Rule
+group_rule = option_rule (codes "group") false
+
 -- `--profile PROFILE`
 abbrev pub profile_rule : Rule
 profile_rule = option_rule (codes "profile") false
@@ -73,9 +77,9 @@ with_profile name size = with_rule (with_last name size) profile_rule
 abbrev pub report_app : Given → App
 report_app given = with_inputs (with_rule (with_rule (with_profile (codes "report") given.needs_last) (flag_rule (codes "json"))) (flag_rule (codes "force"))) given.pairs
 
--- `reread (--last N | --size BYTES) [--profile PROFILE] [--mapfile FILE] [--no-witnesses] [--force] IN...`
+-- `reread (--last N | --size BYTES) [--profile PROFILE] [--mapfile FILE] [--group G] [--no-witnesses] [--force] IN...`
 abbrev pub reread_app : Given → App
-reread_app given = with_inputs (with_rule (with_rule (with_rule (with_profile (codes "reread") given.needs_last) mapfile_rule) (flag_rule (codes "no-witnesses"))) (flag_rule (codes "force"))) given.pairs
+reread_app given = with_inputs (with_rule (with_rule (with_rule (with_rule (with_profile (codes "reread") given.needs_last) mapfile_rule) group_rule) (flag_rule (codes "no-witnesses"))) (flag_rule (codes "force"))) given.pairs
 
 -- `--only PATH`, any number of times
 abbrev pub only_rule : Rule

@@ -5,6 +5,7 @@
 mod arguments;
 pub mod asking;
 pub mod forms;
+pub mod group;
 pub mod input_path;
 pub mod last;
 pub mod laws;
