@@ -2,7 +2,7 @@
 use Rattle.std.specs.Prelude.{ℕ, Bool, true, false, not, Some, codes, pos}
 use Rattle.clap.specs.Words.{App, Rule, Text, new_app, new_rule, with_rule, with_subcommand}
 use Rattle.clap.specs.declared.builder.ArgAction.TheVariants.{Append, Set, SetTrue}
-use Rattle.clap.specs.declared.builder.ValueParser.TheVariants.{Signed, Unsigned}
+use Rattle.clap.specs.declared.builder.ValueParser.TheVariants.{Signed}
 use Rattle.udfs_words.specs.declared.words.Given.{Given}
 
 -- a flag
@@ -25,9 +25,9 @@ option_rule name required = record (value_rule name) { required = required }
 abbrev pub last_rule : Bool → Rule
 last_rule needed = record (option_rule (codes "last") needed) { parser = Some (Signed (pos 0) (pos 4294967295)) }
 
--- `--size BYTES`, a number of 64 bits
+-- `--size BYTES`
 abbrev pub size_rule : Rule
-size_rule = record (option_rule (codes "size") false) { parser = Some (Unsigned 0 18446744073709551615) }
+size_rule = option_rule (codes "size") false
 
 -- `--mapfile FILE`
 abbrev pub mapfile_rule : Rule

@@ -78,9 +78,9 @@ abbrev pub IsSomeReread : Request → Type 0
 IsSomeReread (request.Reread r) = Reads r.volume (codes "all.tab") (Block 1000) Strict × (option_map (λ path. path.now) r.mapfile ≡ Some (codes "again.map")) × (r.group ≡ Some Sixteen) × (r.witnesses ≡ true)
 IsSomeReread _ = ⊥
 
--- `udfsalvage list --size 2050048 --torn --paths -`
+-- `udfsalvage list --size 1001s --torn --paths -`
 abbrev pub list_line : List Text
-list_line = codes "udfsalvage" ∷ codes "list" ∷ codes "--size" ∷ codes "2050048" ∷ codes "--torn" ∷ codes "--paths" ∷ codes "-" ∷ []
+list_line = codes "udfsalvage" ∷ codes "list" ∷ codes "--size" ∷ codes "1001s" ∷ codes "--torn" ∷ codes "--paths" ∷ codes "-" ∷ []
 
 -- the paths of what is not whole, of 1001 blocks that standard input has
 abbrev pub IsSomeList : Request → Type 0

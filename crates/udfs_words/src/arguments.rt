@@ -259,10 +259,9 @@ pub fn disc_size<'a>(alloc: Global) -> Arg<'a>
         alloc,
         SIZE,
         "BYTES",
-        "The size of the disc in bytes, in place of --last",
+        "The size of the disc, in place of --last: bytes, or with s after it blocks of 2048 bytes, with k, M or G powers of 1000, with Ki, Mi or Gi powers of 1024",
         false,
     )
-    .value_parser(value_parser!(u64))
 }
 
 /// Images with their mapfiles.

@@ -12,5 +12,6 @@ pub mod laws;
 pub mod profile;
 pub mod reading;
 pub mod request;
+pub mod sizes;
 pub mod streams;
 pub mod words;

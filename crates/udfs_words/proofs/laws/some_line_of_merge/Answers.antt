@@ -21,7 +21,7 @@ named = refl
 
 -- all that is read of the line
 abbrev read : Text → List Row → Text × Option (List Text) × Option (List Text) × Option Text × Option Text × Option Text × Option Text × Option Text × Option (List Text) × Option Text
-read name rows = (name, all_of (codes "input") rows, all_of (codes "ddrescue") rows, one_of (codes "v1") rows, first_of (codes "out") rows, one_of (codes "force") rows, one_of (codes "size") rows, first_of (codes "profile") rows, all_of (codes "blocks") rows, first_of (codes "group") rows)
+read name rows = (name, all_of (codes "input") rows, all_of (codes "ddrescue") rows, one_of (codes "v1") rows, first_of (codes "out") rows, one_of (codes "force") rows, first_of (codes "size") rows, first_of (codes "profile") rows, all_of (codes "blocks") rows, first_of (codes "group") rows)
 
 abbrev said : Text × Option (List Text) × Option (List Text) × Option Text × Option Text × Option Text × Option Text × Option Text × Option (List Text) × Option Text
 said = (codes "merge", Some (codes "first.rdg" ∷ codes "second.rdg" ∷ []), None, Some (codes "true"), Some (codes "all.tab"), Some (codes "false"), None, None, None, None)
@@ -44,7 +44,7 @@ returns c = record {
   takes = taken;
   names = named;
   lawful = λ words asked. let e = says (codes "merge") words asked in (
-    no_size words (one_is words (codes "size") _ (ap (λ t. t.6) e)),
+    no_size words (first_is words (codes "size") _ (ap (λ t. t.6) e)),
     no_profile words (first_is words (codes "profile") _ (ap (λ t. t.7) e)),
     one_stream (codes "merge") words _ _ (all_are words (codes "input") _ _ _ (ap (λ t. t.1) e) refl) (all_are words (codes "blocks") _ _ _ (ap (λ t. t.8) e) refl) refl,
     no_group words (first_is words (codes "group") _ (ap (λ t. t.9) e)),

@@ -26,7 +26,7 @@ named = refl
 
 -- all that is read of the line
 abbrev read : Text → List Row → Text × Option (List Text) × Option (List Text) × Option Text × Option Text × Option (List Text) × Option Text × Option (List Text) × Option Text × Option Text
-read name rows = (name, all_of (codes "input") rows, all_of (codes "ddrescue") rows, one_of (codes "size") rows, first_of (codes "profile") rows, all_of (codes "blocks") rows, one_of (codes "last") rows, all_of (codes "last") rows, first_of (codes "out") rows, first_of (codes "group") rows)
+read name rows = (name, all_of (codes "input") rows, all_of (codes "ddrescue") rows, first_of (codes "size") rows, first_of (codes "profile") rows, all_of (codes "blocks") rows, one_of (codes "last") rows, all_of (codes "last") rows, first_of (codes "out") rows, first_of (codes "group") rows)
 
 abbrev said : Text × Option (List Text) × Option (List Text) × Option Text × Option Text × Option (List Text) × Option Text × Option (List Text) × Option Text × Option Text
 said = (codes "page", Some (codes "all.tab" ∷ []), None, None, None, None, Some (codes "1000"), Some (codes "1000" ∷ []), Some (codes "-"), None)
@@ -51,7 +51,7 @@ returns c = record {
   takes = taken;
   names = named;
   lawful = λ words asked. let e = says (codes "page") words asked in (
-    no_size words (one_is words (codes "size") _ (ap (λ t. t.3) e)),
+    no_size words (first_is words (codes "size") _ (ap (λ t. t.3) e)),
     no_profile words (first_is words (codes "profile") _ (ap (λ t. t.4) e)),
     one_stream (codes "page") words _ _ (all_are words (codes "input") _ _ _ (ap (λ t. t.1) e) refl) (all_are words (codes "blocks") _ _ _ (ap (λ t. t.5) e) refl) refl,
     no_group words (first_is words (codes "group") _ (ap (λ t. t.9) e)),
