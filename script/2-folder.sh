@@ -120,6 +120,7 @@ check_programs() {
     case $ddrescue in */*) ddrescue=$(cd "$(dirname "$ddrescue")" && pwd)/$(basename "$ddrescue") ;; esac
     "$program" reread --help 2> /dev/null > /dev/null || fail "$program does not run" "Try: $program --version"
     has reread no-witnesses || fail 'udfsalvage is too old for this script: its reread asks for no known blocks' 'Without them a wrong disc in the drive is not noticed. Install both from one version.'
+    has reread group || fail 'udfsalvage is too old for this script: its reread asks for no whole groups of blocks' 'Install both from one version.'
     [ -z "$only" ] || has reread only || fail 'this udfsalvage does not know reread --only' 'Leave --only out, or install a later udfsalvage.'
     [ -z "$title" ] || has page title || tell 'Note: this udfsalvage writes no titles: the title is kept in FOLDER/state alone.'
 }

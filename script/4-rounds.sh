@@ -168,7 +168,7 @@ rounds() {
 quick_round() {
     cp work/quick work/ask
     witnesses
-    if has reread group; then domain 16; fi
+    domain 16
     without work/domain "drives/$drive.failed" > work/some
     without work/some "drives/$drive.hard" > work/next
     add work/next < work/witnesses

@@ -74,7 +74,8 @@ fn refuse_usage<E: Sink>(alloc: Global, fault: UsageFault<'_>, err: &mut E) -> u
     ensures { result ≡ 2 }
 {
     match fault {
-        UsageFault::End(fault) => tell(alloc, fault, err),
+        UsageFault::End(fault) => tell(alloc, &fault, err),
+        UsageFault::Group(fault) => tell(alloc, &fault, err),
         UsageFault::Profile(profile) => tell_profile(alloc, profile, err),
         UsageFault::TwoStreams => {
             let _ = send(TWO_STREAMS, err);

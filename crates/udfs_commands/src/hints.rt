@@ -1,5 +1,6 @@
 //! The second line of an error message, for a person: which file it is, what the system said of it, and what to do next.
 
+use crate::foreign::foreign_at;
 use crate::spared::why_spared;
 use std::alloc::{AllocError, Global};
 use std::fmt;
@@ -104,6 +105,9 @@ fn of_file<F: Files>(
     let file = Shown(path);
     match error.fault {
         ReadingFault::Magic => {
+            if let Some(foreign) = foreign_at(alloc, path, files)? {
+                return format!(in alloc; "{file} {foreign}");
+            }
             let map = MapBeside(path);
             format!(in alloc;
                 "{file} is no reading and no table; an image wants its map: --ddrescue {file} {map}"
@@ -211,10 +215,18 @@ fn of_map(alloc: Global, input: InputPath<'_>, fault: MapFault) -> Result<String
 }
 
 /// What is said of an image that ends too early.
-fn of_short_image(alloc: Global, input: InputPath<'_>, block: u64) -> Result<String, AllocError> {
+fn of_short_image<F: Files>(
+    alloc: Global,
+    input: InputPath<'_>,
+    block: u64,
+    files: &F,
+) -> Result<String, AllocError> {
     match input {
         InputPath::File(path) => format!(in alloc; "{}", Shown(path)),
         InputPath::Pair(image, map) => {
+            if let Some(foreign) = foreign_at(alloc, image, files)? {
+                return format!(in alloc; "{} {foreign}", Shown(image));
+            }
             format!(in alloc;
                 "{} says that block {block} was read, and {} ends before it: are they of one pass?",
                 Shown(map),
@@ -258,7 +270,7 @@ fn of_named_input<F: Files>(
     let line = match refusal {
         Refusal::Input(_, error) => of_input(alloc, input, *error, files)?,
         Refusal::Mapfile(_, error) => of_map(alloc, input, error.fault)?,
-        Refusal::ImageEnds(_, block) => of_short_image(alloc, input, *block)?,
+        Refusal::ImageEnds(_, block) => of_short_image(alloc, input, *block, files)?,
         Refusal::Open(_) => of_unopened(alloc, input, files)?,
         Refusal::Reread(_, _) => of_reread(alloc, input)?,
         Refusal::OtherDisc(_, _, _) => of_other_disc(alloc, input)?,

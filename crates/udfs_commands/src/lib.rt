@@ -3,6 +3,7 @@
 #![tactic(auto)]
 
 mod command;
+mod foreign;
 mod hints;
 mod performing;
 mod printing;

@@ -9,10 +9,10 @@ use crate::printing::send;
 use clap::error::ErrorKind;
 use clap::{ArgMatches, Error};
 use std::alloc::{AllocError, Global};
+use std::fmt;
 use udfs_common::files::Files;
 use udfs_common::refusal::Refusal;
 use udfs_reading::{DeviceFault, Sink};
-use udfs_words::last::EndFault;
 use udfs_words::request::Request;
 use udfs_words::words::{QUIET, VERBOSE, given_in, grammar};
 
@@ -122,8 +122,8 @@ pub fn ask_for_last<E: Sink>(alloc: Global, line: &[String], err: &mut E) -> u8
     }
 }
 
-/// Says in clap's form what is wrong with the arguments that say where the disc ends, and returns the exit status, 2.
-pub fn tell<E: Sink>(alloc: Global, fault: EndFault<'_>, err: &mut E) -> u8
+/// Says in clap's form what is wrong with the arguments, and returns the exit status, 2.
+pub fn tell<T: fmt::Display, E: Sink>(alloc: Global, fault: &T, err: &mut E) -> u8
     ensures { result ≡ 2 }
 {
     let _ = match format!(in alloc; "error: {fault}\n\nFor more information, try '--help'.\n") {

@@ -1,12 +1,18 @@
--- Numbers that rise do not fall, and the last block of a volume.
-use Rattle.std.proofs.Common.{◌<◌, ◌≤◌, ℕ, zero, suc, List, [], ◌∷◌, length, slice_index_or, inl, inr, arith}
+-- Numbers that rise do not fall, those of them that are not known, the last block of a volume, and what a mapfile is.
+use Rattle.std.proofs.Common.{◌≡◌, ◌∙◌, ◌<◌, ◌≤◌, ℕ, zero, suc, Bool, true, false, not, cond, filter, List, [], ◌∷◌, length, slice_index_or, ap, ap₂, inl, inr, refl, subst, arith, ◌⊎◌}
 use Rattle.std.specs.Prelude.{Contains}
 use Rattle.std.specs.List.Sorted.{IsNonDecreasing}
-use Rattle.udfs_lattice.proofs.Inclusion.{here, there}
-use Rattle.udfs_salvage.specs.Reports.{IsOutOfRange}
-use Rattle.udfs_lattice.specs.Volumes.{ascending}
+use Rattle.udfs_lattice.proofs.Inclusion.{here, here_or_there, in_nothing, there}
+use Rattle.udfs_lattice.specs.States.{is_known}
+use Rattle.udfs_lattice.specs.Tables.{Table, state_of}
+use Rattle.udfs_lattice.specs.Volumes.{Blocks, IsUnread, ascending, not_known}
+use Rattle.udfs_rescue.specs.Writing.{domain_text}
+use Rattle.udfs_salvage.specs.Reports.{IsOutOfRange, IsReportBy, Report, all_whole}
 use Rattle.udfs_volume.specs.Seen.{IsRising}
 use Rattle.udfs_volume.proofs.PublicLaws.{ascending_rises}
+use Rattle.udfs_words.specs.declared.request.RereadRequest.{RereadRequest}
+use Rattle.udfs_reports.specs.Comparing.{compared}
+use Rattle.udfs_reports.specs.Rereading.{AreMapped, IsDomain, domain_line}
 
 stands_in : (xs : List ℕ) (j : ℕ) (d : ℕ) → j < length xs → Contains xs (slice_index_or xs j d)
 stands_in [] j d lt = absurd (omega (arith, lt))
@@ -29,3 +35,60 @@ in_range last h = let below : (4194303 < last) → ⊥ = λ l. h (inr l) in omeg
 
 pub from_range : (last : ℕ) → (IsOutOfRange last → ⊥) → 513 ≤ last
 from_range last h = let below : (last < 513) → ⊥ = λ l. h (inl l) in omega (arith, below)
+
+-- ---- blocks that are not known
+
+-- what holds of each of the rest, and of the first if it passes, holds of each that passes
+each_passes : (test : ℕ → Bool) (n : ℕ) (ns : List ℕ) (Holds : ℕ → Type 0) → (test n ≡ true → Holds n) → ((m : ℕ) → Contains (filter test ns) m → Holds m) → (m : ℕ) → Contains (filter test (n ∷ ns)) m → Holds m
+each_passes test n ns Holds first later = go (test n) refl
+  where
+    by : (m : ℕ) → Holds n → (n ≡ m) ⊎ Contains (filter test ns) m → Holds m
+    by m one (inl e) = subst Holds e one
+    by m one (inr i) = later m i
+
+    go : (b : Bool) → test n ≡ b → (m : ℕ) → Contains (cond b (n ∷ filter test ns) (filter test ns)) m → Holds m
+    go true e m i = by m (first e) (here_or_there n (filter test ns) m i)
+    go false e m i = later m i
+
+passed : (test : ℕ → Bool) (ns : List ℕ) (m : ℕ) → Contains (filter test ns) m → test m ≡ true
+passed test [] m i = in_nothing m i
+passed test (n ∷ ns) m i = each_passes test n ns (λ m. test m ≡ true) (λ e. e) (passed test ns) m i
+
+from_list : (test : ℕ → Bool) (ns : List ℕ) (m : ℕ) → Contains (filter test ns) m → Contains ns m
+from_list test [] m i = i
+from_list test (n ∷ ns) m i = each_passes test n ns (Contains (n ∷ ns)) (λ e. here n ns) (λ m i. there n ns m (from_list test ns m i)) m i
+
+passed_rise : (test : ℕ → Bool) (ns : List ℕ) → IsRising ns → IsRising (filter test ns)
+passed_rise test [] rises = tt
+passed_rise test (n ∷ ns) rises = go (passed_rise test ns rises.1) (test n)
+  where
+    go : IsRising (filter test ns) → (b : Bool) → IsRising (cond b (n ∷ filter test ns) (filter test ns))
+    go later true = (λ m i. rises.0 m (from_list test ns m i), later)
+    go later false = later
+
+is_no : (b : Bool) → not b ≡ true → b ≡ false
+is_no false e = refl
+is_no true e = absurd (let never : ⊥ = cc in never)
+
+-- they rise as the list does
+pub unread_rise : (blocks : Blocks) (ns : List ℕ) → IsRising ns → IsRising (not_known blocks ns)
+unread_rise blocks ns rises = passed_rise (λ n. not (is_known (blocks n))) ns rises
+
+-- and none is known
+pub unread_are : (blocks : Blocks) (ns : List ℕ) → IsUnread blocks (not_known blocks ns)
+unread_are blocks ns n i = is_no (is_known (blocks n)) (passed (λ n. not (is_known (blocks n))) ns n i)
+
+-- ---- a mapfile
+
+-- of a report, by its parts
+pub domain_of : (r : RereadRequest) (last : ℕ) (table : Table) (report : Report) (wanted known all bytes : List ℕ) (whole : Bool) → IsReportBy r.volume.profile (state_of table) last report → wanted ≡ report.reread → known ≡ compared r.witnesses table last report →
+    AreMapped r table last report all → bytes ≡ domain_text all last → whole ≡ all_whole report.nodes → IsDomain r last table bytes (domain_line r.group wanted (length known) (length all)) whole
+domain_of r last table report wanted known all bytes whole is_report wants knows mapped is says = record {
+  report = report;
+  is_report = is_report;
+  all = all;
+  are_mapped = mapped;
+  is = is;
+  says = ap₂ (λ (ws : List ℕ) (k : ℕ). domain_line r.group ws k (length all)) wants (ap (λ (ks : List ℕ). length ks) knows);
+  all_is_whole = says;
+}

@@ -1,8 +1,10 @@
 -- What a command prints of the blocks to read again, and the mapfile that it writes of them.
 --     numbers_of          the lines of their numbers
---     domain_line         their count and that of their runs, and how many known blocks are asked for beside them
---     line_of, map_of     the line that is printed, and the mapfile
---     IsMapOf             these bytes are the mapfile of a table's report, its line was printed, and whether there are nodes and all are whole
+--     domain_line         their count and that of their runs, how many known blocks are asked for beside them, and of whole groups how many blocks in all
+--     AreAsked            the blocks to ask for of those of a list: these, or their whole groups
+--     AreMapped           the blocks of a mapfile: those to ask for, and the witnesses
+--     IsDomain            the mapfile of a table's report, its line, and whether there are nodes and all are whole
+--     IsMapOf             these bytes are this mapfile, and its line was printed
 --     IsRefusedDomain     the mapfile was not put, and why
 --     IsMap               these bytes are the mapfile that is asked for, its line was printed, and whether there are nodes and all are whole
 --     IsSomeMap           these bytes are the mapfile that is asked for
@@ -10,18 +12,21 @@
 --     IsMapSpared         it would take the place of something else
 --     IsMapUnseen         what is there could not be looked at
 --     MapRefused          why it was not put
-use Rattle.std.specs.Prelude.{◌≡◌, ◌⊎◌, ℕ, ◌+◌, ◌++◌, ◌==◌, Bool, List, [], ◌∷◌, alloc_error, codes, decimal, length, if◌then◌else◌}
+use Rattle.std.specs.Prelude.{◌≡◌, ◌⊎◌, ℕ, ◌+◌, ◌++◌, ◌==◌, Bool, List, [], ◌∷◌, Option, Some, None, alloc_error, codes, decimal, length, if◌then◌else◌}
 use Rattle.udfs_files.specs.Disk.{Fails}
 use Rattle.udfs_lattice.specs.Tables.{Table, state_of}
 use Rattle.udfs_reading.specs.Device.{Stream}
 use Rattle.udfs_reading.specs.Writing.{Failed, Wrote}
-use Rattle.udfs_lattice.specs.Volumes.{ascending}
+use Rattle.udfs_lattice.specs.Volumes.{Blocks, ascending, not_known}
 use Rattle.udfs_volume.specs.declared.profiles.Profile.{Profile}
+use Rattle.udfs_groups.specs.Groups.{AreGrouped}
 use Rattle.udfs_rescue.specs.Writing.{domain_text}
 use Rattle.udfs_salvage.specs.Reports.{Report, IsReportBy, all_whole}
 use Rattle.udfs_salvage.specs.RereadTexts.{number_lines}
 use Rattle.udfs_salvage.specs.Texts.{line}
+use Rattle.udfs_words.specs.Asking.{blocks_in}
 use Rattle.udfs_words.specs.Requests.{texts}
+use Rattle.udfs_words.specs.declared.group.GroupSize.{GroupSize}
 use Rattle.udfs_words.specs.declared.request.RereadRequest.{RereadRequest}
 use Rattle.udfs_common.specs.Guarding.{IsFreeMap, IsSparedMap, MayNotBeSeen}
 use Rattle.udfs_common.specs.Puts.{PutFails}
@@ -51,43 +56,55 @@ runs_in (n ∷ ns) = 1 + breaks n ns
 abbrev pub wanted_words : List ℕ → List ℕ
 wanted_words wanted = decimal (length wanted) ++ codes " blocks in " ++ decimal (runs_in wanted) ++ codes " runs"
 
--- `, and W known ones to compare`
+-- `, and W known ones to compare`, where there are some
 abbrev pub known_words : ℕ → List ℕ
-known_words count = codes ", and " ++ decimal count ++ codes " known ones to compare"
+known_words count = if count == 0 then [] else codes ", and " ++ decimal count ++ codes " known ones to compare"
 
--- both, where there are known ones
-abbrev pub domain_line : List ℕ → List ℕ → List ℕ
-domain_line wanted known = if length known == 0 then line (wanted_words wanted) else line (wanted_words wanted ++ known_words (length known))
+-- `, M in the map`, where whole groups are asked for
+abbrev pub group_words : Option GroupSize → ℕ → List ℕ
+group_words None count = []
+group_words (Some size) count = codes ", " ++ decimal count ++ codes " in the map"
 
--- the line of a table's report
-abbrev pub line_of : Bool → Table → ℕ → Report → List ℕ
-line_of compares table last report = domain_line report.reread (compared compares table last report)
+-- the line of a list's blocks, by how many known ones there are beside them, and how many blocks the mapfile has
+abbrev pub domain_line : Option GroupSize → List ℕ → ℕ → ℕ → List ℕ
+domain_line group wanted known all = line ((wanted_words wanted ++ known_words known) ++ group_words group all)
 
--- its mapfile: the blocks to read again, the witnesses, and nothing else
-abbrev pub map_of : Bool → Table → ℕ → Report → List ℕ
-map_of compares table last report = domain_text (ascending (compared compares table last report ++ report.reread)) last
+-- the blocks to ask for where those of a list are to be read again: the list; or in groups those of it that are not known, and the others of their groups
+abbrev pub AreAsked : Option GroupSize → Blocks → ℕ → List ℕ → List ℕ → Type 0
+AreAsked None blocks last listed asked = asked ≡ listed
+AreAsked (Some size) blocks last listed asked = AreGrouped blocks last (blocks_in size) (not_known blocks listed) asked
 
--- these bytes are the mapfile of the table's report by the rules of a profile, its line was printed, and whether there are nodes and all are whole
-pub record IsMapOf (compares : Bool) (profile : Profile) (last : ℕ) (before after : Stream) (whole : Bool) (bytes : List ℕ) (table : Table) : Type 0 where
+-- the blocks of a mapfile: those that a report asks for, the witnesses, and nothing else
+abbrev pub AreMapped : RereadRequest → Table → ℕ → Report → List ℕ → Type 0
+AreMapped r table last report all = (asked : List ℕ) × AreAsked r.group (state_of table) last report.reread asked × (all ≡ ascending (compared r.witnesses table last report ++ asked))
+
+-- the mapfile of the table's report, the line that is printed of it, and whether there are nodes and all are whole
+pub record IsDomain (r : RereadRequest) (last : ℕ) (table : Table) (bytes text : List ℕ) (whole : Bool) : Type 0 where
   pub report : Report
-  pub is_report : IsReportBy profile (state_of table) last report
-  pub is : bytes ≡ map_of compares table last report
-  pub prints : Wrote before after (line_of compares table last report)
-  pub says : whole ≡ all_whole report.nodes
+  pub is_report : IsReportBy r.volume.profile (state_of table) last report
+  pub all : List ℕ
+  pub are_mapped : AreMapped r table last report all
+  pub is : bytes ≡ domain_text all last
+  pub says : text ≡ domain_line r.group report.reread (length (compared r.witnesses table last report)) (length all)
+  pub all_is_whole : whole ≡ all_whole report.nodes
 
--- there was no report, and nothing was printed; or their count was not printed whole, or it was and the mapfile was not put
-abbrev pub IsRefusedDomain : Type 0 → Bool → Profile → ℕ → Stream → Stream → Refusal → Table → Type 0
-IsRefusedDomain Unmade compares profile last old new refusal table = ((new ≡ old) × IsUntold profile last refusal table) ⊎ ((report : Report) × IsReportBy profile (state_of table) last report ×
-    (((refusal ≡ Output) × Failed old new (line_of compares table last report)) ⊎ (Wrote old new (line_of compares table last report) × IsUnput Unmade refusal)))
+-- these bytes are the mapfile, and its line was printed
+abbrev pub IsMapOf : RereadRequest → ℕ → Stream → Stream → Bool → List ℕ → Table → Type 0
+IsMapOf r last before after whole bytes table = (text : List ℕ) × IsDomain r last table bytes text whole × Wrote before after text
+
+-- there was no report, and nothing was printed; or the line of a mapfile was not printed whole, or it was and the mapfile was not put
+abbrev pub IsRefusedDomain : Type 0 → RereadRequest → ℕ → Stream → Stream → Refusal → Table → Type 0
+IsRefusedDomain Unmade r last old new refusal table = ((new ≡ old) × IsUntold r.volume.profile last refusal table) ⊎ ((bytes : List ℕ) × (text : List ℕ) × (whole : Bool) × IsDomain r last table bytes text whole ×
+    (((refusal ≡ Output) × Failed old new text) ⊎ (Wrote old new text × IsUnput Unmade refusal)))
 
 module _ {F I M S W : Type 0} (reach : Reach F I M S W) (old : F) where
   -- the mapfile of what was read of the disc, and its line
   abbrev pub IsMap : RereadRequest → Stream → Stream → Bool → List ℕ → Type 0
-  IsMap r before after whole bytes = OfVolume reach old r.volume (λ last. IsMapOf r.witnesses r.volume.profile last before after whole bytes)
+  IsMap r before after whole bytes = OfVolume reach old r.volume (λ last. IsMapOf r last before after whole bytes)
 
   -- the mapfile alone
   abbrev pub IsSomeMap : RereadRequest → List ℕ → Type 0
-  IsSomeMap r bytes = OfVolume reach old r.volume (λ last table. (report : Report) × IsReportBy r.volume.profile (state_of table) last report × (bytes ≡ map_of r.witnesses table last report))
+  IsSomeMap r bytes = OfVolume reach old r.volume (λ last table. (text : List ℕ) × (whole : Bool) × IsDomain r last table bytes text whole)
 
   -- where it is known what files hold: at this path
   abbrev pub IsMapFree : RereadRequest → List ℕ → Type 0
@@ -104,4 +121,4 @@ module _ {F I M S W : Type 0} (reach : Reach F I M S W) (old : F) where
   -- nothing has changed or was printed, and memory ran out, or what is there is spared or could not be looked at, or the disc's end is not known or the inputs were not joined; or there is no report, or the line was not printed, or the mapfile was not put
   abbrev pub MapRefused : F → RereadRequest → List ℕ → Stream → Stream → Refusal → Type 0
   MapRefused new r path before after refusal = ((new ≡ old) × (after ≡ before) × ((refusal ≡ Memory alloc_error) ⊎ ((refusal ≡ Spared) × IsMapSpared r path) ⊎ ((refusal ≡ Output) × IsMapUnseen r path) ⊎ IsNoVolume reach old r.volume refusal)) ⊎
-      OfVolume reach old r.volume (λ last. IsRefusedDomain (PutFails reach path old) r.witnesses r.volume.profile last before after refusal)
+      OfVolume reach old r.volume (λ last. IsRefusedDomain (PutFails reach path old) r last before after refusal)

@@ -7,7 +7,7 @@ ghost use Rattle.udfs_rescue.specs.Writing.{domain_text};
 ghost use Rattle.udfs_salvage.specs.Texts.{line};
 ghost use Rattle.udfs_common.specs.Puts.{PutFails, PutsAs};
 ghost use Rattle.udfs_common.specs.Refusing.{IsUnput};
-ghost use Rattle.udfs_reports.specs.Rereading.{IsMap, IsMapFree, IsMapOf, IsMapSpared, IsMapUnseen, IsRefusedDomain, MapRefused, breaks, domain_line, known_words, runs_in, wanted_words};
+ghost use Rattle.udfs_reports.specs.Rereading.{IsMap, IsMapFree, IsMapOf, IsMapSpared, IsMapUnseen, IsRefusedDomain, MapRefused, breaks, domain_line, group_words, known_words, runs_in, wanted_words};
 
 use crate::comparing::{Asked, asked_in};
 use std::alloc::{AllocError, Global};
@@ -23,7 +23,7 @@ use udfs_reading::{Sink, WriteFault, write_all};
 use udfs_remarks::looking::listed;
 use udfs_remarks::remarks::remark_on_listing;
 use udfs_rescue::write_domain;
-use udfs_volume::Profile;
+use udfs_words::group::GroupSize;
 use udfs_words::request::RereadRequest;
 
 /// The mapfile in which these blocks are wanted, up to the last block of a volume.
@@ -69,53 +69,71 @@ fn count_runs(blocks: &[u32]) -> usize
     }
 }
 
-/// The line that says how many blocks and runs there are.
-fn wanted_line(alloc: Global, wanted: &[u32]) -> Result<String, AllocError>
-    ensures { IfOk result (λ text. string_bytes text ≡ line (wanted_words wanted.now)) }
+/// How many blocks and runs there are.
+fn wanted_text(alloc: Global, wanted: &[u32]) -> Result<String, AllocError>
+    ensures { IfOk result (λ text. string_bytes text ≡ wanted_words wanted.now) }
 {
     let mut text = String::new(alloc);
     let count = wanted.len();
     let runs = count_runs(wanted);
-    write!(text, "{count} blocks in {runs} runs\n")?;
+    write!(text, "{count} blocks in {runs} runs")?;
     Ok(text)
 }
 
-/// The line that says so, and how many known blocks are asked for beside them.
-fn compared_line(alloc: Global, wanted: &[u32], known: usize) -> Result<String, AllocError>
-    ensures { IfOk result (λ text. string_bytes text ≡ line (wanted_words wanted.now ++ known_words known)) }
+/// Appends how many known blocks are asked for beside them, if some are.
+fn push_known(text: &mut String, count: usize) -> Result<(), AllocError>
+    ensures { IfOk result (λ done. string_bytes text.new ≡ string_bytes text.old ++ known_words count) }
 {
-    let mut text = String::new(alloc);
-    let count = wanted.len();
-    let runs = count_runs(wanted);
-    write!(
-        text,
-        "{count} blocks in {runs} runs, and {known} known ones to compare\n"
-    )?;
-    Ok(text)
-}
-
-/// The line that says how many blocks and runs there are, and, if there are some, how many known blocks beside them.
-fn count_line(alloc: Global, wanted: &[u32], known: &[u32]) -> Result<String, AllocError>
-    ensures { IfOk result (λ text. string_bytes text ≡ domain_line wanted.now known.now) }
-{
-    let count = known.len();
     if count == 0 {
-        return wanted_line(alloc, wanted);
+        return Ok(());
     }
-    compared_line(alloc, wanted, count)
+    write!(text, ", and {count} known ones to compare")?;
+    Ok(())
 }
 
-/// Prints how many blocks and runs there are.
+/// Appends how many blocks the mapfile has, where whole groups are asked for.
+fn push_all(text: &mut String, group: Option<GroupSize>, count: usize) -> Result<(), AllocError>
+    ensures { IfOk result (λ done. string_bytes text.new ≡ string_bytes text.old ++ group_words group count) }
+{
+    match group {
+        None => Ok(()),
+        Some(_) => {
+            write!(text, ", {count} in the map")?;
+            Ok(())
+        }
+    }
+}
+
+/// The line that says how many blocks and runs there are, how many known ones beside them, and how many blocks the mapfile has.
+fn count_line(
+    alloc: Global,
+    group: Option<GroupSize>,
+    wanted: &[u32],
+    known: usize,
+    all: usize,
+) -> Result<String, AllocError>
+    ensures { IfOk result (λ text. string_bytes text ≡ domain_line group wanted.now known all) }
+{
+    let mut text = wanted_text(alloc, wanted)?;
+    push_known(&mut text, known)?;
+    push_all(&mut text, group, all)?;
+    text.push('\n')?;
+    Ok(text)
+}
+
+/// Prints that line.
 fn print_counts<O: Sink>(
     alloc: Global,
+    group: Option<GroupSize>,
     wanted: &[u32],
-    known: &[u32],
+    known: usize,
+    all: usize,
     out: &mut O,
 ) -> Result<(), Refusal>
-    ensures printed { OnOk result (Wrote (O.stream out.old) (O.stream out.new) (domain_line wanted.now known.now)) }
-    ensures refused { IfErr result (λ refusal. ((O.stream out.new ≡ O.stream out.old) × (refusal ≡ Refusal.Memory alloc_error)) ⊎ ((refusal ≡ Refusal.Output) × Failed (O.stream out.old) (O.stream out.new) (domain_line wanted.now known.now))) }
+    ensures printed { OnOk result (Wrote (O.stream out.old) (O.stream out.new) (domain_line group wanted.now known all)) }
+    ensures refused { IfErr result (λ refusal. ((O.stream out.new ≡ O.stream out.old) × (refusal ≡ Refusal.Memory alloc_error)) ⊎ ((refusal ≡ Refusal.Output) × Failed (O.stream out.old) (O.stream out.new) (domain_line group wanted.now known all))) }
 {
-    let text = match count_line(alloc, wanted, known) {
+    let text = match count_line(alloc, group, wanted, known, all) {
         Ok(text) => text,
         Err(AllocError) => return Err(Refusal::Memory(AllocError)),
     };
@@ -130,6 +148,7 @@ fn print_counts<O: Sink>(
 fn put_domain<F: Files, O: Sink>(
     alloc: Global,
     asked: &Asked,
+    group: Option<GroupSize>,
     last: u32,
     path: &str,
     files: &mut F,
@@ -137,11 +156,13 @@ fn put_domain<F: Files, O: Sink>(
 ) -> Result<(), Refusal>
     requires rises { IsNonDecreasing asked.now.blocks.items }
     requires in_range { last ≤ 4194303 }
-    ensures puts { PutsAs ⟦<F as Known>⟧.reach (λ said bytes. (bytes ≡ domain_text asked.now.blocks.items last) × Wrote (O.stream out.old) (O.stream out.new) (domain_line asked.now.wanted.items asked.now.known.items)) path.now files.old files.new result }
-    ensures why { IfErr result (λ refusal. ((O.stream out.new ≡ O.stream out.old) × (refusal ≡ Refusal.Memory alloc_error)) ⊎ ((refusal ≡ Refusal.Output) × Failed (O.stream out.old) (O.stream out.new) (domain_line asked.now.wanted.items asked.now.known.items)) ⊎
-        (Wrote (O.stream out.old) (O.stream out.new) (domain_line asked.now.wanted.items asked.now.known.items) × IsUnput (PutFails ⟦<F as Known>⟧.reach path.now files.old) refusal)) }
+    ensures puts { PutsAs ⟦<F as Known>⟧.reach (λ said bytes. (bytes ≡ domain_text asked.now.blocks.items last) × Wrote (O.stream out.old) (O.stream out.new) (domain_line group asked.now.wanted.items (length asked.now.known.items) (length asked.now.blocks.items))) path.now files.old files.new result }
+    ensures why { IfErr result (λ refusal. ((O.stream out.new ≡ O.stream out.old) × (refusal ≡ Refusal.Memory alloc_error)) ⊎ ((refusal ≡ Refusal.Output) × Failed (O.stream out.old) (O.stream out.new) (domain_line group asked.now.wanted.items (length asked.now.known.items) (length asked.now.blocks.items))) ⊎
+        (Wrote (O.stream out.old) (O.stream out.new) (domain_line group asked.now.wanted.items (length asked.now.known.items) (length asked.now.blocks.items)) × IsUnput (PutFails ⟦<F as Known>⟧.reach path.now files.old) refusal)) }
 {
-    match print_counts(alloc, &asked.wanted, &asked.known, out) {
+    let known = asked.known.len();
+    let all = asked.blocks.len();
+    match print_counts(alloc, group, &asked.wanted, known, all, out) {
         Ok(()) => {}
         Err(refusal) => return Err(refusal),
     }
@@ -155,33 +176,32 @@ fn put_domain<F: Files, O: Sink>(
     }
 }
 
-/// Puts the mapfile of the blocks of a table's volume that are worth reading again by the rules of a profile at a path, and prints how many they are. Where
-/// `compares` is set and some are, known blocks are asked for beside them, by which a pass of another disc shows. It returns whether there are files and all of
-/// them are whole.
+/// Puts the mapfile of the blocks of a table's volume that are worth reading again at a path, or of whole groups of them, and prints how many they are. Where
+/// the request asks for it and some are, known blocks are wanted beside them, by which a pass of another disc shows. It returns whether there are files and
+/// all of them are whole.
 #[tactic(auto, using(crate::proofs::RereadingLemmas::in_range, crate::proofs::RereadingLemmas::from_range))]
 fn map_of<F: Files, O: Sink>(
     alloc: Global,
     table: &BlockTable,
     last: u32,
-    profile: Profile,
-    compares: bool,
+    request: &RereadRequest<'_>,
     path: &str,
     files: &mut F,
     out: &mut O,
 ) -> Result<bool, Refusal>
-    ensures puts { PutsAs ⟦<F as Known>⟧.reach (λ whole bytes. IsMapOf compares profile last (O.stream out.old) (O.stream out.new) whole bytes table.now) path.now files.old files.new result }
-    ensures why { IfErr result (λ refusal. IsRefusedDomain (PutFails ⟦<F as Known>⟧.reach path.now files.old) compares profile last (O.stream out.old) (O.stream out.new) refusal table.now) }
+    ensures puts { PutsAs ⟦<F as Known>⟧.reach (λ whole bytes. IsMapOf request.now last (O.stream out.old) (O.stream out.new) whole bytes table.now) path.now files.old files.new result }
+    ensures why { IfErr result (λ refusal. IsRefusedDomain (PutFails ⟦<F as Known>⟧.reach path.now files.old) request.now last (O.stream out.old) (O.stream out.new) refusal table.now) }
 {
     files.begin(Stage::Walking);
-    let listing = match listed(alloc, table, last, profile) {
+    let listing = match listed(alloc, table, last, request.volume.profile) {
         Ok(listing) => listing,
         Err(refusal) => return Err(refusal),
     };
-    let asked = match asked_in(alloc, table, last, &listing, compares) {
+    let asked = match asked_in(alloc, table, last, &listing, request) {
         Ok(asked) => asked,
         Err(refusal) => return Err(refusal),
     };
-    match put_domain(alloc, &asked, last, path, files, out) {
+    match put_domain(alloc, &asked, request.group, last, path, files, out) {
         Ok(()) => {}
         Err(refusal) => return Err(refusal),
     }
@@ -236,16 +256,7 @@ pub fn reread_map<F: Files, O: Sink>(
         Ok(disc) => disc,
         Err(refusal) => return Err(refusal),
     };
-    match map_of(
-        alloc,
-        &disc.table,
-        disc.last,
-        volume.profile,
-        request.witnesses,
-        path,
-        files,
-        out,
-    ) {
+    match map_of(alloc, &disc.table, disc.last, request, path, files, out) {
         Ok(whole) => Ok(whole),
         Err(refusal) => Err(refusal),
     }

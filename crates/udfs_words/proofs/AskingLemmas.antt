@@ -1,10 +1,11 @@
 -- One more input behind others, words that make no pair, and what is not given.
-use Rattle.std.proofs.Common.{◌≡◌, ◌<◌, ℕ, Bor, List, [], ◌∷◌, ◌++◌, Option, Some, None, true, false, is_some, unwrap_or, codes, length, map, option_and_then, option_map, slice_get, ap, refl, sym, ◌∙◌, arith}
+use Rattle.std.proofs.Common.{◌≡◌, ◌<◌, ℕ, Bor, List, [], ◌∷◌, ◌++◌, Option, Some, None, true, false, is_some, unwrap_or, codes, length, map, option_and_then, option_map, slice_get, MatchOption, ap, refl, subst, sym, ◌∙◌, arith}
 use Rattle.udfs_words.specs.declared.input_path.InputPath.{InputPath}
 use Rattle.clap.specs.Matches.{first_value, matched_of, one_text}
 use Rattle.clap.specs.Values.{read_as}
 use Rattle.clap.specs.declared.parser.matches.Found.{Found}
-use Rattle.udfs_words.specs.Asking.{Asked, IsNumber, asked_for, has_only, only_texts, pairs_of}
+use Rattle.udfs_words.specs.Sizes.{IsSize}
+use Rattle.udfs_words.specs.Asking.{Asked, IsGivenSize, asked_for, has_only, only_texts, pairs_of}
 
 pub one_more : (done : List InputPath) (x : InputPath) (later : List Asked) → map asked_for (done ++ x ∷ []) ++ later ≡ map asked_for done ++ asked_for x ∷ later
 one_more [] x later = refl
@@ -14,20 +15,6 @@ pub no_pair : (words : List (List ℕ)) → length words < 2 → pairs_of words 
 no_pair [] few = refl
 no_pair (w ∷ []) few = refl
 no_pair (w ∷ v ∷ words) few = absurd (omega (arith, few))
-
-no_value : {B C D : Type 0} (o : Option B) (f : B → C) (g : B → D) → option_map f o ≡ None → option_map g o ≡ None
-no_value None f g h = refl
-no_value (Some b) f g h = absurd (let b : ⊥ = cc in b)
-
-no_text : {A B C D : Type 0} (o : Option A) (v : A → Option B) (f : B → C) (g : A → B → D) → option_and_then (λ a. option_map f (v a)) o ≡ None → option_and_then (λ a. option_map (g a) (v a)) o ≡ None
-no_text None v f g h = refl
-no_text (Some a) v f g h = no_value (v a) f (g a) h
-
-pub no_number : (words : Found) (id : List ℕ) (number : ℕ) → None ≡ first_value words id → IsNumber words id number → ⊥
-no_number words id number none given =
-    let untold : one_text words id ≡ None = no_text (matched_of words id) (λ a. slice_get a.vals.items 0) (λ s. s.now) (λ a s. read_as a.reading s.now) (sym none) in
-    let told : Some given.0 ≡ None = sym given.1 ∙ untold in
-    let no : ⊥ = cc in no
 
 not_given : {A B : Type 0} (o : Option A) (f : A → B) (other : B) → is_some o ≡ false → unwrap_or (option_map f o) other ≡ other
 not_given None f other h = refl
@@ -42,3 +29,8 @@ pub paths_or : (given : Option (Bor (List (Bor (List ℕ))))) (other result : Bo
     → map (λ (p : Bor (List ℕ)). p.now) other.now ≡ others → result ≡ unwrap_or given other → map (λ (p : Bor (List ℕ)). p.now) result.now ≡ unwrap_or texts others
 paths_or None other result texts others given else is = ap (λ (s : Bor (List (Bor (List ℕ)))). map (λ (p : Bor (List ℕ)). p.now) s.now) is ∙ else ∙ ap (λ t. unwrap_or t others) given
 paths_or (Some s) other result texts others given else is = ap (λ (s : Bor (List (Bor (List ℕ)))). map (λ (p : Bor (List ℕ)). p.now) s.now) is ∙ ap (λ t. unwrap_or t others) given
+
+-- the size of the text that is given
+pub given_size : (words : Found) (text : List ℕ) (result : Option ℕ) → first_value words (codes "size") ≡ Some text → MatchOption result ((size : ℕ) → ¬ IsSize text size) (IsSize text) → MatchOption result ((size : ℕ) → ¬ IsGivenSize words size) (IsGivenSize words)
+given_size words text None e is = λ size given. is size (subst (λ (t : List ℕ). IsSize t size) (ap (λ (o : Option (List ℕ)). unwrap_or o text) (sym given.1 ∙ e)) given.2)
+given_size words text (Some size) e is = (text, e, is)

@@ -1,3 +1,5 @@
 pub mod AskingLemmas
 pub mod GrammarLemmas
+pub mod GroupLemmas
+pub mod SizeLemmas
 pub mod LineLemmas

@@ -1,5 +1,5 @@
 -- What a command has of its arguments, by the rows that the grammar makes of a line.
-use Rattle.std.proofs.Common.{◌≡◌, ◌+◌, ◌*◌, ◌<◌, ◌^◌, ap₂, arith, inl, inr, lit≤, ℕ, Bool, List, [], Option, None, Some, false, true, is_some, codes, option_map, unwrap_or, ap, refl, sym, ◌∙◌, subst, ◌&&◌, ◌||◌}
+use Rattle.std.proofs.Common.{◌≡◌, ◌+◌, ◌*◌, ◌<◌, ◌^◌, ap₂, arith, inl, inr, lit<, lit≤, ℕ, Bool, List, [], Option, None, Some, false, true, is_some, codes, option_map, unwrap_or, ap, refl, sym, ◌∙◌, subst, ◌&&◌, ◌||◌}
 use Rattle.std.proofs.lemmas.Bool.{false≢true}
 use Rattle.std.specs.Str.{bytes_eq}
 use Rattle.std.specs.Str.Parse.{IsNumeral, digits_value, without_leading_plus}
@@ -8,12 +8,15 @@ use Rattle.clap.specs.Matches.{first_value, matched_of, one_text, raw_values}
 use Rattle.clap.specs.declared.parser.matches.Found.{Found}
 use Rattle.clap.specs.declared.parser.matches.MatchedArg.{MatchedArg}
 use Rattle.clap.proofs.WalkLemmas.{first_value-rows, one_text-rows, raw_values-rows}
-use Rattle.udfs_words.specs.Asking.{IsKnownProfile, IsLastOfSize, IsOneEnd, IsPicked, IsToldLast, are_two_streams, input_texts, is_twice, list_texts, names_stream, takes_streams}
+use Rattle.udfs_words.specs.Asking.{IsGoodGroup, IsGroup, IsKnownProfile, IsLastOfSize, IsOneEnd, IsPicked, IsToldLast, are_two_streams, input_texts, is_mapped, is_twice, list_texts, names_stream, number_of, takes_streams}
 use Rattle.udfs_words.specs.Grammar.{program_app}
 use Rattle.udfs_words.specs.Requests.{IsLastSource, optional_text}
+use Rattle.udfs_words.specs.declared.group.GroupSize.{GroupSize}
 use Rattle.udfs_words.specs.declared.request.LastSource.{LastSource}
 use Rattle.udfs_words.specs.declared.request.LastSource.TheVariants.{Block, OfMaps}
 use Rattle.udfs_words.specs.Obeying.{IsAsked, given_in}
+use Rattle.udfs_words.specs.Sizes.{IsSize}
+use Rattle.udfs_words.proofs.SizeLemmas.{one_size_of}
 
 same : {A : Type 0} (a b : A) → Some a ≡ Some b → a ≡ b
 same a b e = ap (λ (o : Option _). unwrap_or o a) e
@@ -48,12 +51,23 @@ pub is_picked : {A : Type 0} (words : Found) (flag : Text) (given absent picked 
 is_picked words flag given absent picked is e = is.with_flag e
 
 -- no size is given
-pub no_size : (words : Found) → one_text words (codes "size") ≡ None → IsOneEnd words
-no_size words none size given = let z : Some given.0 ≡ None = sym given.1 ∙ none in absurd (let never : ⊥ = cc in never)
+pub no_size : (words : Found) → first_value words (codes "size") ≡ None → IsOneEnd words
+no_size words none text given = let z : Some text ≡ None = sym given ∙ none in absurd (let never : ⊥ = cc in never)
 
 -- no rules are named
 pub no_profile : (words : Found) → first_value words (codes "profile") ≡ None → IsKnownProfile words
 no_profile words none name given = let z : Some name ≡ None = sym given ∙ none in absurd (let never : ⊥ = cc in never)
+
+-- nor groups
+pub no_group : (words : Found) → first_value words (codes "group") ≡ None → IsGoodGroup words
+no_group words none number given = let z : Some number ≡ None = sym given ∙ none in absurd (let never : ⊥ = cc in never)
+
+-- the number of a size of groups, beside a mapfile
+pub good_group : (words : Found) (size : GroupSize) → first_value words (codes "group") ≡ Some (number_of size) → is_mapped words ≡ true → IsGoodGroup words
+good_group words size is mapped number given = ((size, same _ _ (sym given ∙ is)), mapped)
+
+pub group_is : (words : Found) (group : Option GroupSize) (size : GroupSize) → IsGroup words group → first_value words (codes "group") ≡ Some (number_of size) → group ≡ Some size
+group_is words group size is e = (is size).1 e
 
 abbrev pub two : Text → List Text → List Text → Bool
 two name inputs lists = takes_streams name && (is_twice inputs || is_twice lists || (names_stream inputs && names_stream lists))
@@ -73,9 +87,8 @@ last_is words (Block m) text n is e given numeral value low = go is.1
 last_is words OfMaps text n is e given numeral value low = absurd (false≢true (sym is.0 ∙ given))
 
 -- the block before the end of a disc of the size that is given
-pub size_is : (words : Found) (source : LastSource) (text : Text) (n : ℕ) → IsLastSource words source → one_text words (codes "last") ≡ None → one_text words (codes "size") ≡ Some text → is_some (matched_of words (codes "size")) ≡ true
-    → IsNumeral 10 (without_leading_plus text) → digits_value 10 (without_leading_plus text) ≡ 2048 * (n + 1) → n < 2 ^ 32 → source ≡ Block n
-size_is words (Block m) text n is none e given numeral value low = go is.1
+pub size_is : (words : Found) (source : LastSource) (text : Text) (n : ℕ) → IsLastSource words source → one_text words (codes "last") ≡ None → first_value words (codes "size") ≡ Some text → is_some (matched_of words (codes "size")) ≡ true → IsSize text (2048 * (n + 1)) → n < 2 ^ 32 → source ≡ Block n
+size_is words (Block m) text n is none e given sized low = go is.1
   where
     block : (size : ℕ) → size ≡ 2048 * (n + 1) → IsLastOfSize size m → m ≡ n
     block size at (inl ends) = omega (arith, at, ends)
@@ -85,15 +98,13 @@ size_is words (Block m) text n is none e given numeral value low = go is.1
 
     go : IsToldLast words m → Block m ≡ Block n
     go (inl told) = let z : Some told.0 ≡ None = sym told.1 ∙ none in absurd (let never : ⊥ = cc in never)
-    go (inr (untold, inl sized)) = ap Block (block sized.0 (sym sized.1.2 ∙ ap (λ (t : Text). digits_value 10 (without_leading_plus t)) (same _ _ (sym sized.1.1 ∙ e)) ∙ value) sized.2)
-    go (inr (untold, inr unsized)) = absurd (unsized.0 text e (numeral, subst (λ (k : ℕ). k < 2 ^ 64) (sym value) (omega (arith, low))))
-size_is words OfMaps text n is none e given numeral value low = absurd (false≢true (sym is.1 ∙ given))
+    go (inr (untold, inl (size, (other, also, is), ends))) = ap Block (block size (one_size_of text size (2048 * (n + 1)) (subst (λ (t : Text). IsSize t size) (same _ _ (sym also ∙ e)) is) sized) ends)
+    go (inr (untold, inr (unsized, _))) = absurd (unsized (2048 * (n + 1)) (text, e, sized))
+size_is words OfMaps text n is none e given sized low = absurd (false≢true (sym is.1 ∙ given))
 
 -- a size of whole blocks alone
-pub one_size : (words : Found) (text : Text) (n : ℕ) → one_text words (codes "size") ≡ Some text → digits_value 10 (without_leading_plus text) ≡ 2048 * (n + 1) → is_some (matched_of words (codes "last")) ≡ false → IsOneEnd words
-one_size words text n e value none size given =
-    let at : size ≡ 2048 * (n + 1) = sym given.2 ∙ ap (λ (t : Text). digits_value 10 (without_leading_plus t)) (same _ _ (sym given.1 ∙ e)) ∙ value in
-    (none, (λ nothing. omega (arith, at, nothing)), omega (arith, at))
+pub one_size : (words : Found) (text : Text) (n : ℕ) → first_value words (codes "size") ≡ Some text → IsSize text (2048 * (n + 1)) → is_some (matched_of words (codes "last")) ≡ false → IsOneEnd words
+one_size words text n e sized none other given = (none, (2048 * (n + 1), subst (λ (t : Text). IsSize t (2048 * (n + 1))) (same _ _ (sym e ∙ given)) sized, (λ nothing. omega (arith, nothing)), omega arith))
 
 -- a size that is the end of nothing, where neither is given
 pub of_maps : (words : Found) (source : LastSource) → IsLastSource words source → is_some (matched_of words (codes "last")) ≡ false → is_some (matched_of words (codes "size")) ≡ false → source ≡ OfMaps
@@ -123,5 +134,5 @@ wide_is_known words e name given = inr (same _ _ (sym given ∙ e))
 pub thousand : IsNumeral 10 (without_leading_plus (codes "1000")) × (digits_value 10 (without_leading_plus (codes "1000")) ≡ 1000)
 thousand = ((lit≤ tt, (lit≤ tt, (lit≤ tt, (lit≤ tt, (lit≤ tt, tt))))), refl)
 
-pub two_millions : IsNumeral 10 (without_leading_plus (codes "2050048")) × (digits_value 10 (without_leading_plus (codes "2050048")) ≡ 2048 * (1000 + 1))
-two_millions = ((lit≤ tt, (lit≤ tt, (lit≤ tt, (lit≤ tt, (lit≤ tt, (lit≤ tt, (lit≤ tt, (lit≤ tt, tt)))))))), refl)
+pub thousand_and_one : IsSize (codes "1001s") (2048 * (1000 + 1))
+thousand_and_one = inr (inl (record { number = codes "1001"; is = refl; numeral = (lit≤ tt, (lit≤ tt, (lit≤ tt, (lit≤ tt, (lit≤ tt, tt))))); value = refl; small = lit< tt }))

@@ -8,6 +8,10 @@
 --     list_texts words                            the paths of the lists of blocks, in order
 --     out_text words                              the path of the output
 --     is_mapped words, mapfile_text words         a mapfile is asked for, and its path
+--     blocks_in size, number_of size              how many blocks a group of this size has, and their number as it is given
+--     IsGoodGroup words                           a group that is given has a size, and a mapfile is asked for
+--     IsGroupFault words fault                    what is wrong with it
+--     IsGroup words group                         the size of the group that is given
 --     folder_text words                           the path of the new folder
 --     IsKnownProfile words                        the value of `--profile`, if one is given, names a profile
 --     IsUnknownProfile words name                 this is the value of `--profile`, and it names no profile
@@ -20,9 +24,9 @@
 --     EndsMap end bytes                           these bytes are a mapfile whose runs end here
 --     MapsEndAt found end inputs                  all inputs are images whose mapfiles end here
 --     IsLastOfSize size last                      the last block of a disc of this size; or 0, for which there is no report, where no disc has it
---     IsToldLast words last                       the last block as given, or else `IsLastOfSize` of the size given; or 0, where neither is a number
+--     IsToldLast words last                       the last block as given, or else `IsLastOfSize` of the size given; or 0, where there is neither
 --     IsLast found inputs words last              the same, or where neither is given the block with which all mapfiles end
-use Rattle.std.specs.Prelude.{◌≡◌, ◌≢◌, ◌⊎◌, ℕ, ◌+◌, ◌*◌, ◌%◌, ◌^◌, ◌<◌, ◌&&◌, ◌||◌, Bool, false, is_some, List, [], ◌∷◌, ◌++◌, All, Option, Some, None, IfSome, Ok, codes, map, option_map, unwrap_or, if◌then◌else◌, true}
+use Rattle.std.specs.Prelude.{◌≡◌, ◌≢◌, ◌⊎◌, ◌↔◌, ℕ, ◌+◌, ◌*◌, ◌%◌, ◌^◌, ◌<◌, ◌&&◌, ◌||◌, Bool, false, is_some, List, [], ◌∷◌, ◌++◌, All, Option, Some, None, IfSome, Ok, codes, map, option_map, unwrap_or, if◌then◌else◌, true}
 use Rattle.std.specs.Str.{bytes_eq}
 use Rattle.clap.specs.Matches.{matched_of, first_value, one_text, raw_values}
 use Rattle.clap.specs.declared.parser.matches.Found.{Found}
@@ -32,10 +36,15 @@ use Rattle.std.specs.Str.Parse.{IsNumeral, digits_value, without_leading_plus}
 use Rattle.udfs_rescue.specs.declared.run.Run.{Run}
 use Rattle.udfs_rescue.specs.Lines.{outcome}
 use Rattle.udfs_rescue.specs.Runs.{end_of_runs}
+use Rattle.udfs_words.specs.declared.group.GroupFault.{GroupFault}
+use Rattle.udfs_words.specs.declared.group.GroupFault.TheVariants as grouping
+use Rattle.udfs_words.specs.declared.group.GroupSize.{GroupSize}
+use Rattle.udfs_words.specs.declared.group.GroupSize.TheVariants.{Two, Four, Eight, Sixteen, ThirtyTwo}
 use Rattle.udfs_words.specs.declared.input_path.InputPath.{InputPath}
 use Rattle.udfs_words.specs.declared.input_path.InputPath.TheVariants as path
 use Rattle.udfs_words.specs.declared.last.EndFault.{EndFault}
 use Rattle.udfs_words.specs.declared.last.EndFault.TheVariants as fault
+use Rattle.udfs_words.specs.Sizes.{IsSize}
 
 -- clap reads a flag as `true` or `false`, and a flag that it does not know as nothing
 pub record IsPicked {A : Type 0} (words : Found) (flag : List ℕ) (given absent picked : A) : Type 0 where
@@ -113,6 +122,35 @@ is_mapped words = is_some (matched_of words (codes "mapfile"))
 abbrev pub mapfile_text : Found → List ℕ
 mapfile_text words = unwrap_or (first_value words (codes "mapfile")) []
 
+-- how many blocks a group of this size has
+abbrev pub blocks_in : GroupSize → ℕ
+blocks_in Two = 2
+blocks_in Four = 4
+blocks_in Eight = 8
+blocks_in Sixteen = 16
+blocks_in ThirtyTwo = 32
+
+-- their number, as it is given
+abbrev pub number_of : GroupSize → List ℕ
+number_of Two = codes "2"
+number_of Four = codes "4"
+number_of Eight = codes "8"
+number_of Sixteen = codes "16"
+number_of ThirtyTwo = codes "32"
+
+-- the number of a group that is given is that of one of these sizes, and a mapfile is asked for
+abbrev pub IsGoodGroup : Found → Type 0
+IsGoodGroup words = (number : List ℕ) → first_value words (codes "group") ≡ Some number → ((size : GroupSize) × (number ≡ number_of size)) × (is_mapped words ≡ true)
+
+-- the number that is given is that of no size, or there is one and no mapfile
+abbrev pub IsGroupFault : Found → GroupFault → Type 0
+IsGroupFault words (grouping.Size number) = (first_value words (codes "group") ≡ Some number.now) × ((size : GroupSize) → number.now ≢ number_of size)
+IsGroupFault words grouping.NoMapfile = (is_some (first_value words (codes "group")) ≡ true) × (is_mapped words ≡ false)
+
+-- a group has the size whose number is given
+abbrev pub IsGroup : Found → Option GroupSize → Type 0
+IsGroup words group = (size : GroupSize) → (group ≡ Some size) ↔ (first_value words (codes "group") ≡ Some (number_of size))
+
 -- what was given as the new folder, a path
 abbrev pub folder_text : Found → List ℕ
 folder_text words = unwrap_or (first_value words (codes "to")) []
@@ -159,19 +197,23 @@ lost_text words = unwrap_or (first_value words (codes "unnamed")) []
 abbrev pub IsNumber : Found → List ℕ → ℕ → Type 0
 IsNumber words id number = (text : List ℕ) × (one_text words id ≡ Some text) × (digits_value 10 (without_leading_plus text) ≡ number)
 
--- nothing was given as this that is a number of this many bits, in decimal
-abbrev pub IsNoNumber : Found → List ℕ → ℕ → Type 0
-IsNoNumber words id bits = (text : List ℕ) → one_text words id ≡ Some text → ¬ (IsNumeral 10 (without_leading_plus text) × (digits_value 10 (without_leading_plus text) < 2 ^ bits))
+-- nothing was given as this that is a number of 32 bits, in decimal
+abbrev pub IsNoNumber : Found → List ℕ → Type 0
+IsNoNumber words id = (text : List ℕ) → one_text words id ≡ Some text → ¬ (IsNumeral 10 (without_leading_plus text) × (digits_value 10 (without_leading_plus text) < 2 ^ 32))
+
+-- what was given as the size is this size
+abbrev pub IsGivenSize : Found → ℕ → Type 0
+IsGivenSize words size = (text : List ℕ) × (first_value words (codes "size") ≡ Some text) × IsSize text size
 
 -- a size that was given is that of whole blocks, and no last block was given beside it
 abbrev pub IsOneEnd : Found → Type 0
-IsOneEnd words = (size : ℕ) → IsNumber words (codes "size") size → (is_some (matched_of words (codes "last")) ≡ false) × (size ≢ 0) × (size % 2048 ≡ 0)
+IsOneEnd words = (text : List ℕ) → first_value words (codes "size") ≡ Some text → (is_some (matched_of words (codes "last")) ≡ false) × ((size : ℕ) × IsSize text size × (size ≢ 0) × (size % 2048 ≡ 0))
 
--- a last block and a size were given; or a size alone that is that of no disc of whole blocks, and the fault names it
+-- a last block and a size were given; or a size alone, which the fault names: one that is that of no disc of whole blocks, or what is no size
 abbrev pub IsEndFault : Found → EndFault → Type 0
 IsEndFault words fault.Both = (is_some (first_value words (codes "size")) ≡ true) × (is_some (matched_of words (codes "last")) ≡ true)
-IsEndFault words (fault.Size text) = (first_value words (codes "size") ≡ Some text.now) × (is_some (matched_of words (codes "last")) ≡ false) ×
-    (IsNoNumber words (codes "size") 64 ⊎ ((size : ℕ) × IsNumber words (codes "size") size × ((size ≡ 0) ⊎ (size % 2048 ≢ 0))))
+IsEndFault words (fault.Size text) = (first_value words (codes "size") ≡ Some text.now) × (is_some (matched_of words (codes "last")) ≡ false) × ((size : ℕ) × IsSize text.now size × ((size ≡ 0) ⊎ (size % 2048 ≢ 0)))
+IsEndFault words (fault.NoSize text) = (first_value words (codes "size") ≡ Some text.now) × (is_some (matched_of words (codes "last")) ≡ false) × ((size : ℕ) → ¬ IsSize text.now size)
 
 -- these bytes are a mapfile whose last run ends here
 abbrev pub EndsMap : ℕ → List ℕ → Type 0
@@ -194,9 +236,9 @@ IsNoSize size = (size ≡ 0) ⊎ (size % 2048 ≢ 0) ⊎ (2048 * 2 ^ 32 < size)
 abbrev pub IsLastOfSize : ℕ → ℕ → Type 0
 IsLastOfSize size last = (size ≡ 2048 * (last + 1)) ⊎ ((last ≡ 0) × IsNoSize size)
 
--- what was given as the last block; or else the block with which a disc of the size that was given ends; or 0 where neither is a number
+-- what was given as the last block; or else the block with which a disc of the size that was given ends; or 0 where there is neither
 abbrev pub IsToldLast : Found → ℕ → Type 0
-IsToldLast words last = IsNumber words (codes "last") last ⊎ (IsNoNumber words (codes "last") 32 × (((size : ℕ) × IsNumber words (codes "size") size × IsLastOfSize size last) ⊎ (IsNoNumber words (codes "size") 64 × (last ≡ 0))))
+IsToldLast words last = IsNumber words (codes "last") last ⊎ (IsNoNumber words (codes "last") × (((size : ℕ) × IsGivenSize words size × IsLastOfSize size last) ⊎ (((size : ℕ) → ¬ IsGivenSize words size) × (last ≡ 0))))
 
 -- neither was given; there are inputs, and all are images whose mapfiles end with this block
 pub record IsLastOfMaps (found : List ℕ → Option (Option (List ℕ))) (inputs : List InputPath) (words : Found) (last : ℕ) : Type 0 where

@@ -2,7 +2,7 @@
 use Rattle.std.specs.Prelude.{ℕ, Bool, true, false, not, Some, codes, pos}
 use Rattle.clap.specs.Words.{App, Rule, Text, new_app, new_rule, with_rule, with_subcommand}
 use Rattle.clap.specs.declared.builder.ArgAction.TheVariants.{Append, Set, SetTrue}
-use Rattle.clap.specs.declared.builder.ValueParser.TheVariants.{Signed, Unsigned}
+use Rattle.clap.specs.declared.builder.ValueParser.TheVariants.{Signed}
 use Rattle.udfs_words.specs.declared.words.Given.{Given}
 
 -- a flag
@@ -25,13 +25,17 @@ option_rule name required = record (value_rule name) { required = required }
 abbrev pub last_rule : Bool → Rule
 last_rule needed = record (option_rule (codes "last") needed) { parser = Some (Signed (pos 0) (pos 4294967295)) }
 
--- `--size BYTES`, a number of 64 bits
+-- `--size BYTES`
 abbrev pub size_rule : Rule
-size_rule = record (option_rule (codes "size") false) { parser = Some (Unsigned 0 18446744073709551615) }
+size_rule = option_rule (codes "size") false
 
 -- `--mapfile FILE`
 abbrev pub mapfile_rule : Rule
 mapfile_rule = option_rule (codes "mapfile") false
+
+-- `--group G`
+abbrev pub group_rule : Rule
+group_rule = option_rule (codes "group") false
 
 -- `--profile PROFILE`
 abbrev pub profile_rule : Rule
@@ -73,9 +77,9 @@ with_profile name size = with_rule (with_last name size) profile_rule
 abbrev pub report_app : Given → App
 report_app given = with_inputs (with_rule (with_rule (with_profile (codes "report") given.needs_last) (flag_rule (codes "json"))) (flag_rule (codes "force"))) given.pairs
 
--- `reread (--last N | --size BYTES) [--profile PROFILE] [--mapfile FILE] [--no-witnesses] [--force] IN...`
+-- `reread (--last N | --size BYTES) [--profile PROFILE] [--mapfile FILE] [--group G] [--no-witnesses] [--force] IN...`
 abbrev pub reread_app : Given → App
-reread_app given = with_inputs (with_rule (with_rule (with_rule (with_profile (codes "reread") given.needs_last) mapfile_rule) (flag_rule (codes "no-witnesses"))) (flag_rule (codes "force"))) given.pairs
+reread_app given = with_inputs (with_rule (with_rule (with_rule (with_rule (with_profile (codes "reread") given.needs_last) mapfile_rule) group_rule) (flag_rule (codes "no-witnesses"))) (flag_rule (codes "force"))) given.pairs
 
 -- `--only PATH`, any number of times
 abbrev pub only_rule : Rule

@@ -3,3 +3,4 @@ pub mod Grammar
 pub mod Obeying
 pub mod Requests
 pub mod Lines
+pub mod Sizes

@@ -5,11 +5,12 @@ use Rattle.clap.specs.Words.{Text}
 use Rattle.clap.specs.declared.parser.matches.Found.{Found}
 use Rattle.udfs_volume.specs.declared.profiles.Profile.{Profile}
 use Rattle.udfs_volume.specs.declared.profiles.Profile.TheVariants.{Strict, Wide}
-use Rattle.udfs_words.specs.Asking.{IsKnownProfile, IsOneEnd, are_two_streams}
+use Rattle.udfs_words.specs.Asking.{IsGoodGroup, IsKnownProfile, IsOneEnd, are_two_streams}
 use Rattle.udfs_words.specs.Obeying.{Asks, GrammarTakes, IsAsked}
 use Rattle.udfs_words.specs.Requests.{Asked, texts}
 use Rattle.udfs_words.specs.declared.forms.Form.TheVariants.{Json}
 use Rattle.udfs_words.specs.declared.forms.Version.TheVariants.{One}
+use Rattle.udfs_words.specs.declared.group.GroupSize.TheVariants.{Sixteen}
 use Rattle.udfs_words.specs.declared.request.Inputs.{Inputs}
 use Rattle.udfs_words.specs.declared.request.LastSource.{LastSource}
 use Rattle.udfs_words.specs.declared.request.LastSource.TheVariants.{Block, OfMaps}
@@ -17,11 +18,11 @@ use Rattle.udfs_words.specs.declared.request.VolumeSource.{VolumeSource}
 use Rattle.udfs_words.specs.declared.request.Request.{Request}
 use Rattle.udfs_words.specs.declared.request.Request.TheVariants as request
 
--- the grammar takes the line; it names this command; a last block and a size are not both given, nor a size that is not that of whole blocks, nor rules that there are not, nor standard input twice; and each request that it asks for is such a one
+-- the grammar takes the line; it names this command; a last block and a size are not both given, nor a size that is not that of whole blocks, nor rules that there are not, nor standard input twice, nor groups without a size or a mapfile; and each request that it asks for is such a one
 pub record IsLine (name : Text) (line : List Text) (Is : Request → Type 0) : Type 0 where
   pub takes : GrammarTakes line
   pub names : Asks line name
-  pub lawful : (words : Found) → IsAsked line name words → IsOneEnd words × IsKnownProfile words × (are_two_streams name words ≡ false)
+  pub lawful : (words : Found) → IsAsked line name words → IsOneEnd words × IsKnownProfile words × (are_two_streams name words ≡ false) × IsGoodGroup words
   pub is : (request : Request) → Asked line request → Is request
 
 -- the inputs are these files and these images with their mapfiles
@@ -68,18 +69,18 @@ abbrev pub IsSomeReport : Request → Type 0
 IsSomeReport (request.Report r) = Reads r.volume (codes "all.tab") (Block 1000) Strict × (r.form ≡ Json)
 IsSomeReport _ = ⊥
 
--- `udfsalvage reread --last 1000 --mapfile again.map all.tab`
+-- `udfsalvage reread --last 1000 --mapfile again.map --group 16 all.tab`
 abbrev pub reread_line : List Text
-reread_line = codes "udfsalvage" ∷ codes "reread" ∷ codes "--last" ∷ codes "1000" ∷ codes "--mapfile" ∷ codes "again.map" ∷ codes "all.tab" ∷ []
+reread_line = codes "udfsalvage" ∷ codes "reread" ∷ codes "--last" ∷ codes "1000" ∷ codes "--mapfile" ∷ codes "again.map" ∷ codes "--group" ∷ codes "16" ∷ codes "all.tab" ∷ []
 
--- into a mapfile, with known blocks
+-- into a mapfile, in groups of 16, with known blocks
 abbrev pub IsSomeReread : Request → Type 0
-IsSomeReread (request.Reread r) = Reads r.volume (codes "all.tab") (Block 1000) Strict × (option_map (λ path. path.now) r.mapfile ≡ Some (codes "again.map")) × (r.witnesses ≡ true)
+IsSomeReread (request.Reread r) = Reads r.volume (codes "all.tab") (Block 1000) Strict × (option_map (λ path. path.now) r.mapfile ≡ Some (codes "again.map")) × (r.group ≡ Some Sixteen) × (r.witnesses ≡ true)
 IsSomeReread _ = ⊥
 
--- `udfsalvage list --size 2050048 --torn --paths -`
+-- `udfsalvage list --size 1001s --torn --paths -`
 abbrev pub list_line : List Text
-list_line = codes "udfsalvage" ∷ codes "list" ∷ codes "--size" ∷ codes "2050048" ∷ codes "--torn" ∷ codes "--paths" ∷ codes "-" ∷ []
+list_line = codes "udfsalvage" ∷ codes "list" ∷ codes "--size" ∷ codes "1001s" ∷ codes "--torn" ∷ codes "--paths" ∷ codes "-" ∷ []
 
 -- the paths of what is not whole, of 1001 blocks that standard input has
 abbrev pub IsSomeList : Request → Type 0

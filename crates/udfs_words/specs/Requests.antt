@@ -16,7 +16,7 @@ use Rattle.std.specs.Str.{bytes_eq}
 use Rattle.std.specs.Borrow.{Bor}
 use Rattle.clap.specs.Matches.{first_value, matched_of}
 use Rattle.clap.specs.declared.parser.matches.Found.{Found}
-use Rattle.udfs_words.specs.Asking.{IsEndFault, IsKnownProfile, IsOneEnd, IsPicked, IsProfile, IsToldLast, IsUnknownProfile, are_two_streams, asked_for, folder_text, input_texts, list_texts, mapfile_text, only_texts, out_text, pair_texts, pairs_of, stream_path}
+use Rattle.udfs_words.specs.Asking.{IsEndFault, IsGoodGroup, IsGroup, IsGroupFault, IsKnownProfile, IsOneEnd, IsPicked, IsProfile, IsToldLast, IsUnknownProfile, are_two_streams, asked_for, folder_text, input_texts, list_texts, mapfile_text, only_texts, out_text, pair_texts, pairs_of, stream_path}
 use Rattle.udfs_words.specs.Asking.Asked.{AskedFile}
 use Rattle.udfs_words.specs.Obeying.{IsAsked}
 use Rattle.udfs_words.specs.declared.forms.Form.TheVariants.{Json, Text}
@@ -111,6 +111,7 @@ pub record IsReport (words : Found) (request : ReportRequest) : Type 0 where
 pub record IsReread (words : Found) (request : RereadRequest) : Type 0 where
   pub volume : IsVolumeSource (input_texts words) words request.volume
   pub mapfile : option_map (λ path. path.now) request.mapfile ≡ optional_text words (codes "mapfile")
+  pub group : IsGroup words request.group
   pub witnesses : IsPicked words (codes "no-witnesses") false true request.witnesses
 
 -- the arguments of `list`
@@ -152,11 +153,12 @@ IsRequest name words (request.Summary r) = (name ≡ codes "summary") × IsSumma
 IsRequest name words (request.Page r) = (name ≡ codes "page") × IsPage words r
 IsRequest name words (request.Extract r) = (name ≡ codes "extract") × IsExtract words r
 
--- a last block and a size are not both given, nor a size that is not that of whole blocks; rules that are named are known; standard input is taken once
+-- a last block and a size are not both given, nor a size that is not that of whole blocks; rules that are named are known; groups have a size, and a mapfile; standard input is taken once
 pub record Reads (name : List ℕ) (words : Found) (request : Request) : Type 0 where
   pub is : IsRequest name words request
   pub one_end : IsOneEnd words
   pub known_profile : IsKnownProfile words
+  pub good_group : IsGoodGroup words
   pub one_stream : are_two_streams name words ≡ false
 
 -- there is a command of this name
@@ -167,6 +169,7 @@ IsCommandName name = (name ≡ codes "merge") ⊎ (name ≡ codes "forget") ⊎ 
 abbrev pub IsUsageFault : List ℕ → Found → UsageFault → Type 0
 IsUsageFault name words (fault.End wrong) = IsEndFault words wrong
 IsUsageFault name words (fault.Profile named) = IsUnknownProfile words named.now
+IsUsageFault name words (fault.Group wrong) = IsGroupFault words wrong
 IsUsageFault name words fault.TwoStreams = are_two_streams name words ≡ true
 IsUsageFault name words fault.NoCommand = ¬ IsCommandName name
 IsUsageFault name words fault.OutOfMemory = Unit {0}

@@ -2,11 +2,11 @@
 
 ghost use Rattle.std.specs.Prelude.{◌≡◌, false, codes};
 ghost use Rattle.clap.specs.Words.{rule_of};
-ghost use Rattle.udfs_words.specs.Grammar.{blocks_rule, flag_rule, inputs_rule, last_rule, letter_rule, manifest_rule, mapfile_rule, only_rule, option_rule, out_rule, pairs_rule, profile_rule, size_rule, unnamed_rule, value_rule};
+ghost use Rattle.udfs_words.specs.Grammar.{blocks_rule, flag_rule, group_rule, inputs_rule, last_rule, letter_rule, manifest_rule, mapfile_rule, only_rule, option_rule, out_rule, pairs_rule, profile_rule, size_rule, unnamed_rule, value_rule};
 
 use crate::words::{
-    BLOCKS, FORCE, INPUTS, LAST, MANIFEST, MAPFILE, ONLY, OUT, PAIRS, PROFILE, QUIET, SIZE, TO,
-    UNNAMED, VERBOSE,
+    BLOCKS, FORCE, GROUP, INPUTS, LAST, MANIFEST, MAPFILE, ONLY, OUT, PAIRS, PROFILE, QUIET, SIZE,
+    TO, UNNAMED, VERBOSE,
 };
 use clap::{Arg, ArgAction, value_parser};
 use std::alloc::Global;
@@ -114,6 +114,19 @@ pub fn domain<'a>(alloc: Global) -> Arg<'a>
         MAPFILE,
         "FILE",
         "Write the blocks as a domain mapfile for ddrescue -m, and print how many they are",
+        false,
+    )
+}
+
+/// The size of the groups of blocks in the mapfile.
+pub fn group<'a>(alloc: Global) -> Arg<'a>
+    ensures { (rule_of result ≡ group_rule) × (result.global ≡ false) }
+{
+    option(
+        alloc,
+        GROUP,
+        "G",
+        "Complete the blocks of the mapfile to whole groups of G: 16 is what a DVD drive reads at once, 32 a packet of a CD-RW",
         false,
     )
 }
@@ -246,10 +259,9 @@ pub fn disc_size<'a>(alloc: Global) -> Arg<'a>
         alloc,
         SIZE,
         "BYTES",
-        "The size of the disc in bytes, in place of --last",
+        "The size of the disc, in place of --last: bytes, or with s after it blocks of 2048 bytes, with k, M or G powers of 1000, with Ki, Mi or Gi powers of 1024",
         false,
     )
-    .value_parser(value_parser!(u64))
 }
 
 /// Images with their mapfiles.

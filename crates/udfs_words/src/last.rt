@@ -1,9 +1,10 @@
 //! The last block of the volume, by its number or by the size of the disc.
 
-ghost use Rattle.std.specs.Prelude.{◌≡◌, ◌≢◌, ◌↔◌, ◌%◌, IsTrue, MatchOption};
+ghost use Rattle.std.specs.Prelude.{◌≡◌, ◌≢◌, ◌↔◌, ◌%◌, ℕ, IsTrue, MatchOption};
 ghost use Rattle.clap.specs.Matches.{found_of};
-ghost use Rattle.udfs_words.specs.Asking.{IsEndFault, IsLastOfSize, IsOneEnd, IsToldLast};
+ghost use Rattle.udfs_words.specs.Asking.{IsEndFault, IsGivenSize, IsLastOfSize, IsOneEnd, IsToldLast};
 
+use crate::sizes::size_in;
 use crate::words::{LAST, SIZE};
 use clap::ArgMatches;
 use std::fmt;
@@ -15,6 +16,8 @@ pub enum EndFault<'a> {
     Both,
     /// The size, as it was given, is 0 or no multiple of 2048.
     Size(&'a str),
+    /// What was given as the size is none.
+    NoSize(&'a str),
 }
 
 /// In the wording that clap uses for other arguments.
@@ -28,6 +31,10 @@ impl<'a> fmt::Display for EndFault<'a> {
                 f,
                 "invalid value '{size}' for '--size <BYTES>': no multiple of 2048 above 0"
             ),
+            EndFault::NoSize(text) => write!(
+                f,
+                "invalid value '{text}' for '--size <BYTES>': no number below 2^64, with nothing or s, k, M, G, Ki, Mi or Gi after it"
+            ),
         }
     }
 }
@@ -40,7 +47,6 @@ pub fn is_whole(size: u64) -> bool
 }
 
 /// What is wrong with the arguments that say where the disc ends.
-#[tactic(auto, using(crate::proofs::AskingLemmas::no_number))]
 pub fn end_fault<'a>(words: &ArgMatches<'a>) -> Option<EndFault<'a>>
     ensures { MatchOption result (IsOneEnd (found_of words.now)) (IsEndFault (found_of words.now)) }
 {
@@ -50,9 +56,10 @@ pub fn end_fault<'a>(words: &ArgMatches<'a>) -> Option<EndFault<'a>>
     if words.contains_id(LAST) {
         return Some(EndFault::Both);
     }
-    match words.get_one::<u64>(SIZE) {
+    match size_in(size) {
         Some(bytes) if is_whole(bytes) => None,
-        _ => Some(EndFault::Size(size)),
+        Some(_) => Some(EndFault::Size(size)),
+        None => Some(EndFault::NoSize(size)),
     }
 }
 
@@ -71,15 +78,25 @@ pub fn last_of_size(size: u64) -> u32
     last as u32
 }
 
-/// The number of the last block, as `--last` gives it, or else [`last_of_size`] of what `--size` gives. It is 0, for which there is no report, where neither
-/// is a number.
+/// The size of the disc in bytes, as `--size` gives it.
+fn asked_size(words: &ArgMatches<'_>) -> Option<u64>
+    ensures { MatchOption result ((size : ℕ) → ¬ IsGivenSize (found_of words.now) size) (IsGivenSize (found_of words.now)) }
+{
+    match words.get_str(SIZE) {
+        Some(size) => size_in(size),
+        None => None,
+    }
+}
+
+/// The number of the last block, as `--last` gives it, or else [`last_of_size`] of what `--size` gives. It is 0, for which there is no report, where there is
+/// neither.
 pub fn asked_last(words: &ArgMatches<'_>) -> u32
     ensures { IsToldLast (found_of words.now) result }
 {
     if let Some(last) = words.get_one::<u32>(LAST) {
         return last;
     }
-    match words.get_one::<u64>(SIZE) {
+    match asked_size(words) {
         Some(size) => last_of_size(size),
         None => 0,
     }

@@ -1,7 +1,8 @@
-//! Laws of the grammar, as contracts of functions that do nothing: of each command a line that it takes, and what the line asks for.
+//! Laws as contracts of functions that do nothing: of each command a line that it takes, and what the line asks for; and that a text is of one size.
 
 ghost use Rattle.std.specs.Prelude.{codes};
 ghost use Rattle.udfs_words.specs.Lines.{IsLine, IsSomeExtract, IsSomeForget, IsSomeImage, IsSomeList, IsSomeMerge, IsSomePage, IsSomeReport, IsSomeReread, IsSomeSummary, extract_line, forget_line, image_line, list_line, merge_line, page_line, report_line, reread_line, summary_line};
+ghost use Rattle.udfs_words.specs.Sizes.{HasOneSize};
 
 /// Two readings are to be joined into a table file of version 1.
 pub fn some_line_of_merge()
@@ -46,4 +47,9 @@ pub fn some_line_of_page()
 /// Two files or folders are to be written, torn ones too, with their times and a manifest.
 pub fn some_line_of_extract()
     ensures { IsLine (codes "extract") extract_line IsSomeExtract }
+{}
+
+/// What a text gives as a size is one number of bytes.
+pub fn a_text_has_one_size()
+    ensures { HasOneSize }
 {}

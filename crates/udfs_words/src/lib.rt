@@ -5,11 +5,13 @@
 mod arguments;
 pub mod asking;
 pub mod forms;
+pub mod group;
 pub mod input_path;
 pub mod last;
 pub mod laws;
 pub mod profile;
 pub mod reading;
 pub mod request;
+pub mod sizes;
 pub mod streams;
 pub mod words;

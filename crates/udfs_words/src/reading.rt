@@ -9,6 +9,7 @@ use crate::asking::{
     asked_conflicts, asked_folder, asked_force, asked_form, asked_inputs, asked_mapfile, asked_out,
     asked_streams, asked_version, asked_witnesses, is_set, stream_path,
 };
+use crate::group::{GroupFault, asked_group, group_fault};
 use crate::last::{EndFault, asked_last, end_fault};
 use crate::profile::{asked_profile, unknown_profile};
 use crate::request::{
@@ -32,6 +33,8 @@ pub enum UsageFault<'a> {
     End(EndFault<'a>),
     /// Rules of this name there are not.
     Profile(&'a str),
+    /// The size of groups is wrong, or there is no mapfile for them.
+    Group(GroupFault<'a>),
     /// Standard input is to be read twice.
     TwoStreams,
     /// There is no command of this name.
@@ -233,6 +236,7 @@ fn read_reread<'a>(alloc: Global, words: &ArgMatches<'a>) -> Result<Request<'a>,
     Ok(Request::Reread(RereadRequest {
         volume,
         mapfile: read_optional(words, MAPFILE),
+        group: asked_group(words),
         witnesses: asked_witnesses(words),
     }))
 }
@@ -315,7 +319,7 @@ fn read_command<'a>(
 /// # Errors
 ///
 /// The first of these faults that is in them: both the last block and the size are given, or a size that is that of no disc of whole blocks (`End`); rules are
-/// named that there are not (`Profile`); standard input is to be read twice (`TwoStreams`). `NoCommand` where no command has this name, and `OutOfMemory` if
+/// named that there are not (`Profile`); `--group` has no size of a group, or there is no `--mapfile` (`Group`); standard input is to be read twice (`TwoStreams`). `NoCommand` where no command has this name, and `OutOfMemory` if
 /// memory runs out.
 pub fn read<'a>(
     alloc: Global,
@@ -330,6 +334,9 @@ pub fn read<'a>(
     }
     if let Some(profile) = unknown_profile(words) {
         return Err(UsageFault::Profile(profile));
+    }
+    if let Some(fault) = group_fault(words) {
+        return Err(UsageFault::Group(fault));
     }
     if are_two_streams(name, words) {
         return Err(UsageFault::TwoStreams);

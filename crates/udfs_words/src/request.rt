@@ -2,6 +2,7 @@
 //! already that of standard input.
 
 use crate::forms::{Form, Version};
+use crate::group::GroupSize;
 use crate::input_path::InputPath;
 use udfs_volume::Profile;
 
@@ -91,6 +92,8 @@ pub struct RereadRequest<'a> {
     pub volume: VolumeSource<'a>,
     /// The path of the mapfile in which they are to be wanted; where there is none, their numbers are to be printed.
     pub mapfile: Option<&'a str>,
+    /// Whole groups of this size are to be wanted in it.
+    pub group: Option<GroupSize>,
     /// Known blocks are to be wanted in it too, by which a pass of another disc shows.
     pub witnesses: bool,
 }

@@ -7,8 +7,8 @@ ghost use Rattle.clap.specs.Words.{app_of, new_app};
 ghost use Rattle.udfs_words.specs.Grammar.{extract_app, forget_app, image_app, list_app, merge_app, page_app, program, program_app, report_app, reread_app, summary_app, with_inputs};
 
 use crate::arguments::{
-    blocks, disc_size, domain, flag, folder, force, image_file, image_map, inputs, joining, last,
-    lost_folder, manifest, only, page_file, pair_inputs, profile, quiet, table_file, verbose,
+    blocks, disc_size, domain, flag, folder, force, group, image_file, image_map, inputs, joining,
+    last, lost_folder, manifest, only, page_file, pair_inputs, profile, quiet, table_file, verbose,
 };
 use clap::Command;
 use std::alloc::{AllocError, Global};
@@ -36,6 +36,9 @@ pub const PROFILE: &str = "profile";
 
 /// The id of the mapfile to write among the matches.
 pub const MAPFILE: &str = "mapfile";
+
+/// The id of the size of the groups of blocks in that mapfile.
+pub const GROUP: &str = "group";
 
 /// The id of the flag for leaving known blocks out of the mapfile among the matches.
 pub const NO_WITNESSES: &str = "no-witnesses";
@@ -187,7 +190,7 @@ fn report<'a>(alloc: Global, given: Given) -> Result<Command<'a>, AllocError>
     with_inputs(alloc, command, given.pairs)
 }
 
-/// `reread (--last N | --size BYTES) [--profile PROFILE] [--mapfile FILE] [--no-witnesses] [--force] IN...`
+/// `reread (--last N | --size BYTES) [--profile PROFILE] [--mapfile FILE] [--group G] [--no-witnesses] [--force] IN...`
 fn reread<'a>(alloc: Global, given: Given) -> Result<Command<'a>, AllocError>
     ensures { IfOk result (λ command. app_of command ≡ reread_app given) }
 {
@@ -198,6 +201,7 @@ fn reread<'a>(alloc: Global, given: Given) -> Result<Command<'a>, AllocError>
         .arg(disc_size(alloc))?
         .arg(profile(alloc))?
         .arg(domain(alloc))?
+        .arg(group(alloc))?
         .arg(flag(
             alloc,
             NO_WITNESSES,

@@ -13,6 +13,12 @@ file my.disc.iso text «2048*\0»
 file order.tab text UDFTABL1\0\x08\0\0\x02\0\0\0\x05\0\0\0\x02\x05\0\0\0\x02
 file p.map text 0 + 1\n0 4096 +\n
 file bad.map text 0 + 1\n0 4096\n
+file disc.img.gz text \x1f\x8b\x08\0\0\0\0\0\0\x03«20*a»
+file disc.img.xz text \xfd7zXZ\0«20*a»
+file disc.zip text PK\x03\x04«20*a»
+file disc.bin text \0«10*\xff»\0«2340*a»
+file plain.iso text «32768*\0»\x01CD001\x01«2041*\0»\xffCD001\x01«2041*\0»
+file bridge.iso text «32768*\0»\x01CD001\x01«2041*\0»\xffCD001\x01«2041*\0»\0BEA01\x01«2041*\0»\0NSR02\x01«2041*\0»\0TEA01\x01«2041*\0»
 
 = a_refused_input_is_named_with_what_to_do
 # The refusals of inputs, each with the line beneath it.
@@ -29,6 +35,27 @@ refused udfsalvage: input 1: fault 5 Trailing at record 2\n  long.rd goes on aft
 
 $ merge -v --out t.tab my.disc.iso
 refused udfsalvage: input 1: fault 1 Magic at record 0\n  my.disc.iso is no reading and no table; an image wants its map: --ddrescue my.disc.iso my.disc.map\n
+
+$ merge -v --out t.tab disc.img.gz
+refused udfsalvage: input 1: fault 1 Magic at record 0\n  disc.img.gz is compressed: gunzip it, and give the image with its mapfile\n
+
+$ summary -v --last 600 disc.img.xz
+refused udfsalvage: input 1: fault 1 Magic at record 0\n  disc.img.xz is compressed: unxz it, and give the image with its mapfile\n
+
+$ merge -v --out t.tab disc.zip
+refused udfsalvage: input 1: fault 1 Magic at record 0\n  disc.zip is an archive: unzip it, and give the image with its mapfile\n
+
+$ merge -v --out t.tab disc.bin
+refused udfsalvage: input 1: fault 1 Magic at record 0\n  disc.bin has sectors of 2352 bytes: cut them to 2048 first, as READING.md shows under Passes of other tools\n
+
+$ report -v --last 600 plain.iso
+refused udfsalvage: input 1: fault 1 Magic at record 0\n  plain.iso is an image of ISO 9660 without UDF, which is not read: mount it, or unpack it with bsdtar\n
+
+$ merge -v --out t.tab bridge.iso
+refused udfsalvage: input 1: fault 1 Magic at record 0\n  bridge.iso is no reading and no table; an image wants its map: --ddrescue bridge.iso bridge.map\n
+
+$ merge -v --out t.tab --ddrescue disc.img.gz p.map
+refused udfsalvage: input 1: image ends before block 0\n  disc.img.gz is compressed: gunzip it, and give the image with its mapfile\n
 
 $ merge -v --out t.tab order.tab
 refused udfsalvage: input 1: fault 6 Order at record 2\n  order.tab is damaged, or was not written as it should be: use another copy of it\n

@@ -228,3 +228,89 @@ refused udfsalvage: input 1: mapfile line 2: blocks to read again, not a pass\n
 fn mapfiles_to_read_again(rt: HostRuntime) -> Result<(), Fail> {
     check(&rt, rt.alloc(), MAPFILES_TO_READ_AGAIN)
 }
+
+static WHOLE_GROUPS: &str = r"
+= a_group_of_blocks
+# Block 278 is wanted, and 285 is not known either, which no file has. In groups of 16 both are of 272 to 287, and what is known before and after them is left
+# out; of 8 blocks they are not of one group. Of a disc of which little is known the group ends with its last block that is not known, 287 or 279.
+then status 1
+then error
+
+but 278 285
+$ reread --last 600 --group 16 --no-witnesses --mapfile m disc.tab
+out 1 blocks in 1 runs, 8 in the map\n
+has m text # Mapfile. Created by udfsalvage 0.1.0\n# Blocks to read again, for ddrescue -m: not the mapfile of a pass\n0x00000000     +               1\n0x00000000  0x0008B000  ?\n0x0008B000  0x00004000  +\n0x0008F000  0x0009D800  ?\n
+
+but 278 285
+$ reread --last 600 --mapfile m --group=32 --no-witnesses disc.tab
+out 1 blocks in 1 runs, 8 in the map\n
+
+but 278 285
+$ reread --last 600 --group 8 --no-witnesses --mapfile m disc.tab
+out 1 blocks in 1 runs, 1 in the map\n
+
+but 278 285
+$ reread --last 600 --no-witnesses --mapfile m disc.tab
+out 1 blocks in 1 runs\n
+
+at 32 33 34 256 272 273 274 275 276 277 279
+$ reread --last 600 --group 16 --no-witnesses --mapfile m disc.tab
+out 1 blocks in 1 runs, 10 in the map\n
+has m text # Mapfile. Created by udfsalvage 0.1.0\n# Blocks to read again, for ddrescue -m: not the mapfile of a pass\n0x00000000     +               1\n0x00000000  0x0008B000  ?\n0x0008B000  0x00005000  +\n0x00090000  0x0009C800  ?\n
+
+at 32 33 34 256 272 273 274 275 276 277 279
+$ reread --last 600 --group 4 --no-witnesses --mapfile m disc.tab
+out 1 blocks in 1 runs, 1 in the map\n
+
+= the_last_group_ends_with_the_disc
+# Of an unread disc the anchors are wanted, with 256 to 271, 336 to 351, and 592 to 600, the last block.
+
+file empty.rd reading
+$ reread --last 600 --group 16 --mapfile m empty.rd
+status 1
+out 3 blocks in 3 runs, 41 in the map\n
+has m text # Mapfile. Created by udfsalvage 0.1.0\n# Blocks to read again, for ddrescue -m: not the mapfile of a pass\n0x00000000     +               1\n0x00000000  0x00080000  ?\n0x00080000  0x00008000  +\n0x00088000  0x00020000  ?\n0x000A8000  0x00008000  +\n0x000B0000  0x00078000  ?\n0x00128000  0x00004800  +\n
+
+= groups_and_known_blocks
+# Two of the known blocks to compare, 272 and 273, lie in the group between 271, which no file has, and 278: the mapfile has the 8 blocks from 271 to 278, and 4
+# known ones elsewhere. Where nothing is wanted, no group is.
+
+but 271 278
+$ reread --last 600 --group 32 --mapfile m disc.tab
+status 1
+out 1 blocks in 1 runs, and 6 known ones to compare, 12 in the map\n
+
+but 271
+$ reread --last 600 --group 32 --mapfile m disc.tab
+status 0
+out 0 blocks in 0 runs, 0 in the map\n
+
+= what_is_no_group
+# A size that no group has, and a group without a mapfile. No input is opened then.
+then status 2
+then out
+then calls 0
+
+$ reread --last 600 --group 3 --mapfile m absent.rd
+error error: invalid value '3' for '--group <G>'\n  [possible values: 2, 4, 8, 16, 32]\n\nFor more information, try '--help'.\n
+
+$ reread --last 600 --group 1 --mapfile m absent.rd
+error-begins error: invalid value '1' for '--group <G>'\n
+
+$ reread --last 600 --group 64 --mapfile m absent.rd
+error-begins error: invalid value '64' for '--group <G>'\n
+
+$ reread --last 600 --group 016 --mapfile m absent.rd
+error-begins error: invalid value '016' for '--group <G>'\n
+
+$ reread --last 600 --group 16 absent.rd
+error error: the following required arguments were not provided:\n  --mapfile <FILE>\n\nFor more information, try '--help'.\n
+
+$ report --last 600 --group 16 absent.rd
+error-begins error: unexpected argument '--group' found\n
+";
+
+#[test]
+fn whole_groups(rt: HostRuntime) -> Result<(), Fail> {
+    check(&rt, rt.alloc(), WHOLE_GROUPS)
+}

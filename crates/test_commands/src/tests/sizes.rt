@@ -14,6 +14,12 @@ $ reread --size 1230848 disc.tab
 
 $ reread disc.tab --size=1230848
 
+$ reread disc.tab --size 601s
+
+$ reread --size=1202Ki disc.tab
+
+$ reread --size +601s disc.tab
+
 = a_size_stands_for_the_last_block, 2
 but 33 49
 then status 1
@@ -36,6 +42,28 @@ keep
 $ extract --size 1230848 --to b disc.tab
 as-kept
 
+= a_size_by_its_unit
+# 2048 thousands are 1000 blocks, and 2048 millions a million of them; 1 MiB is 512 blocks, too few, and 2 MiB are 1024; 2048 thousand millions are too many.
+but
+
+$ report --size 2048k disc.tab
+out-begins UDFREPORT1 last 999\n
+
+$ report --size 2048M disc.tab
+out-begins UDFREPORT1 last 999999\n
+
+$ report --size 2Mi disc.tab
+out-begins UDFREPORT1 last 1023\n
+
+$ report --size 1Gi disc.tab
+out-begins UDFREPORT1 last 524287\n
+
+$ report --size 1Mi disc.tab
+refused udfsalvage: fault 1 LastRange\n
+
+$ report --size 2048G disc.tab
+refused udfsalvage: fault 1 LastRange\n
+
 = a_size_that_is_refused
 # A size that no disc has, one out of range, and one where it is not asked for.
 but
@@ -52,10 +80,31 @@ $ extract --size 2047 --to out disc.tab
 error-begins error: invalid value '2047' for '--size <BYTES>':\x20
 
 $ extract --size x --to out disc.tab
-error-begins error: invalid value 'x' for '--size <BYTES>': invalid digit found in string
+error-begins error: invalid value 'x' for '--size <BYTES>': no number below 2^64, with nothing or s, k, M, G, Ki, Mi or Gi after it\n\nFor more information, try '--help'.\n
+
+$ report --size 1M disc.tab
+error-begins error: invalid value '1M' for '--size <BYTES>': no multiple of 2048 above 0\n
+
+$ report --size 0Gi disc.tab
+error-begins error: invalid value '0Gi' for '--size <BYTES>': no multiple of 2048 above 0\n
+
+$ report --size 12K disc.tab
+error-begins error: invalid value '12K' for '--size <BYTES>': no number\x20
+
+$ report --size 12MiB disc.tab
+error-begins error: invalid value '12MiB' for '--size <BYTES>': no number\x20
+
+$ report --size 1.5Gi disc.tab
+error-begins error: invalid value '1.5Gi' for '--size <BYTES>': no number\x20
+
+$ report --size Mi disc.tab
+error-begins error: invalid value 'Mi' for '--size <BYTES>': no number\x20
+
+$ report --size 17179869184Gi disc.tab
+error-begins error: invalid value '17179869184Gi' for '--size <BYTES>': no number\x20
 
 $ report --size 18446744073709551616 disc.tab
-error-begins error: invalid value '18446744073709551616' for '--size <BYTES>': number too large to fit in target type
+error-begins error: invalid value '18446744073709551616' for '--size <BYTES>': no number\x20
 
 $ report --size 2048 disc.tab
 error-begins udfsalvage: fault 1 LastRange\n

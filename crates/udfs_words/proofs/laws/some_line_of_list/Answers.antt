@@ -9,7 +9,7 @@ use Rattle.udfs_words.specs.Requests.{IsRequest}
 use Rattle.udfs_words.specs.Lines.{IsSomeList, list_line}
 use Rattle.udfs_words.specs.declared.request.Request.{Request}
 use Rattle.udfs_words.specs.declared.request.Request.TheVariants as request
-use Rattle.udfs_words.proofs.LineLemmas.{all_are, differ, first_is, given_is, no_profile, one_is, one_size, one_stream, rows_say, size_is, two_millions}
+use Rattle.udfs_words.proofs.LineLemmas.{all_are, differ, first_is, given_is, no_group, no_profile, one_is, one_size, one_stream, rows_say, size_is, thousand_and_one}
 use Rattle.udfs_words.proofs.laws.some_line_of_list.Goals as goal
 
 taken : GrammarTakes list_line
@@ -21,11 +21,11 @@ unfolding clap_on_literals
 named = refl
 
 -- all that is read of the line
-abbrev read : Text → List Row → Text × Option (List Text) × Option (List Text) × Option Text × Option Text × Option (List Text) × Option Text × Option (List Text) × Option (List Text) × Option Text × Option Text × Option Text
-read name rows = (name, all_of (codes "input") rows, all_of (codes "ddrescue") rows, one_of (codes "size") rows, first_of (codes "profile") rows, all_of (codes "blocks") rows, one_of (codes "last") rows, all_of (codes "last") rows, all_of (codes "size") rows, one_of (codes "torn") rows, one_of (codes "null") rows, one_of (codes "paths") rows)
+abbrev read : Text → List Row → Text × Option (List Text) × Option (List Text) × Option Text × Option Text × Option (List Text) × Option Text × Option (List Text) × Option (List Text) × Option Text × Option Text × Option Text × Option Text
+read name rows = (name, all_of (codes "input") rows, all_of (codes "ddrescue") rows, first_of (codes "size") rows, first_of (codes "profile") rows, all_of (codes "blocks") rows, one_of (codes "last") rows, all_of (codes "last") rows, all_of (codes "size") rows, one_of (codes "torn") rows, one_of (codes "null") rows, one_of (codes "paths") rows, first_of (codes "group") rows)
 
-abbrev said : Text × Option (List Text) × Option (List Text) × Option Text × Option Text × Option (List Text) × Option Text × Option (List Text) × Option (List Text) × Option Text × Option Text × Option Text
-said = (codes "list", Some (codes "-" ∷ []), None, Some (codes "2050048"), None, None, None, None, Some (codes "2050048" ∷ []), Some (codes "true"), Some (codes "false"), Some (codes "true"))
+abbrev said : Text × Option (List Text) × Option (List Text) × Option Text × Option Text × Option (List Text) × Option Text × Option (List Text) × Option (List Text) × Option Text × Option Text × Option Text × Option Text
+said = (codes "list", Some (codes "-" ∷ []), None, Some (codes "1001s"), None, None, None, None, Some (codes "1001s" ∷ []), Some (codes "true"), Some (codes "false"), Some (codes "true"), None)
 
 says : (name : Text) (words : Found) → IsAsked list_line name words → read name (rows_of words) ≡ said
 unfolding clap_on_literals
@@ -35,7 +35,7 @@ by : (name : Text) (words : Found) (r : Request) → read name (rows_of words) �
 by name words (request.List r) e is = (
   (
     (is.1.volume.inputs.files ∙ ap (map stream_path) (all_are words (codes "input") _ _ _ (ap (λ t. t.1) e) refl), is.1.volume.inputs.parts ∙ (all_are words (codes "ddrescue") _ _ _ (ap (λ t. t.2) e) refl)),
-    size_is words _ _ 1000 is.1.volume.last (one_is words (codes "last") _ (ap (λ t. t.6) e)) (one_is words (codes "size") _ (ap (λ t. t.3) e)) (given_is words (codes "size") _ _ (ap (λ t. t.8) e) refl) two_millions.0 two_millions.1 (lit< tt),
+    size_is words _ _ 1000 is.1.volume.last (one_is words (codes "last") _ (ap (λ t. t.6) e)) (first_is words (codes "size") _ (ap (λ t. t.3) e)) (given_is words (codes "size") _ _ (ap (λ t. t.8) e) refl) thousand_and_one (lit< tt),
     is.1.volume.profile.unnamed (first_is words (codes "profile") _ (ap (λ t. t.4) e)),
   ),
   is.1.torn.with_flag (one_is words (codes "torn") _ (ap (λ t. t.9) e)),
@@ -49,9 +49,10 @@ returns c = record {
   takes = taken;
   names = named;
   lawful = λ words asked. let e = says (codes "list") words asked in (
-    one_size words _ 1000 (one_is words (codes "size") _ (ap (λ t. t.3) e)) two_millions.1 (given_is words (codes "last") _ _ (ap (λ t. t.7) e) refl),
+    one_size words _ 1000 (first_is words (codes "size") _ (ap (λ t. t.3) e)) thousand_and_one (given_is words (codes "last") _ _ (ap (λ t. t.7) e) refl),
     no_profile words (first_is words (codes "profile") _ (ap (λ t. t.4) e)),
     one_stream (codes "list") words _ _ (all_are words (codes "input") _ _ _ (ap (λ t. t.1) e) refl) (all_are words (codes "blocks") _ _ _ (ap (λ t. t.5) e) refl) refl,
+    no_group words (first_is words (codes "group") _ (ap (λ t. t.12) e)),
   );
   is = λ r asked. by asked.name asked.words r (says asked.name asked.words asked.is_asked) asked.reads.is;
 }

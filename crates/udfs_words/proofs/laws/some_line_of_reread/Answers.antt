@@ -6,9 +6,10 @@ use Rattle.clap.proofs.OnLiterals.{clap_on_literals}
 use Rattle.udfs_words.specs.Obeying.{Asks, GrammarTakes, IsAsked}
 use Rattle.udfs_words.specs.Requests.{IsRequest}
 use Rattle.udfs_words.specs.Lines.{IsSomeReread, reread_line}
+use Rattle.udfs_words.specs.declared.group.GroupSize.TheVariants.{Sixteen}
 use Rattle.udfs_words.specs.declared.request.Request.{Request}
 use Rattle.udfs_words.specs.declared.request.Request.TheVariants as request
-use Rattle.udfs_words.proofs.LineLemmas.{all_are, differ, first_is, given_is, last_is, no_profile, no_size, one_is, one_stream, optional_is, rows_say, thousand}
+use Rattle.udfs_words.proofs.LineLemmas.{all_are, differ, first_is, given_is, good_group, group_is, last_is, no_profile, no_size, one_is, one_stream, optional_is, rows_say, thousand}
 use Rattle.udfs_words.proofs.laws.some_line_of_reread.Goals as goal
 
 taken : GrammarTakes reread_line
@@ -20,11 +21,11 @@ unfolding clap_on_literals
 named = refl
 
 -- all that is read of the line
-abbrev read : Text → List Row → Text × Option (List Text) × Option (List Text) × Option Text × Option Text × Option (List Text) × Option Text × Option (List Text) × Option Text × Option (List Text) × Option Text
-read name rows = (name, all_of (codes "input") rows, all_of (codes "ddrescue") rows, one_of (codes "size") rows, first_of (codes "profile") rows, all_of (codes "blocks") rows, one_of (codes "last") rows, all_of (codes "last") rows, first_of (codes "mapfile") rows, all_of (codes "mapfile") rows, one_of (codes "no-witnesses") rows)
+abbrev read : Text → List Row → Text × Option (List Text) × Option (List Text) × Option Text × Option Text × Option (List Text) × Option Text × Option (List Text) × Option Text × Option (List Text) × Option Text × Option Text
+read name rows = (name, all_of (codes "input") rows, all_of (codes "ddrescue") rows, first_of (codes "size") rows, first_of (codes "profile") rows, all_of (codes "blocks") rows, one_of (codes "last") rows, all_of (codes "last") rows, first_of (codes "mapfile") rows, all_of (codes "mapfile") rows, one_of (codes "no-witnesses") rows, first_of (codes "group") rows)
 
-abbrev said : Text × Option (List Text) × Option (List Text) × Option Text × Option Text × Option (List Text) × Option Text × Option (List Text) × Option Text × Option (List Text) × Option Text
-said = (codes "reread", Some (codes "all.tab" ∷ []), None, None, None, None, Some (codes "1000"), Some (codes "1000" ∷ []), Some (codes "again.map"), Some (codes "again.map" ∷ []), Some (codes "false"))
+abbrev said : Text × Option (List Text) × Option (List Text) × Option Text × Option Text × Option (List Text) × Option Text × Option (List Text) × Option Text × Option (List Text) × Option Text × Option Text
+said = (codes "reread", Some (codes "all.tab" ∷ []), None, None, None, None, Some (codes "1000"), Some (codes "1000" ∷ []), Some (codes "again.map"), Some (codes "again.map" ∷ []), Some (codes "false"), Some (codes "16"))
 
 says : (name : Text) (words : Found) → IsAsked reread_line name words → read name (rows_of words) ≡ said
 unfolding clap_on_literals
@@ -38,6 +39,7 @@ by name words (request.Reread r) e is = (
     is.1.volume.profile.unnamed (first_is words (codes "profile") _ (ap (λ t. t.4) e)),
   ),
   is.1.mapfile ∙ optional_is words _ _ (first_is words (codes "mapfile") _ (ap (λ t. t.8) e)) (given_is words (codes "mapfile") _ _ (ap (λ t. t.9) e) refl),
+  group_is words _ Sixteen is.1.group (first_is words (codes "group") _ (ap (λ t. t.11) e)),
   is.1.witnesses.without_flag (one_is words (codes "no-witnesses") _ (ap (λ t. t.10) e)),
 )
 by name words _ e is = absurd (differ (ap (λ t. t.0) e) is.0 refl refl)
@@ -47,9 +49,10 @@ returns c = record {
   takes = taken;
   names = named;
   lawful = λ words asked. let e = says (codes "reread") words asked in (
-    no_size words (one_is words (codes "size") _ (ap (λ t. t.3) e)),
+    no_size words (first_is words (codes "size") _ (ap (λ t. t.3) e)),
     no_profile words (first_is words (codes "profile") _ (ap (λ t. t.4) e)),
     one_stream (codes "reread") words _ _ (all_are words (codes "input") _ _ _ (ap (λ t. t.1) e) refl) (all_are words (codes "blocks") _ _ _ (ap (λ t. t.5) e) refl) refl,
+    good_group words Sixteen (first_is words (codes "group") _ (ap (λ t. t.11) e)) (given_is words (codes "mapfile") _ _ (ap (λ t. t.9) e) refl),
   );
   is = λ r asked. by asked.name asked.words r (says asked.name asked.words asked.is_asked) asked.reads.is;
 }

@@ -9,7 +9,7 @@ use Rattle.udfs_words.specs.Requests.{IsRequest}
 use Rattle.udfs_words.specs.Lines.{IsSomeSummary, summary_line}
 use Rattle.udfs_words.specs.declared.request.Request.{Request}
 use Rattle.udfs_words.specs.declared.request.Request.TheVariants as request
-use Rattle.udfs_words.proofs.LineLemmas.{all_are, differ, first_is, given_is, last_is, no_size, one_is, one_stream, rows_say, thousand, wide_is_known}
+use Rattle.udfs_words.proofs.LineLemmas.{all_are, differ, first_is, given_is, last_is, no_group, no_size, one_is, one_stream, rows_say, thousand, wide_is_known}
 use Rattle.udfs_words.proofs.laws.some_line_of_summary.Goals as goal
 
 taken : GrammarTakes summary_line
@@ -21,11 +21,11 @@ unfolding clap_on_literals
 named = refl
 
 -- all that is read of the line
-abbrev read : Text → List Row → Text × Option (List Text) × Option (List Text) × Option Text × Option Text × Option (List Text) × Option Text × Option (List Text)
-read name rows = (name, all_of (codes "input") rows, all_of (codes "ddrescue") rows, one_of (codes "size") rows, first_of (codes "profile") rows, all_of (codes "blocks") rows, one_of (codes "last") rows, all_of (codes "last") rows)
+abbrev read : Text → List Row → Text × Option (List Text) × Option (List Text) × Option Text × Option Text × Option (List Text) × Option Text × Option (List Text) × Option Text
+read name rows = (name, all_of (codes "input") rows, all_of (codes "ddrescue") rows, first_of (codes "size") rows, first_of (codes "profile") rows, all_of (codes "blocks") rows, one_of (codes "last") rows, all_of (codes "last") rows, first_of (codes "group") rows)
 
-abbrev said : Text × Option (List Text) × Option (List Text) × Option Text × Option Text × Option (List Text) × Option Text × Option (List Text)
-said = (codes "summary", Some (codes "all.tab" ∷ []), None, None, Some (codes "wide"), None, Some (codes "1000"), Some (codes "1000" ∷ []))
+abbrev said : Text × Option (List Text) × Option (List Text) × Option Text × Option Text × Option (List Text) × Option Text × Option (List Text) × Option Text
+said = (codes "summary", Some (codes "all.tab" ∷ []), None, None, Some (codes "wide"), None, Some (codes "1000"), Some (codes "1000" ∷ []), None)
 
 says : (name : Text) (words : Found) → IsAsked summary_line name words → read name (rows_of words) ≡ said
 unfolding clap_on_literals
@@ -44,9 +44,10 @@ returns c = record {
   takes = taken;
   names = named;
   lawful = λ words asked. let e = says (codes "summary") words asked in (
-    no_size words (one_is words (codes "size") _ (ap (λ t. t.3) e)),
+    no_size words (first_is words (codes "size") _ (ap (λ t. t.3) e)),
     wide_is_known words (first_is words (codes "profile") _ (ap (λ t. t.4) e)),
     one_stream (codes "summary") words _ _ (all_are words (codes "input") _ _ _ (ap (λ t. t.1) e) refl) (all_are words (codes "blocks") _ _ _ (ap (λ t. t.5) e) refl) refl,
+    no_group words (first_is words (codes "group") _ (ap (λ t. t.8) e)),
   );
   is = λ r asked. by asked.name asked.words r (says asked.name asked.words asked.is_asked) asked.reads.is;
 }
