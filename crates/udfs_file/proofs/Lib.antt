@@ -20,6 +20,8 @@ pub mod Gaps
 pub mod PartialBodies
 pub mod Readings
 pub mod CursorSteps
+pub mod CountedBodies
+pub mod StandardTails
 pub mod Joins
 pub mod WholeExtents
 pub mod WholeBodies
