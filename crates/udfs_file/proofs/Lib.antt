@@ -15,6 +15,7 @@ pub mod Reached
 pub mod ChainFits
 pub mod Tails
 pub mod KeptBodies
+pub mod TailNeeds
 pub mod PartBodies
 pub mod Gaps
 pub mod PartialBodies
