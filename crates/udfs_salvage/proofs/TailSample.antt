@@ -1,6 +1,6 @@
 -- The sample volume with a map of type 1 whose file A has 5,000 bytes and an extent of 4,500, which ends in its third block: it is lawful by the
 -- wide rules, which read A by the tail, and not by the strict ones.
-use Rattle.std.proofs.Common.{◌≡◌, refl, sym, ◌∙◌, ap, subst, ℕ, true, List, [], ◌∷◌, Some, cond, nat_eq}
+use Rattle.std.proofs.Common.{◌≡◌, refl, sym, ◌∙◌, ap, subst, ℕ, true, [], ◌∷◌, Some, cond, nat_eq}
 use Rattle.udfs_lattice.specs.States.{IsBlock}
 use Rattle.udfs_lattice.specs.Volumes.{Blocks, Volume, complete}
 use Rattle.udfs_tag.specs.Crc.{polynomial, reduced, crc_of}
@@ -12,7 +12,6 @@ use Rattle.udfs_volume.specs.Sequence.{Bytes}
 use Rattle.udfs_volume.proofs.PublicLaws.{sample_layout_is_lawful}
 use Rattle.udfs_space.specs.Places.{View, place, view}
 use Rattle.udfs_space.specs.Sample.{sample_space}
-use Rattle.udfs_space.specs.Sparing.{Space}
 use Rattle.udfs_space.proofs.PublicLaws.{sample_places_are_lawful}
 use Rattle.udfs_file.specs.Addresses.{file_set}
 use Rattle.udfs_file.specs.Bodies.{allocation_descriptors, body, extents_body_by, listed_body, used}
@@ -28,7 +27,6 @@ use Rattle.udfs_walk.specs.Routes.{entries_below, walked}
 use Rattle.udfs_walk.specs.Sample.{AreNodesIn, at_a}
 use Rattle.udfs_walk.specs.Standings.{cells_standing}
 use Rattle.udfs_walk.specs.Targets.{entry, target}
-use Rattle.udfs_walk.specs.declared.standings.Standing.{Standing}
 use Rattle.udfs_walk.specs.declared.standings.Standing.TheVariants.{Whole, Fault}
 use Rattle.udfs_tree.specs.Lawful.{IsLawfulTree}
 use Rattle.udfs_tree.specs.Sample.{HasSampleFiles}

@@ -10,7 +10,7 @@ use Rattle.udfs_volume.specs.declared.faults.VolumeFault.TheVariants.{Domain}
 use Rattle.udfs_volume.specs.Layout.{Layout, Partition, layout_by}
 use Rattle.udfs_volume.specs.Sequence.{Bytes}
 use Rattle.udfs_space.specs.Laws.{AreTheSameTables, SparingAgrees}
-use Rattle.udfs_space.specs.Places.{View, place, view}
+use Rattle.udfs_space.specs.Places.{place, view}
 use Rattle.udfs_space.specs.Sample.{first_spared}
 use Rattle.udfs_space.specs.Sparing.{Space, space, spared}
 use Rattle.udfs_space.specs.Standard.{table_at}
