@@ -199,7 +199,11 @@ fn assert_by_both(
         "no tail"
     };
     assert_same(rt, tail_by(alloc, &table, 0, 3, Profile::Wide)?, needs);
-    assert_same(rt, tail_by(alloc, &table, 0, 3, Profile::Strict)?, "no tail");
+    assert_same(
+        rt,
+        tail_by(alloc, &table, 0, 3, Profile::Strict)?,
+        "no tail",
+    );
     Ok(())
 }
 
@@ -269,6 +273,10 @@ fn embedded_bytes(rt: HostRuntime) -> Result<(), Fail> {
     let mut disc = Disc::type1(alloc)?;
     assert_cells(&rt, alloc, &disc, &[], 4, Profile::Wide, "cells 48*1 69*1")?;
     disc.write(&[(276, 56, &[3])])?;
-    assert_same(&rt, tail_by(alloc, &disc.known_but(alloc, &[])?, 0, 4, Profile::Wide)?, "no tail");
+    assert_same(
+        &rt,
+        tail_by(alloc, &disc.known_but(alloc, &[])?, 0, 4, Profile::Wide)?,
+        "no tail",
+    );
     assert_cells(&rt, alloc, &disc, &[], 4, Profile::Wide, "fault 7 Short")
 }
