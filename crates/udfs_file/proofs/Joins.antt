@@ -9,7 +9,8 @@ use Rattle.udfs_tag.specs.Fields.{part, uint32_at}
 use Rattle.udfs_volume.specs.Profiles.{takes_tail}
 use Rattle.udfs_file.specs.Entries.{EntryFields}
 use Rattle.udfs_file.specs.Laws.{IsBeginningOf}
-use Rattle.udfs_file.specs.Standard.{PartitionBlocks, Located, extent_bytes, extents_in, IsJoined, IsExtentsBody, IsEmbeddedBody, IsBodyOf}
+use Rattle.udfs_file.specs.Standard.{PartitionBlocks, Located, extent_bytes, IsEmbeddedBody}
+use Rattle.udfs_file.proofs.CountedBodies.{extents_in, IsJoined, IsExtentsBody, IsBodyOf}
 
 -- one of the two begins the other
 abbrev AreAlike : {A : Type 0} → List A → List A → Type 0

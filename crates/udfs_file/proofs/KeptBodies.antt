@@ -12,7 +12,7 @@ use Rattle.udfs_file.proofs.Tails.{tail_same}
 use Rattle.udfs_file.proofs.Tails as tails
 
 -- the descriptors do not depend on the rules
-chain_kept : (t : Bool) (s u : Profile) (v : View) (form r left : ℕ) (area : List ℕ) → chain t (by_profile s v) form r left area ≡ chain t (by_profile u v) form r left area
+pub chain_kept : (t : Bool) (s u : Profile) (v : View) (form r left : ℕ) (area : List ℕ) → chain t (by_profile s v) form r left area ≡ chain t (by_profile u v) form r left area
 chain_kept t s u v form r zero area = refl
 chain_kept t s u v form r (suc left) area = let ds : List LongAd = descriptors_in t form r area in
     λ i. joined (up_to_next ds) (next_of (by_profile s v) form false (next_descriptor ds)) (λ a. chain_kept t s u v form r left a i)

@@ -15,11 +15,14 @@ pub mod Reached
 pub mod ChainFits
 pub mod Tails
 pub mod KeptBodies
+pub mod TailNeeds
 pub mod PartBodies
 pub mod Gaps
 pub mod PartialBodies
 pub mod Readings
 pub mod CursorSteps
+pub mod CountedBodies
+pub mod StandardTails
 pub mod Joins
 pub mod WholeExtents
 pub mod WholeBodies

@@ -1,15 +1,15 @@
 -- The wide rules read what the strict ones read of a directory, and go on where a tag names another place.
-use Rattle.std.proofs.Common.{◌≡◌, refl, sym, ◌∙◌, ap, subst, ℕ, ◌+◌, Bool, true, false, List, [], ◌∷◌, ◌++◌, length, take, drop, map, cond, ◌||◌, Option, Some, None, nat_lt, arith}
+use Rattle.std.proofs.Common.{◌≡◌, refl, sym, ◌∙◌, ap, subst, ℕ, ◌+◌, Bool, true, false, List, [], ◌∷◌, length, take, drop, map, cond, ◌||◌, Option, Some, None, nat_lt, arith}
 use Rattle.std.specs.Prelude.{zero, suc}
 use Rattle.udfs_tag.specs.Tags.{is_valid}
 use Rattle.udfs_volume.specs.declared.profiles.Profile.{Profile}
 use Rattle.udfs_volume.specs.declared.profiles.Profile.TheVariants.{Strict, Wide}
 use Rattle.udfs_file.specs.Fronts.{DirectoryText, checked_by, checked_identifier, directory_by, fault_in, first_missing, has_moved_tags, holder_of, identifier_in, identifier_size, or_stop, read_from, read_on, sized_by, step_by, value}
 use Rattle.udfs_file.specs.Identifiers.{Identifier, Rest, Nothing, Stopped, Wrong, Step, AtRest, One}
-use Rattle.udfs_file.specs.Steps.{IsDescriptor, IsNext, StepIs, StepsTo, bytes_of, is_id, left_behind}
+use Rattle.udfs_file.specs.Steps.{IsDescriptor, IsNext, StepsTo, bytes_of, is_id}
 use Rattle.udfs_file.specs.declared.cursors.Step as cursor
 use Rattle.udfs_file.specs.declared.cursors.Step.TheVariants.{Id, Stop, Fault, End}
-use Rattle.udfs_file.specs.Laws.{AreTagsTaken, IsBeginningOf, WideTakesTags}
+use Rattle.udfs_file.specs.Laws.{IsBeginningOf, WideTakesTags}
 use Rattle.udfs_file.specs.declared.cells.Cell.{Cell}
 use Rattle.udfs_file.specs.declared.faults.NodeFault.TheVariants.{Cut, IdentifierTag}
 use Rattle.udfs_file.proofs.Reached.{no_stop}

@@ -1,9 +1,9 @@
 -- Over a complete partition a body that the standard reads has no fault, and is the body by its definition.
-use Rattle.std.proofs.Common.{◌≡◌, refl, sym, ◌∙◌, ap, subst, inl, inr, ◌⊎◌, ℕ, ◌+◌, ◌-◌, ◌*◌, ◌<◌, ◌≤◌, ◌%◌, min, Bool, true, false, not, List, [], ◌∷◌, ◌++◌, length, take, map, cond, ◌&&◌, ◌||◌, arith, Option, Some, None, nat_eq, nat_le, nat_lt, add-zero, is_none, replicate}
+use Rattle.std.proofs.Common.{◌≡◌, refl, sym, ◌∙◌, ap, subst, inl, inr, ◌⊎◌, ℕ, ◌+◌, ◌-◌, ◌*◌, ◌<◌, ◌≤◌, ◌%◌, min, Bool, true, false, not, List, [], ◌∷◌, ◌++◌, length, take, map, cond, ◌&&◌, ◌||◌, arith, Option, Some, None, nat_eq, nat_le, nat_lt, add-zero, is_none}
 use Rattle.std.specs.Prelude.{zero, suc, flat_map, take_while, option_map}
 use Rattle.std.specs.List.{range_with_len, list_any}
 use Rattle.std.proofs.lemmas.Bool.{eqb-true, leb-true, le-leb}
-use Rattle.std.proofs.lemmas.List.{length-append, length-take, length-replicate}
+use Rattle.std.proofs.lemmas.List.{length-append}
 use Rattle.std.proofs.lemmas.List.Sums.{take_while-cons}
 use Rattle.udfs_volume.specs.Sequence.{Bytes}
 use Rattle.udfs_volume.specs.Layout.{blocks_in}
@@ -19,7 +19,9 @@ use Rattle.udfs_file.specs.Bodies.{Next, no_more, area_at, broken, Descriptors, 
 use Rattle.udfs_file.specs.declared.cells.Cell.{Cell}
 use Rattle.udfs_file.specs.declared.cells.Cell.TheVariants.{Byte}
 use Rattle.udfs_file.specs.declared.faults.NodeFault.TheVariants.{Short, Chain, Range, Reference, Odd}
-use Rattle.udfs_file.specs.Standard.{PartitionBlocks, Located, block_bytes, extent_bytes, up_to_end, IsExtentAt, IsExtentOf, AreExtentsOf, IsJoined, IsExtentsBody, IsEmbeddedBody, IsBodyOf}
+use Rattle.udfs_file.specs.Standard.{PartitionBlocks, Located, extent_bytes, up_to_end, IsExtentAt, IsEmbeddedBody}
+use Rattle.udfs_file.proofs.CountedBodies.{IsExtentOf, AreExtentsOf, IsJoined, IsExtentsBody, IsBodyOf}
+use Rattle.udfs_file.proofs.StandardTails.{blocks_fit, body_as_counted, bytes_most, min_left}
 use Rattle.udfs_file.specs.Complete.{HasPartitions, IsReadBody, IsComplete, StandardBodies, as_cells}
 use Rattle.udfs_file.proofs.BodyFrom.{from, le_or_lt, body-from, is_lt, not_le, not_lt}
 use Rattle.udfs_file.proofs.BodyFrom as front
@@ -67,9 +69,6 @@ odd_clear c size len true h = go (le_or_lt size (c + len))
     go : (size ≤ c + len) ⊎ (c + len < size) → (nat_lt (c + len) size && not (nat_eq (len % 2048) 0)) ≡ false
     go (inl l) = ap (λ b. b && not (nat_eq (len % 2048) 0)) (not_lt (c + len) size l)
     go (inr l) = ap (λ b. b && not (nat_eq (len % 2048) 0)) (is_lt (c + len) size l) ∙ ap (λ n. not (nat_eq n 0)) (h l)
-
-min_left : (a b : ℕ) → min a b ≤ a
-min_left a b = grind arith
 
 in_first : (j m l : ℕ) → j < blocks_in m → m ≤ l → 2048 * j < l
 in_first j m l p q = omega (arith, p, q)
@@ -126,25 +125,6 @@ record Left (blocks : PartitionBlocks) (size c : ℕ) (xs : List LongAd) : Type 
 
 nothing_left : (blocks : PartitionBlocks) (size c : ℕ) (xs : List LongAd) → Left blocks size c xs → xs ≡ [] → size ≤ c
 nothing_left blocks size c xs h e = let p : size - c ≤ 0 = subst (λ z. size - c ≤ length (bytes_of blocks z)) e h.enough in omega (arith, p)
-
-short : (n : ℕ) (xs : List Located) → length (take n xs) ≤ n
-short n xs = subst (λ z. z ≤ n) (sym (length-take n xs)) (min_left n (length xs))
-
-abbrev zeros : ℕ → List Located
-zeros n = replicate n (0, None)
-
-same_length : (n : ℕ) → length (zeros n) ≤ n
-same_length n = let e : length (zeros n) ≡ n = length-replicate n (0, None) in omega (arith, e)
-
-bytes_most : (blocks : PartitionBlocks) (d : LongAd) → length (extent_bytes blocks d) ≤ d.length
-bytes_most blocks d = go (nat_eq d.kind 0)
-  where
-    X : List Located
-    X = flat_map (λ b. block_bytes b (blocks.at d.reference b)) (range_with_len d.block (blocks_in d.length))
-
-    go : (b : Bool) → length (cond b (take d.length X) (replicate d.length (0, None))) ≤ d.length
-    go true = short d.length X
-    go false = same_length d.length
 
 -- behind the first extent
 left_on : (blocks : PartitionBlocks) (size c : ℕ) (d : LongAd) (xs : List LongAd) → nat_lt 0 d.length ≡ true → Left blocks size c (d ∷ xs) → IsExtentOf blocks c size d × Left blocks size (c + d.length) xs
@@ -324,7 +304,7 @@ pub standard_bodies : StandardBodies
 standard_bodies all blocks w has r b entry whole is = got.1 ∙ ap cells (read.is ∙ ap as_cells (sym (read.only whole is)))
   where
     got : HasCells (body all r b entry)
-    got = body_back all blocks w has r b entry whole is
+    got = body_back all blocks w has r b entry whole (body_as_counted blocks (blocks_fit all blocks w) r b entry whole is)
 
     read : IsReadBody blocks r b entry got.0
     read = body_law all blocks w r b entry got.0 got.1

@@ -9,7 +9,6 @@ use Rattle.udfs_osta.specs.declared.names.NameFault.{NameFault}
 use Rattle.udfs_tag.specs.Crc.{crc_of}
 use Rattle.udfs_tag.specs.Fields.{uint8_at, uint16_at, uint32_at, part}
 use Rattle.udfs_tag.specs.Tags.{checksum_of, covered, covered_len, has_identifier, identifier, is_valid, tag_of}
-use Rattle.udfs_tag.specs.declared.tags.Tag.{Tag}
 use Rattle.udfs_tag.specs.declared.tags.TagFault.TheVariants.{Checksum, Version, CrcLength, Crc, Location}
 use Rattle.udfs_lattice.proofs.Inclusion.{here, there, here_or_there, in_nothing}
 use Rattle.udfs_volume.specs.declared.profiles.Profile.{Profile}

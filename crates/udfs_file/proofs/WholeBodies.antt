@@ -17,7 +17,9 @@ use Rattle.udfs_file.specs.Bodies.{Next, no_more, area_at, broken, Descriptors, 
 use Rattle.udfs_file.specs.declared.cells.Cell.{Cell}
 use Rattle.udfs_file.specs.declared.cells.Cell.TheVariants.{Byte}
 use Rattle.udfs_tag.specs.Faults.{first_fault}
-use Rattle.udfs_file.specs.Standard.{PartitionBlocks, Located, located, extent_bytes, extents_in, up_to_end, IsOneBlock, IsExtentAt, AreExtentsOf, IsJoined, IsExtentsBody, IsEmbeddedBody, IsBodyOf}
+use Rattle.udfs_file.specs.Standard.{PartitionBlocks, Located, located, extent_bytes, up_to_end, IsOneBlock, IsExtentAt, IsEmbeddedBody}
+use Rattle.udfs_file.proofs.CountedBodies.{extents_in, AreExtentsOf, IsJoined, IsExtentsBody, IsBodyOf}
+use Rattle.udfs_file.proofs.StandardTails.{blocks_fit, body_by_standard, body_as_counted}
 use Rattle.udfs_file.specs.Complete.{IsComplete, as_cell, as_cells, BodyLaw}
 use Rattle.udfs_file.specs.declared.faults.NodeFault.{NodeFault}
 use Rattle.udfs_file.specs.declared.faults.NodeFault.TheVariants.{Short, Chain, Range, Reference}
@@ -426,4 +428,9 @@ body_read all blocks w r b entry cs e = go (nat_eq entry.form 3) e
 
 pub body_law : BodyLaw
 body_law all blocks w r b entry cs e = let f : Found blocks cs (IsBodyOf blocks r b entry) = body_read all blocks w r b entry cs e in
-    record { whole = f.whole; is = f.is; reads = f.read; only = λ other q. only_body blocks r b entry f.whole other f.read q }
+    record {
+      whole = f.whole;
+      is = f.is;
+      reads = body_by_standard blocks (blocks_fit all blocks w) r b entry f.whole f.read;
+      only = λ other q. only_body blocks r b entry f.whole other f.read (body_as_counted blocks (blocks_fit all blocks w) r b entry other q);
+    }

@@ -15,7 +15,8 @@ use Rattle.udfs_space.specs.Places.{block_at}
 use Rattle.udfs_file.specs.Bodies.{covers, cells_in, extent_fault, cell_in, cell_at, recorded_cell, extent_cells}
 use Rattle.udfs_file.specs.declared.cells.Cell.{Cell}
 use Rattle.udfs_file.specs.declared.cells.Cell.TheVariants.{Byte, Gap}
-use Rattle.udfs_file.specs.Standard.{PartitionBlocks, Located, located, block_bytes, extent_bytes, IsExtentOf}
+use Rattle.udfs_file.specs.Standard.{PartitionBlocks, Located, located, block_bytes, extent_bytes}
+use Rattle.udfs_file.proofs.CountedBodies.{IsExtentOf}
 use Rattle.udfs_file.specs.Complete.{IsComplete, as_cell, as_cells}
 use Rattle.udfs_file.specs.declared.faults.NodeFault.TheVariants.{Reference, Range, Odd}
 use Rattle.std.proofs.lemmas.Bool.{eqb-true}

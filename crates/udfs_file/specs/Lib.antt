@@ -9,6 +9,7 @@ pub mod Identifiers
 pub mod Fronts
 pub mod Steps
 pub mod Laws
+pub mod TailBodies
 pub mod Standard
 pub mod Complete
 pub mod Told

@@ -3,7 +3,7 @@
 --     IsFileSetAt blocks a root        the file set descriptor at an address, and the root's ICB that it names
 --     IsBodyOf blocks r b e body       the body of the entry at block b of partition r
 --     IsDirectoryBody profile body ids   the descriptors in a directory's body, by these rules
-use Rattle.std.specs.Prelude.{◌≡◌, ◌≢◌, ⊤, ℕ, ◌+◌, ◌*◌, ◌%◌, ◌<◌, ◌≤◌, Bool, true, not, List, [], ◌∷◌, ◌++◌, length, take, map, flat_map, replicate, take_while, cond, nat_eq, nat_lt, Option, Some, None}
+use Rattle.std.specs.Prelude.{◌≡◌, ◌≢◌, ⊤, ℕ, ◌+◌, ◌-◌, ◌*◌, ◌%◌, ◌<◌, ◌≤◌, true, not, List, [], ◌∷◌, ◌++◌, length, take, drop, filter, map, flat_map, replicate, take_while, cond, nat_eq, nat_lt, Option, Some, None}
 use Rattle.std.specs.List.{range_with_len}
 use Rattle.udfs_volume.specs.Sequence.{Bytes}
 use Rattle.udfs_tag.specs.declared.layouts.LongAd.{LongAd}
@@ -14,7 +14,7 @@ use Rattle.udfs_volume.specs.declared.profiles.Profile.{Profile}
 use Rattle.udfs_volume.specs.declared.profiles.Profile.TheVariants.{Strict, Wide}
 use Rattle.udfs_volume.specs.Profiles.{takes_tail}
 use Rattle.udfs_file.specs.Entries.{EntryFields, descriptor_size}
-use Rattle.udfs_file.specs.Bodies.{descriptors_in, next_descriptor}
+use Rattle.udfs_file.specs.Bodies.{recorded_at, descriptor_count, up_to_next, next_descriptor}
 use Rattle.udfs_file.specs.Fronts.{identifier_size, identifier_in}
 use Rattle.udfs_file.specs.Identifiers.{Identifier}
 use Rattle.udfs_file.specs.Identifiers.{One}
@@ -47,15 +47,21 @@ abbrev pub block_bytes : ℕ → Option Bytes → List Located
 block_bytes b None = []
 block_bytes b (Some bytes) = located b bytes
 
--- the bytes of an extent: those of consecutive blocks, or zeros where nothing is recorded
-abbrev pub extent_bytes : PartitionBlocks → LongAd → List Located
-extent_bytes blocks d = cond (nat_eq d.kind 0)
-    (take d.length (flat_map (λ b. block_bytes b (blocks.at d.reference b)) (range_with_len d.block (blocks_in d.length))))
-    (replicate d.length (0, None))
+-- the bytes of the consecutive blocks in which an extent lies
+abbrev pub extent_blocks : PartitionBlocks → LongAd → List Located
+extent_blocks blocks d = flat_map (λ b. block_bytes b (blocks.at d.reference b)) (range_with_len d.block (blocks_in d.length))
 
--- the allocation descriptors of an area, as they are counted, up to the first of type 3
-abbrev pub extents_in : Bool → ℕ → ℕ → Bytes → List LongAd
-extents_in tail form r area = take_while (λ d. not (nat_eq d.kind 3)) (descriptors_in tail form r area)
+-- the bytes of an extent: the first of its blocks' bytes, or zeros where nothing is recorded
+abbrev pub extent_bytes : PartitionBlocks → LongAd → List Located
+extent_bytes blocks d = cond (nat_eq d.kind 0) (take d.length (extent_blocks blocks d)) (replicate d.length (0, None))
+
+-- the bytes behind an extent, up to the end of the block in which it ends
+abbrev pub bytes_behind : PartitionBlocks → LongAd → List Located
+bytes_behind blocks d = cond (nat_eq d.kind 0) (drop d.length (extent_blocks blocks d)) (replicate (2048 * blocks_in d.length - d.length) (0, None))
+
+-- the allocation descriptors that are recorded in an area
+abbrev pub recorded_in : ℕ → ℕ → Bytes → List LongAd
+recorded_in form r area = map (recorded_at form r area) (range_with_len 0 (descriptor_count form area))
 
 -- the extent that continues a list of descriptors is one block, and not empty (4/12.1; one block: own choice)
 abbrev pub IsOneBlock : LongAd → Type 0
@@ -65,39 +71,54 @@ IsOneBlock d = (0 < d.length) × (d.length ≤ 2048)
 abbrev pub IsExtentAt : ℕ → ℕ → Bytes → Type 0
 IsExtentAt form b bytes = (is_valid bytes b 258 ≡ true) × (24 + uint32_at bytes 20 ≤ 2048) × (uint32_at bytes 20 % descriptor_size form ≡ 0)
 
--- the extents of an area, and those of each continuation in turn, as far as these blocks hold them
-abbrev pub IsJoined : PartitionBlocks → ℕ → ℕ → Bytes → List Bytes → List LongAd → Type 0
-IsJoined blocks form r area [] ds = ds ≡ extents_in (takes_tail blocks.profile) form r area
-IsJoined blocks form r area (bytes ∷ more) ds = (d : LongAd) × (later : List LongAd)
-    × (next_descriptor (descriptors_in (takes_tail blocks.profile) form r area) ≡ Some d) × IsOneBlock d × (blocks.at d.reference d.block ≡ Some bytes)
-    × IsExtentAt form d.block bytes × IsJoined blocks form r (part bytes 24 (uint32_at bytes 20)) more later
-    × (ds ≡ extents_in (takes_tail blocks.profile) form r area ++ later)
+-- the descriptors of an area up to the first of type 3, and with it, and those of each continuation in turn, as far as these blocks hold them
+abbrev pub IsListed : PartitionBlocks → ℕ → ℕ → Bytes → List Bytes → List LongAd → Type 0
+IsListed blocks form r area [] ds = ds ≡ up_to_next (recorded_in form r area)
+IsListed blocks form r area (bytes ∷ more) ds = (d : LongAd) × (later : List LongAd)
+    × (next_descriptor (recorded_in form r area) ≡ Some d) × IsOneBlock d × (blocks.at d.reference d.block ≡ Some bytes)
+    × IsExtentAt form d.block bytes × IsListed blocks form r (part bytes 24 (uint32_at bytes 20)) more later
+    × (ds ≡ up_to_next (recorded_in form r area) ++ later)
 
--- the extents up to one of length 0, which is the end (4/12.1)
+-- the descriptors up to one of length 0, which is the end (4/12.1)
 abbrev pub up_to_end : List LongAd → List LongAd
 up_to_end ds = take_while (λ d. nat_lt 0 d.length) ds
 
--- An extent that begins at byte c of a body of this size: each of its recorded blocks that holds a byte of the body
--- is there, and where it ends before the body does, it fills its blocks (4/12.1).
-pub record IsExtentOf (blocks : PartitionBlocks) (c size : ℕ) (d : LongAd) : Type 0 where
+-- the extents among descriptors: those that do not continue the list
+abbrev pub extents_of : List LongAd → List LongAd
+extents_of ds = filter (λ d. not (nat_eq d.kind 3)) ds
+
+-- the tail of a list: the bytes behind the extent that is its last descriptor, up to the end of the block in which it ends
+abbrev pub tail_of : PartitionBlocks → List LongAd → List Located
+tail_of blocks [] = []
+tail_of blocks (d ∷ []) = cond (nat_eq d.kind 3) [] (bytes_behind blocks d)
+tail_of blocks (d ∷ e ∷ ds) = tail_of blocks (e ∷ ds)
+
+-- the same by the rules of the blocks: the strict ones take no tail
+abbrev pub tail_by : PartitionBlocks → List LongAd → List Located
+tail_by blocks ds = cond (takes_tail blocks.profile) (tail_of blocks ds) []
+
+-- An extent that begins at byte c of a body of this size, before these others: each of its recorded blocks that holds a byte of the body
+-- is there, and where it ends before the body does and is not the last, it fills its blocks (4/12.1).
+pub record IsExtentOf (blocks : PartitionBlocks) (c size : ℕ) (d : LongAd) (others : List LongAd) : Type 0 where
   pub there : d.kind ≡ 0 → (j : ℕ) → 2048 * j < d.length → c + 2048 * j < size
       → (bytes : Bytes) × (blocks.at d.reference (d.block + j) ≡ Some bytes)
-  pub full : c + d.length < size → d.length % 2048 ≡ 0
+  pub full : others ≢ [] → c + d.length < size → d.length % 2048 ≡ 0
 
--- each descriptor is a good extent of a body of this size, from byte c on
+-- each is a good extent of a body of this size, from byte c on
 abbrev pub AreExtentsOf : PartitionBlocks → ℕ → ℕ → List LongAd → Type 0
 AreExtentsOf blocks c size [] = ⊤
-AreExtentsOf blocks c size (d ∷ ds) = IsExtentOf blocks c size d × AreExtentsOf blocks (c + d.length) size ds
+AreExtentsOf blocks c size (d ∷ ds) = IsExtentOf blocks c size d ds × AreExtentsOf blocks (c + d.length) size ds
 
--- a body is the first bytes of its concatenated extents (at most 256 continuations: own choice)
+-- A body is the first bytes of its concatenated extents and their tail (at most 256 continuations: own choice). Descriptors are taken
+-- as they are recorded.
 pub record IsExtentsBody (blocks : PartitionBlocks) (r : ℕ) (e : EntryFields) (body : List Located) : Type 0 where
   pub followed : List Bytes
-  pub extents : List LongAd
-  pub joined : IsJoined blocks e.form r e.area followed extents
+  pub descriptors : List LongAd
+  pub listed : IsListed blocks e.form r e.area followed descriptors
   pub limit : length followed ≤ 256
-  pub sound : AreExtentsOf blocks 0 e.size (up_to_end extents)
+  pub sound : AreExtentsOf blocks 0 e.size (extents_of (up_to_end descriptors))
   pub bytes : List Located
-  pub together : bytes ≡ flat_map (extent_bytes blocks) (up_to_end extents)
+  pub together : bytes ≡ flat_map (extent_bytes blocks) (extents_of (up_to_end descriptors)) ++ tail_by blocks (up_to_end descriptors)
   pub enough : e.size ≤ length bytes
   pub is : body ≡ take e.size bytes
 

@@ -1,20 +1,21 @@
 //! The bodies of entries (ECMA-167 4/12.1, 4/14.5, 4/14.14).
 
-ghost use Rattle.std.specs.Prelude.{◌≡◌, ◌≤◌, length, IfOk, OnErr};
+ghost use Rattle.std.specs.Prelude.{◌≡◌, ◌≤◌, length, IfOk, OnErr, true};
 ghost use Rattle.udfs_lattice.specs.Tables.{state_of};
 ghost use Rattle.udfs_space.specs.Places as places;
 ghost use Rattle.udfs_space.specs.Places.{view};
-ghost use Rattle.udfs_space.specs.Views.{view_by};
+ghost use Rattle.udfs_space.specs.Views.{view_by, view_now};
 
 use crate::areas::Area;
 use crate::entries::Entry;
 use crate::extents::{extent, follow};
 use crate::faults::{NodeFault, WalkError};
 use crate::stretches::{Follow, Run, Stretch};
-use std::alloc::Global;
+use std::alloc::{AllocError, Global};
 use std::marker::Model;
 use udfs_lattice::{BlockStore, BlockTable, ReadFault};
-use udfs_space::{Space, StoreView};
+use udfs_osta::OutOfMemory;
+use udfs_space::{Space, StoreView, View};
 use udfs_tag::{LbAddr, extent_types};
 
 /// The body of an entry: as many bytes as its information length says, each of them known, zero or missing.
@@ -40,8 +41,9 @@ impl Body {
     ghost use Rattle.udfs_file.specs.Stretches.{GivesStretches, LieInBlocks, IsStanding, cells_of};
     ghost use Rattle.udfs_file.specs.Entries.{entry_of};
     ghost use Rattle.udfs_file.specs.Bodies.{body, extents_body_by, listed_body};
+    ghost use Rattle.udfs_file.specs.TailBodies.{has_cells, is_tail_read};
     ghost use Rattle.udfs_file.specs.Told.{TellsBody};
-    ghost use Rattle.std.specs.Prelude.{◌⊎◌, ◌<◌, Err};
+    ghost use Rattle.std.specs.Prelude.{◌⊎◌, ◌<◌, ◌&&◌, Err, false, not};
 
     /// The stretches, in order. Each but the last fills its blocks, so at most 2048 bytes side by side lie in one
     /// block, or in the end of one and the beginning of the next. It takes no memory.
@@ -146,6 +148,80 @@ impl Body {
             return Ok(Err(WalkError::OutOfMemory));
         }
         Ok(Ok(Body { stretches }))
+    }
+
+    /// Whether the body of `entry` is read by the tail of its last extent: the rules of the view read it, and without the tail, as by the
+    /// strict rules, it has a fault. The bytes of the tail are those of the extent's last block, whatever wrote them there.
+    ///
+    /// # Errors
+    ///
+    /// If memory runs out.
+    pub fn is_tail_read(
+        alloc: Global,
+        view: View<'_>,
+        entry: &Entry<'_>,
+        reference: u16,
+        b: u32,
+    ) -> Result<bool, OutOfMemory>
+        ensures { IfOk result (λ tail. tail ≡ is_tail_read (view_now view.entry) reference b (entry_of entry.now)) }
+    {
+        if entry.form() == 3 || !view.space.profile().takes_tail() {
+            return Ok(false);
+        }
+        Body::needs_tail(
+            alloc,
+            view,
+            entry.form(),
+            reference,
+            entry.size(),
+            entry.area(),
+        )
+    }
+
+    /// Whether the descriptors in this area give a body with the tail of the last extent, and none without it.
+    fn needs_tail(
+        alloc: Global,
+        view: View<'_>,
+        form: u16,
+        reference: u16,
+        size: u64,
+        area: &[u8],
+    ) -> Result<bool, OutOfMemory>
+        requires { length area.now ≤ 2048 }
+        ensures { IfOk result (λ tail. tail ≡ (has_cells (listed_body true (view_now view.entry) form reference size area.now)
+            && not (has_cells (listed_body false (view_now view.entry) form reference size area.now)))) }
+    {
+        if Body::is_listed(alloc, view, false, form, reference, size, area)? {
+            return Ok(false);
+        }
+        Body::is_listed(alloc, view, true, form, reference, size, area)
+    }
+
+    /// Whether the descriptors in this area give a body.
+    #[tactic(auto, using(crate::proofs::TailNeeds::gives, crate::proofs::TailNeeds::gives_none))]
+    fn is_listed(
+        alloc: Global,
+        view: View<'_>,
+        tail: bool,
+        form: u16,
+        reference: u16,
+        size: u64,
+        area: &[u8],
+    ) -> Result<bool, OutOfMemory>
+        requires { length area.now ≤ 2048 }
+        ensures { IfOk result (λ listed. listed ≡ has_cells (listed_body tail (view_now view.entry) form reference size area.now)) }
+    {
+        let mut room = [0; 2048];
+        let view = StoreView {
+            blocks: view.table,
+            space: view.space,
+        };
+        match Body::walk(alloc, view, tail, form, reference, size, area, &mut room) {
+            Ok(Ok(_)) => Ok(true),
+            Ok(Err(WalkError::Fault(_))) => Ok(false),
+            Ok(Err(WalkError::OutOfMemory)) => Err(AllocError),
+            Err(_) => unreachable!(),
+        }
     }
 
     /// The body of the descriptors in this area: with the tail of the last extent where the rules take it and it gives

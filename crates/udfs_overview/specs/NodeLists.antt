@@ -1,8 +1,15 @@
 -- The list of nodes, a line for each but the root.
 --     lost_of standing kind    how many bytes of a node are lost
---     list_line form n         the line of a node
---     list_text form nodes     the lines of all nodes after the root that are asked for
-use Rattle.std.specs.Prelude.{ℕ, ◌&&◌, List, [], ◌∷◌, ◌++◌, drop, flat_map, sum_by, Option, Some, None, codes, decimal, if◌then◌else◌}
+--     list_line form tail n           the line of a node, whose body is read by a tail or not
+--     list_text form blocks report    the lines of all nodes after the root that are asked for
+use Rattle.std.specs.Prelude.{ℕ, ◌&&◌, Bool, false, not, List, [], ◌∷◌, ◌++◌, drop, flat_map, sum_by, Option, Some, None, codes, decimal, if◌then◌else◌}
+use Rattle.udfs_lattice.specs.Volumes.{Blocks}
+use Rattle.udfs_volume.specs.Answers as answer
+use Rattle.udfs_volume.specs.Answers.{Answer}
+use Rattle.udfs_space.specs.Places.{View, view}
+use Rattle.udfs_walk.specs.NodeBodies.{has_tail}
+use Rattle.udfs_salvage.specs.Found.{Found}
+use Rattle.udfs_salvage.specs.Reports.{Report}
 use Rattle.udfs_osta.specs.StampTexts.{stamp_text}
 use Rattle.udfs_osta.specs.declared.stamps.Stamp.{Stamp}
 use Rattle.udfs_file.specs.declared.faults.Kind.{Kind}
@@ -76,14 +83,28 @@ line_end form = if form.null then 0 ∷ [] else 10 ∷ []
 abbrev pub front_columns : ListForm → NodeFields → List ℕ
 front_columns form n = if form.paths then [] else told_columns n.standing n.kind n.size n.stamp
 
--- the line of a node
-unfoldable pub list_line : ListForm → NodeFields → List ℕ
-list_line form n = front_columns form n ++ safe_path n.path ++ line_end form
+-- behind the path, the word of a body that is read by the tail of its last extent: not where only paths are asked for
+abbrev pub tail_column : ListForm → Bool → List ℕ
+tail_column form tail = if tail && not form.paths then 9 ∷ codes "tail" else []
+
+-- the line of a node, whose body is read so or not
+unfoldable pub list_line : ListForm → Bool → NodeFields → List ℕ
+list_line form tail n = front_columns form n ++ safe_path n.path ++ tail_column form tail ++ line_end form
 
 -- a whole node is left out where only others are asked for
-unfoldable pub listed : ListForm → NodeFields → List ℕ
-listed form n = if form.torn && is_whole n.standing then [] else list_line form n
+unfoldable pub listed : ListForm → Bool → NodeFields → List ℕ
+listed form tail n = if form.torn && is_whole n.standing then [] else list_line form tail n
 
--- the lines of the nodes after the root, which is the first
-unfoldable pub list_text : ListForm → List NodeFields → List ℕ
-list_text form nodes = flat_map (listed form) (drop 1 nodes)
+-- the line of a node in a view
+abbrev pub listed_in : ListForm → View → NodeFields → List ℕ
+listed_in form view n = listed form (has_tail view n.icb) n
+
+-- the lines of nodes, by what a volume is: what does not open has no tails
+abbrev pub lines_by : ListForm → Blocks → Answer Found → List NodeFields → List ℕ
+lines_by form blocks (answer.found f) nodes = flat_map (listed_in form (view blocks f.space)) nodes
+lines_by form blocks (answer.holes unread) nodes = flat_map (listed form false) nodes
+lines_by form blocks (answer.faulty fault) nodes = flat_map (listed form false) nodes
+
+-- the lines of the nodes of a report after the root, which is the first
+unfoldable pub list_text : ListForm → Blocks → Report → List ℕ
+list_text form blocks report = lines_by form blocks report.volume (drop 1 report.nodes)

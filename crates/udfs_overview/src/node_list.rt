@@ -1,12 +1,13 @@
 //! The list of nodes, a line for each but the root.
 
-ghost use Rattle.std.specs.Prelude.{◌≡◌, ◌++◌, OnOk, drop, flat_map, map};
+ghost use Rattle.std.specs.Prelude.{◌≡◌, ◌++◌, OnOk, drop, false, flat_map, map};
 ghost use Rattle.std.specs.String.{string_bytes};
+ghost use Rattle.udfs_lattice.specs.Tables.{state_of};
 ghost use Rattle.udfs_space.specs.Views.{view_now};
 ghost use Rattle.udfs_walk.specs.Bare.{full_node, node_with};
 ghost use Rattle.udfs_salvage.specs.Printing.{PassesOn, Prints};
 ghost use Rattle.udfs_salvage.specs.Surveys.{survey_now};
-ghost use Rattle.udfs_overview.specs.NodeLists.{front_columns, line_end, list_line, list_text, listed};
+ghost use Rattle.udfs_overview.specs.NodeLists.{front_columns, line_end, list_line, list_text, listed, listed_in, tail_column};
 
 use crate::node_columns::{is_whole, push_safe_path, push_told};
 use std::alloc::Global;
@@ -14,7 +15,7 @@ use udfs_osta::OutOfMemory;
 use udfs_reading::Sink;
 use udfs_salvage::{RunError, Survey, Volume, flush, pass_on};
 use udfs_space::View;
-use udfs_walk::{Node, Standing, full_standing};
+use udfs_walk::{Node, Standing, full_standing, tail_at};
 
 /// What a list shows of nodes, and how.
 #[derive(Clone, Copy, Debug, PartialEq, Eq)]
@@ -53,18 +54,31 @@ fn push_front(
     push_told(text, standing, node.kind, node.size, node.stamp)
 }
 
-/// The line of a node with this standing.
+/// The word behind the path of a node whose body is read by the tail of its last extent.
+fn push_tail(text: &mut String, form: ListForm, tail: bool) -> Result<(), OutOfMemory>
+    ensures { OnOk result (string_bytes text.new ≡ string_bytes text.old ++ tail_column form tail) }
+{
+    if tail && !form.paths {
+        text.push_str("\ttail")
+    } else {
+        Ok(())
+    }
+}
+
+/// The line of a node with this standing, whose body is read by a tail or not.
 #[tactic(auto, unfolding(crate::specs::NodeLists::list_line))]
 fn push_line(
     text: &mut String,
     form: ListForm,
+    tail: bool,
     node: &Node,
     standing: &Standing,
 ) -> Result<(), OutOfMemory>
-    ensures { OnOk result (string_bytes text.new ≡ string_bytes text.old ++ list_line form (node_with node.now standing.now)) }
+    ensures { OnOk result (string_bytes text.new ≡ string_bytes text.old ++ list_line form tail (node_with node.now standing.now)) }
 {
     push_front(text, form, node, standing)?;
     push_safe_path(text, &node.path)?;
+    push_tail(text, form, tail)?;
     push_end(text, form)
 }
 
@@ -73,15 +87,16 @@ fn push_line(
 fn push_listed(
     text: &mut String,
     form: ListForm,
+    tail: bool,
     node: &Node,
     standing: &Standing,
 ) -> Result<(), OutOfMemory>
-    ensures { OnOk result (string_bytes text.new ≡ string_bytes text.old ++ listed form (node_with node.now standing.now)) }
+    ensures { OnOk result (string_bytes text.new ≡ string_bytes text.old ++ listed form tail (node_with node.now standing.now)) }
 {
     if form.torn && is_whole(standing) {
         return Ok(());
     }
-    push_line(text, form, node, standing)
+    push_line(text, form, tail, node, standing)
 }
 
 /// The line of a node with this standing, if it is asked for.
@@ -89,13 +104,14 @@ fn put_listed<W: Sink>(
     text: &mut String,
     sink: &mut W,
     form: ListForm,
+    tail: bool,
     node: &Node,
     standing: &Standing,
 ) -> Result<(), RunError>
     ensures { PassesOn (W.stream sink.old) (W.stream sink.new) (string_bytes text.old) (string_bytes text.new)
-        (listed form (node_with node.now standing.now)) result }
+        (listed form tail (node_with node.now standing.now)) result }
 {
-    push_listed(text, form, node, standing)?;
+    push_listed(text, form, tail, node, standing)?;
     pass_on(text, sink)
 }
 
@@ -107,10 +123,10 @@ fn put_nodes<W: Sink>(
     nodes: &[Node],
 ) -> Result<(), RunError>
     ensures { PassesOn (W.stream sink.old) (W.stream sink.new) (string_bytes text.old) (string_bytes text.new)
-        (flat_map (listed form) nodes.now) result }
+        (flat_map (listed form false) nodes.now) result }
 {
     for node in nodes {
-        put_listed(text, sink, form, node, &node.standing)?;
+        put_listed(text, sink, form, false, node, &node.standing)?;
     }
     Ok(())
 }
@@ -125,10 +141,11 @@ fn put_full_node<W: Sink>(
     node: &Node,
 ) -> Result<(), RunError>
     ensures { PassesOn (W.stream sink.old) (W.stream sink.new) (string_bytes text.old) (string_bytes text.new)
-        (listed form (full_node (view_now view.entry) node.now)) result }
+        (listed_in form (view_now view.entry) (full_node (view_now view.entry) node.now)) result }
 {
     let full = full_standing(alloc, view, node.icb, &node.standing)?;
-    put_listed(text, sink, form, node, &full)
+    let tail = tail_at(alloc, view, node.icb)?;
+    put_listed(text, sink, form, tail, node, &full)
 }
 
 /// The lines of nodes that are given without their blocks and holes. They are found first, for one node at a time.
@@ -141,7 +158,7 @@ fn put_full_nodes<W: Sink>(
     nodes: &[Node],
 ) -> Result<(), RunError>
     ensures { PassesOn (W.stream sink.old) (W.stream sink.new) (string_bytes text.old) (string_bytes text.new)
-        (flat_map (listed form) (map (full_node (view_now view.entry)) nodes.now)) result }
+        (flat_map (listed_in form (view_now view.entry)) (map (full_node (view_now view.entry)) nodes.now)) result }
 {
     for node in nodes {
         put_full_node(alloc, text, sink, view, form, node)?;
@@ -167,7 +184,7 @@ fn put_all<W: Sink>(
     nodes: &[Node],
 ) -> Result<(), RunError>
     ensures { PassesOn (W.stream sink.old) (W.stream sink.new) (string_bytes text.old) (string_bytes text.new)
-        (list_text form nodes.now) result }
+        (flat_map (listed form false) (drop 1 nodes.now)) result }
 {
     put_nodes(text, sink, form, behind_root(nodes))
 }
@@ -182,12 +199,13 @@ fn put_full_all<W: Sink>(
     nodes: &[Node],
 ) -> Result<(), RunError>
     ensures { PassesOn (W.stream sink.old) (W.stream sink.new) (string_bytes text.old) (string_bytes text.new)
-        (list_text form (map (full_node (view_now view.entry)) nodes.now)) result }
+        (flat_map (listed_in form (view_now view.entry)) (drop 1 (map (full_node (view_now view.entry)) nodes.now))) result }
 {
     put_full_nodes(alloc, text, sink, view, form, behind_root(nodes))
 }
 
 /// All lines.
+#[tactic(auto, unfolding(crate::specs::NodeLists::list_text))]
 fn put_list<W: Sink>(
     alloc: Global,
     text: &mut String,
@@ -196,7 +214,7 @@ fn put_list<W: Sink>(
     form: ListForm,
 ) -> Result<(), RunError>
     ensures { PassesOn (W.stream sink.old) (W.stream sink.new) (string_bytes text.old) (string_bytes text.new)
-        (list_text form (survey_now survey.now).nodes) result }
+        (list_text form (state_of survey.now.table.now) (survey_now survey.now)) result }
 {
     match &survey.volume {
         Volume::Open(opened) => {
@@ -209,7 +227,8 @@ fn put_list<W: Sink>(
 
 /// Writes a line for each node after the root of the report that a survey represents, in the report's order: its standing, its
 /// kind, how many of its bytes are lost, its size in bytes, its time and its path, separated by tabs, with `-` for what is not
-/// known. `form` can leave out whole nodes or all columns but the path. The blocks and holes of one node are held at a time.
+/// known. Behind the path of a node whose body is read by the tail of its last extent, as the wide rules do, is the column `tail`. `form` can leave
+/// out whole nodes or all columns but the path. The blocks and holes of one node are held at a time.
 ///
 /// # Errors
 ///
@@ -221,7 +240,7 @@ pub fn write_list<W: Sink>(
     sink: &mut W,
 ) -> Result<(), RunError>
     ensures { Prints (W.stream sink.old) (W.stream sink.new)
-        (list_text form (survey_now survey.now).nodes) result }
+        (list_text form (state_of survey.now.table.now) (survey_now survey.now)) result }
 {
     let mut text = String::new(alloc);
     put_list(alloc, &mut text, sink, survey, form)?;

@@ -24,6 +24,7 @@ pub mod WideVolumes
 pub mod SampleLawful
 pub mod WideSample
 pub mod WideAlone
+mod TailSample
 pub mod TreeBytes
 pub mod PathNames
 pub mod FullTexts

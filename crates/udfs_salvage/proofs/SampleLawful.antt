@@ -8,10 +8,13 @@ use Rattle.udfs_volume.specs.Sample.{Maps, IsLawfulSample, sample, sample_blocks
 use Rattle.udfs_volume.proofs.PublicLaws.{sample_layout_is_lawful}
 use Rattle.udfs_space.specs.Sample.{sample_space}
 use Rattle.udfs_space.proofs.PublicLaws.{sample_places_are_lawful}
-use Rattle.udfs_file.specs.Sample.{sample_contents, sample_root}
+use Rattle.udfs_file.specs.Complete.{IsComplete}
+use Rattle.udfs_file.specs.Sample.{sample_contents, sample_root, sample_view}
 use Rattle.udfs_file.proofs.PublicLaws.{sample_file_set_is_found}
+use Rattle.udfs_walk.proofs.PublicLaws.{sample_nodes_are_whole}
+use Rattle.udfs_tree.specs.Lawful.{IsLawfulTree}
 use Rattle.udfs_tree.specs.Sample.{HasSampleFiles}
-use Rattle.udfs_tree.specs.Trees.{TreeFile}
+use Rattle.udfs_tree.specs.Trees.{PartitionBlocks, TreeFile}
 use Rattle.udfs_tree.proofs.PublicLaws.{sample_tree_is_lawful}
 use Rattle.udfs_salvage.specs.Found.{Found, placed, rooted, volume_by}
 use Rattle.udfs_salvage.specs.TreeReports.{SomeLawful, SomeLawfulBy}
@@ -41,6 +44,9 @@ finds maps = ap (λ x. and_then x (placed (blocks maps))) (lawful_layout maps).l
     ∙ ap (λ x. and_then x (rooted (blocks maps) (sample_layout maps))) (sample_places_are_lawful maps (sample_contents maps)).0
     ∙ ap (λ x. and_then x (λ root. found (record { layout = sample_layout maps; space = sample_space maps; root = root }))) (sample_file_set_is_found maps).1
 
+tree_of : (maps : Maps) → IsLawfulTree (sample_view maps) sample_root × ((bs : PartitionBlocks) → IsComplete (sample_view maps) bs → HasSampleFiles bs)
+tree_of maps = sample_tree_is_lawful (sample_view maps) maps (sample_nodes_are_whole maps)
+
 sample_is_whole : (maps : Maps) → AllIsWhole Strict (volume maps) 600
 sample_is_whole maps = record {
   is_volume = record {
@@ -50,7 +56,7 @@ sample_is_whole maps = record {
     layout = (lawful_layout maps).is_lawful;
     sparing = (sample_places_are_lawful maps (sample_contents maps)).1;
   };
-  tree = (sample_tree_is_lawful maps).0;
+  tree = (tree_of maps).0;
 }
 
 pub sample_is_lawful : (maps : Maps) → IsLawfulBy Strict (volume maps) 600
@@ -65,7 +71,7 @@ sample_has_b maps = (h.b.0, in_volume Strict (volume maps) 600 (sample_found map
     r = open_as Strict (volume maps) 600 (sample_is_whole maps).is_volume
 
     h : HasSampleFiles r.opened.blocks
-    h = (sample_tree_is_lawful maps).1 r.opened.blocks r.is_whole
+    h = (tree_of maps).1 r.opened.blocks r.is_whole
 
 pub some_lawful : SomeLawful
 some_lawful maps = (

@@ -1,5 +1,5 @@
 -- The layout that the strict rules find is found by the wide ones too, and is the same but for the rules.
-use Rattle.std.proofs.Common.{◌≡◌, refl, sym, ◌∙◌, ap, subst, inl, inr, ◌⊎◌, ℕ, ◌+◌, ◌-◌, ◌%◌, ◌<◌, ◌≤◌, arith, Bool, true, false, not, List, [], ◌∷◌, ◌++◌, map, drop, cond, ◌&&◌, ◌||◌, Option, Some, None, nat_eq, nat_le, nat_lt}
+use Rattle.std.proofs.Common.{◌≡◌, refl, sym, ◌∙◌, ap, subst, inl, inr, ◌⊎◌, ℕ, ◌+◌, ◌-◌, ◌%◌, ◌≤◌, arith, Bool, true, false, not, List, [], ◌∷◌, ◌++◌, map, drop, cond, ◌&&◌, ◌||◌, Option, Some, None, nat_eq, nat_le, nat_lt}
 use Rattle.std.specs.Prelude.{zero, suc, is_none, option_map}
 use Rattle.std.specs.List.{list_all, list_any}
 use Rattle.std.proofs.lemmas.Bool.{eqb-true, leb-true, le-leb}

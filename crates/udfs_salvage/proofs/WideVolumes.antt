@@ -1,5 +1,5 @@
 -- A volume that is lawful by the strict rules is lawful by the wide ones, and has the same files.
-use Rattle.std.proofs.Common.{◌≡◌, refl, sym, ◌∙◌, ap, subst, ℕ, true, false, List, map}
+use Rattle.std.proofs.Common.{◌≡◌, refl, sym, ◌∙◌, ap, subst, ℕ, List, map}
 use Rattle.std.specs.Prelude.{Contains}
 use Rattle.udfs_volume.specs.declared.profiles.Profile.{Profile}
 use Rattle.udfs_volume.specs.declared.profiles.Profile.TheVariants.{Strict, Wide}
@@ -31,7 +31,7 @@ use Rattle.udfs_salvage.proofs.WideLayouts.{layout_kept, sequence_kept, read_wid
 use Rattle.udfs_salvage.proofs.WideTrees.{in_tree_back, in_tree_kept, lawful_tree_kept, read_with}
 
 -- ---- the places
-abbrev wide_space : Space → Space
+abbrev pub wide_space : Space → Space
 wide_space s = record { spans = s.spans; profile = Wide }
 
 -- the copies of a sparing table that count by the wide rules say what all of them say together
@@ -62,13 +62,13 @@ abbrev wide_found : Found → Found
 wide_found f = record { layout = read_wide f.layout; space = wide_space f.space; root = f.root }
 
 -- what the strict rules find in a lawful volume, the wide ones find, by their rules
-record IsFoundKept (V : Volume) (N : ℕ) (f : Found) : Type 0 where
+pub record IsFoundKept (V : Volume) (N : ℕ) (f : Found) : Type 0 where
   pub layout_is : layout_by Wide (complete V N) N ≡ found (read_wide f.layout)
   pub space_is : space (complete V N) (read_wide f.layout) ≡ found (wide_space f.space)
   pub finds : volume_by Wide (complete V N) N ≡ found (wide_found f)
   pub strict : f.space.profile ≡ Strict
 
-found_kept : (V : Volume) (N : ℕ) (f : Found) → IsVolume V N → ((p : Partition) → Contains f.layout.partitions p → SparingAgrees V p.kind)
+pub found_kept : (V : Volume) (N : ℕ) (f : Found) → IsVolume V N → ((p : Partition) → Contains f.layout.partitions p → SparingAgrees V p.kind)
     → volume_by Strict (complete V N) N ≡ found f → IsFoundKept V N f
 unfolding volume_by
 found_kept V N f hv tables e = record {
@@ -91,7 +91,7 @@ found_kept V N f hv tables e = record {
     s : (space C (read_wide f.layout) ≡ found (wide_space f.space)) × (f.space.profile ≡ f.layout.profile)
     s = space_kept V N f.layout f.space hv by.layout_is tables by.space_is
 
-volume_kept : (V : Volume) (N : ℕ) (lawful : IsLawfulVolumeBy Strict V N) → IsFoundKept V N lawful.found_is → IsLawfulVolumeBy Wide V N
+unfoldable pub volume_kept : (V : Volume) (N : ℕ) (lawful : IsLawfulVolumeBy Strict V N) → IsFoundKept V N lawful.found_is → IsLawfulVolumeBy Wide V N
 volume_kept V N lawful k = record {
   volume_is = lawful.volume_is;
   found_is = wide_found lawful.found_is;

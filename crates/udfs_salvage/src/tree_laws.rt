@@ -2,7 +2,7 @@
 ghost use Rattle.udfs_volume.specs.declared.profiles.Profile.{Profile};
 ghost use Rattle.udfs_salvage.specs.TreeReports.{OneFileAt, OneFileAtBy, OpensOnce, OpensOnceBy, ReportsTellTree, ReportsTellTreeBy, SomeLawful, SomeLawfulBy};
 ghost use Rattle.udfs_salvage.specs.VolumeTrees.{LawfulIsWhole, LawfulIsWholeBy};
-ghost use Rattle.udfs_salvage.specs.WideVolumes.{WideTakesMore, WideTakesStrict};
+ghost use Rattle.udfs_salvage.specs.WideVolumes.{WideTakesMore, WideTakesStrict, WideTakesTails};
 
 /// The standard opens a lawful volume, and in one way only.
 pub fn opens_once()
@@ -34,9 +34,15 @@ pub fn wide_takes_strict()
     ensures { WideTakesStrict }
 {}
 
-/// And there is a volume with a file, of revision 2.00, that is lawful by the wide rules and not by the strict ones.
+/// And there are volumes with a file that are lawful by the wide rules and not by the strict ones: of revision 2.00, and of 1.02 with
+/// packets of 64 blocks.
 pub fn wide_takes_more()
     ensures { WideTakesMore }
+{}
+
+/// And there is one with a file that is so because of a tail: nothing but its tree is not lawful by the strict rules.
+pub fn wide_takes_tails()
+    ensures { WideTakesTails }
 {}
 
 /// A volume is lawful, which the standard's reading alone defines, if and only if every node is whole when all of the volume is known.

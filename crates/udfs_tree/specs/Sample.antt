@@ -1,9 +1,11 @@
--- The trees of the sample volumes: a root with the files A and B.
+-- The trees of the sample volumes, and of any view with the same nodes: a root with the files A and B.
 --     SampleTree     they are lawful, and the paths A and B lead to files of them
 use Rattle.std.specs.Prelude.{[], ◌∷◌}
 use Rattle.udfs_volume.specs.Sample.{Maps}
+use Rattle.udfs_space.specs.Places.{View}
 use Rattle.udfs_file.specs.Complete.{IsComplete}
-use Rattle.udfs_file.specs.Sample.{sample_root, sample_view}
+use Rattle.udfs_file.specs.Sample.{sample_root}
+use Rattle.udfs_walk.specs.Sample.{AreNodesIn}
 use Rattle.udfs_tree.specs.Lawful.{IsLawfulTree}
 use Rattle.udfs_tree.specs.Trees.{PartitionBlocks, TreeFile, InTree}
 
@@ -12,7 +14,7 @@ pub record HasSampleFiles (blocks : PartitionBlocks) : Type 0 where
   pub a : (file : TreeFile) × InTree blocks sample_root ((0x41 ∷ []) ∷ []) file
   pub b : (file : TreeFile) × InTree blocks sample_root ((0x42 ∷ []) ∷ []) file
 
--- each tree is lawful, and whatever gives its blocks, it has the files A and B
+-- a tree of these nodes is lawful in any view, and whatever gives its blocks, it has the files A and B
 abbrev pub SampleTree : Type 0
-SampleTree = (maps : Maps) → IsLawfulTree (sample_view maps) sample_root
-    × ((blocks : PartitionBlocks) → IsComplete (sample_view maps) blocks → HasSampleFiles blocks)
+SampleTree = (v : View) (maps : Maps) → AreNodesIn v maps → IsLawfulTree v sample_root
+    × ((blocks : PartitionBlocks) → IsComplete v blocks → HasSampleFiles blocks)

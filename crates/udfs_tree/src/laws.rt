@@ -47,7 +47,7 @@ pub fn whole_alike()
     ensures { WholeAlike }
 {}
 
-/// There are lawful trees with files below their roots: those of the sample volumes.
+/// A tree of the sample volumes' nodes is lawful, in any view, and has their files below its root: so there are lawful trees.
 pub fn sample_tree_is_lawful()
     ensures { SampleTree }
 {}

@@ -26,7 +26,7 @@ mod walks;
 
 pub use answers::{Node, NodesError, Unnamed};
 pub use bare::{full_entries, full_nodes, full_standing};
-pub use node_bodies::body_at;
+pub use node_bodies::{body_at, tail_at};
 pub use paths::Path;
 pub use rereads::{bare_reread, reread};
 pub use standings::{Standing, Torn};

@@ -1,10 +1,10 @@
 //! The body of the entry at an address.
 
-ghost use Rattle.std.specs.Prelude.{IfOk, List, MatchOption, OnErr};
+ghost use Rattle.std.specs.Prelude.{◌≡◌, IfOk, List, MatchOption, OnErr};
 ghost use Rattle.udfs_space.specs.Views.{view_now};
 ghost use Rattle.udfs_file.specs.Stretches.{cells_of};
 ghost use Rattle.udfs_file.specs.declared.cells.Cell.{Cell};
-ghost use Rattle.udfs_walk.specs.NodeBodies.{HasCells, MayTakeMemory};
+ghost use Rattle.udfs_walk.specs.NodeBodies.{HasCells, MayTakeMemory, has_tail};
 
 use crate::targets::{Target, target_at};
 use std::alloc::{AllocError, Global};
@@ -40,5 +40,21 @@ pub fn body_at(alloc: Global, view: View<'_>, address: LongAd) -> Result<Option<
             }
         }
         _ => Ok(None),
+    }
+}
+
+/// Whether the body of the entry that an address leads to is read by the tail of its last extent, as [`Body::is_tail_read`] says.
+///
+/// # Errors
+///
+/// If memory runs out.
+pub fn tail_at(alloc: Global, view: View<'_>, address: LongAd) -> Result<bool, AllocError>
+    ensures { IfOk result (λ tail. tail ≡ has_tail (view_now view.entry) address) }
+{
+    match target_at(view, address) {
+        Target::Entry(entry) => {
+            Body::is_tail_read(alloc, view, &entry, address.reference, address.block)
+        }
+        _ => Ok(false),
     }
 }

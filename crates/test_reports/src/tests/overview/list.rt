@@ -9,8 +9,9 @@ use std::test::Fail;
 use udfs_lattice::BlockTable;
 use udfs_overview::{ListForm, write_list};
 use udfs_reading::Writer;
-use udfs_salvage::{RunError, survey_volume};
+use udfs_salvage::{RunError, survey_volume, survey_volume_by};
 use udfs_samples::{Disc, LAST};
+use udfs_volume::Profile;
 
 /// All nodes, their columns, a line feed after each.
 const ALL: ListForm = ListForm {
@@ -66,6 +67,27 @@ fn lists(rt: HostRuntime) -> Result<(), Fail> {
         assert_text(&rt, listed(alloc, &table, ALL)?, expected);
     }
     Ok(())
+}
+
+/// A file of 5,010 bytes with an extent of 5,000, which ends in its third block: the wide rules read it, and mark it.
+#[test]
+fn tails(rt: HostRuntime) -> Result<(), Fail> {
+    let alloc = rt.alloc();
+    let mut disc = Disc::type1(alloc)?;
+    disc.write(&[(275, 56, &[0x92, 0x13])])?;
+    let table = disc.known_but(alloc, &[])?;
+    let survey = survey_volume_by(alloc, &table, LAST, Profile::Wide)?;
+    let mut text = Writer::new(Vec::new(alloc));
+    write_list(alloc, &survey, ALL, &mut text)?;
+    assert_text(
+        &rt,
+        String::from_utf8(text.into_inner())?,
+        "whole\tfile\t0\t5010\t2001-07-04T09:30:00.000000Z\t/A\ttail\nwhole\tfile\t0\t2\t2001-07-04T09:30:00.000000Z\t/B\n",
+    );
+    // By the strict rules it is a fault.
+    let strict =
+        "fault 9\tfile\t-\t5010\t2001-07-04T09:30:00.000000Z\t/A\nwhole\tfile\t0\t2\t2001-07-04T09:30:00.000000Z\t/B\n";
+    assert_listed(&rt, alloc, &disc, strict)
 }
 
 #[test]

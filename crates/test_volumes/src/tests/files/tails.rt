@@ -1,7 +1,7 @@
 //! Bodies whose last extent ends inside a block that goes on: a file that grew there may still have the old length.
 
-use super::told::{cells_by, stretches, stretches_by};
-use crate::tests::{assert_text, assert_text_in};
+use super::told::{cells_by, stretches, stretches_by, tail_by};
+use crate::tests::{assert_same, assert_text, assert_text_in};
 use std::alloc::Global;
 use std::process::Abort;
 use std::test::Fail;
@@ -193,6 +193,17 @@ fn assert_by_both(
     assert_text_in(rt, stretches(alloc, &table, 0, 3)?, strict, changes);
     let by_wide = stretches_by(alloc, &table, 0, 3, Profile::Wide)?;
     assert_text_in(rt, by_wide, wide, changes);
+    let needs = if strict.starts_with("fault") && wide.starts_with("body") {
+        "tail"
+    } else {
+        "no tail"
+    };
+    assert_same(rt, tail_by(alloc, &table, 0, 3, Profile::Wide)?, needs);
+    assert_same(
+        rt,
+        tail_by(alloc, &table, 0, 3, Profile::Strict)?,
+        "no tail",
+    );
     Ok(())
 }
 
@@ -262,5 +273,10 @@ fn embedded_bytes(rt: HostRuntime) -> Result<(), Fail> {
     let mut disc = Disc::type1(alloc)?;
     assert_cells(&rt, alloc, &disc, &[], 4, Profile::Wide, "cells 48*1 69*1")?;
     disc.write(&[(276, 56, &[3])])?;
+    assert_same(
+        &rt,
+        tail_by(alloc, &disc.known_but(alloc, &[])?, 0, 4, Profile::Wide)?,
+        "no tail",
+    );
     assert_cells(&rt, alloc, &disc, &[], 4, Profile::Wide, "fault 7 Short")
 }

@@ -167,6 +167,36 @@ pub fn stretches_by(
     Ok(text)
 }
 
+/// Whether a body is read by the tail of its last extent by the rules of a profile: `tail` or `no tail`.
+pub fn tail_by(
+    alloc: Global,
+    table: &BlockTable,
+    reference: u16,
+    b: u32,
+    profile: Profile,
+) -> Result<&'static str, Fail> {
+    let Some((space, _)) = laid_out_by(alloc, table, profile) else {
+        return Ok("no layout");
+    };
+    let bytes = match space.block_at(table, reference, u64::from(b)) {
+        Some((_, Fact::Known(bytes))) => bytes,
+        _ => return Ok("unread"),
+    };
+    let entry = match Entry::read(bytes, b) {
+        Ok(entry) => entry,
+        Err(_) => return Ok("no entry"),
+    };
+    let view = View {
+        table,
+        space: &space,
+    };
+    if Body::is_tail_read(alloc, view, &entry, reference, b)? {
+        Ok("tail")
+    } else {
+        Ok("no tail")
+    }
+}
+
 /// The portions of a body, or its fault.
 pub fn portions(alloc: Global, table: &BlockTable, reference: u16, b: u32) -> Result<String, Fail> {
     let Some((space, _)) = laid_out(alloc, table) else {

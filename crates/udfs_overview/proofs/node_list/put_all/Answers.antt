@@ -1,13 +1,12 @@
-use Rattle.std.proofs.Common.{subst}
+use Rattle.std.proofs.Common.{false, subst}
 use Rattle.std.specs.Prelude.{flat_map}
 use Rattle.std.specs.String.{string_bytes}
 use Rattle.udfs_salvage.specs.Printing.{PassesOn}
-use Rattle.udfs_overview.specs.NodeLists.{listed, list_text}
+use Rattle.udfs_overview.specs.NodeLists.{listed}
 use Rattle.udfs_overview.proofs.node_list.put_all.Goals as goal
 
 pub returns : goal.returns
-unfolding list_text
 returns g c =
     let W = g.W.Sink in
     subst (λ ns. PassesOn (W.stream c.args.sink.now) (W.stream c.put_nodes.new.sink) (string_bytes c.args.text.now) (string_bytes c.put_nodes.new.text)
-    (flat_map (listed c.args.form) ns) c.put_nodes.result) c.behind_root.ensures c.put_nodes.ensures
+    (flat_map (listed c.args.form false) ns) c.put_nodes.result) c.behind_root.ensures c.put_nodes.ensures

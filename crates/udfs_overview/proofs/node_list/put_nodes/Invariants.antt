@@ -1,4 +1,4 @@
-use Rattle.std.proofs.Common.{take}
+use Rattle.std.proofs.Common.{false, take}
 use Rattle.std.specs.Prelude.{flat_map}
 use Rattle.std.specs.String.{string_bytes}
 use Rattle.udfs_reading.specs.Writing.{Passed}
@@ -10,4 +10,4 @@ abbrev pub invariant-loop-node : goal.invariant-loop-node
 invariant-loop-node g l =
     let W = g.W.Sink in
     Passed (W.stream l.fn.sink) (W.stream l.sink) (string_bytes l.fn.text) (string_bytes l.text)
-    (flat_map (listed l.form) (take l.node-index l.nodes))
+    (flat_map (listed l.form false) (take l.node-index l.nodes))

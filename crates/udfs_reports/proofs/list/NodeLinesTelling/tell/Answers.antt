@@ -4,10 +4,11 @@ use Rattle.udfs_reports.proofs.list.NodeLinesTelling.tell.Goals as goal
 
 pub returns-clause-refused : goal.returns-clause-refused
 returns-clause-refused g c =
+    let of = c.in-Ok.ensures.of in
     inr (record {
       report = survey_now c.in-Ok.survey;
       is_report = c.in-Ok.ensures.report;
       error = c.in-Err-write_list.error;
-      stopped = c.in-Err-write_list.ensures;
+      stopped = rw (← of.0) c.in-Err-write_list.ensures;
       told = search rules;
     })
