@@ -44,5 +44,5 @@ pub returns-clause-why : goal.returns-clause-why
 returns-clause-why g c = inr (
   listing_now c.in-Ok.listing,
   c.in-Ok.ensures.report,
-  adding_stops _ _ _ _ _ _ _ _ _ _ _ _ _ _ _ c.in-Ok.ensures.of.0 c.in-Ok-list_report.ensures.made.1 c.in-Err-add_lost.ensures.why,
+  adding_stops _ _ _ _ _ _ _ _ _ _ _ _ _ _ _ _ c.in-Ok.ensures.of.0 c.in-Ok-list_report.ensures.made.1 c.in-Err-add_lost.ensures.why,
 )
