@@ -1,5 +1,5 @@
 -- What is said of a listing's table is said of the disc's, stage after stage.
-use Rattle.std.proofs.Common.{◌≡◌, ◌⊎◌, Bool, Bor, List, Option, None, Some, inl, inr, subst, ℕ}
+use Rattle.std.proofs.Common.{◌≡◌, Bool, Bor, List, Option, None, Some, inl, inr, subst, ℕ}
 use Rattle.std.specs.Prelude.{◌&&◌, MatchOption}
 use Rattle.udfs_lattice.specs.Tables.{Table}
 use Rattle.udfs_reading.specs.Device.{Stream}

@@ -1,4 +1,4 @@
-use Rattle.std.proofs.Common.{inl, inr, option_map, refl, rules, string_bytes, ⊎_elim}
+use Rattle.std.proofs.Common.{inl, inr, option_map, refl, string_bytes, ⊎_elim}
 use Rattle.udfs_common.proofs.VolumeLemmas.{of_disc}
 use Rattle.udfs_extraction.proofs.NoNode.{no_node}
 use Rattle.udfs_extraction.proofs.extract.extract.Goals as goal

@@ -1,5 +1,4 @@
-use Rattle.std.proofs.Common.{inl, inr, refl, subst}
-use Rattle.udfs_lattice.specs.Tables.{Table}
+use Rattle.std.proofs.Common.{inl, inr, refl}
 use Rattle.udfs_salvage.specs.Listings.{listing_now}
 use Rattle.udfs_extraction.proofs.ExtractLemmas.{adding_stops, listing_stops, made}
 use Rattle.udfs_extraction.proofs.LostLemmas.{nothing_added}
