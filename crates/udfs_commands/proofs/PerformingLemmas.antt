@@ -1,6 +1,7 @@
 -- What is said of a result in two parts, of one where nothing has changed, and of a mapfile alone.
-use Rattle.std.proofs.Common.{◌≡◌, ◌⊎◌, ℕ, Bool, true, List, Result, Ok, Err, IfOk, OnErr, OnOk, inl, inr, refl}
+use Rattle.std.proofs.Common.{◌≡◌, ◌⊎◌, ℕ, Bool, true, List, Option, Some, Result, Ok, Err, IfOk, OnErr, OnOk, inl, inr, refl, subst, sym}
 use Rattle.std.specs.Bool.{⊤}
+use Rattle.std.specs.Prelude.{MatchOption}
 use Rattle.udfs_reading.specs.Device.{Stream}
 use Rattle.udfs_words.specs.declared.request.Request.{Request}
 use Rattle.udfs_words.specs.declared.request.Request.TheVariants.{Reread}
@@ -27,6 +28,10 @@ some_map reach old r before after bytes is =
 pub map_left : {F I M S W : Type 0} (reach : Reach F I M S W) (old new : F) (asked : Request) (r : RereadRequest) (path : List ℕ) (before after : Stream) → asked ≡ Reread r → Spares reach (λ bytes. (whole : Bool) × IsMap reach old r before after whole bytes) path old new →
     Spares reach (IsSomeMap reach old r) path old new
 map_left reach old new asked r path before after is spares = spares_wider _ _ (some_map reach old r before after) spares
+
+-- what is so of a value that is there
+pub where_some : {X : Type 0} (o : Option X) (x : X) (P : Type 0) (Q : X → Type 0) → o ≡ Some x → Q x → MatchOption o P Q
+where_some {X} o x P Q is q = subst (λ (p : Option X). MatchOption p P Q) (sym is) q
 
 -- a result that is a refusal or not, where nothing has changed
 pub unchanged : {A E : Type 0} (result : Result A E) (P Q : Type 0) → P → OnErr result (P ⊎ Q)

@@ -1,5 +1,5 @@
 -- Where the root is asked for, all nodes are.
-use Rattle.std.proofs.Common.{◌≡◌, Bool, true, false, List, [], ◌∷◌, ap, codes, refl}
+use Rattle.std.proofs.Common.{◌≡◌, true, false, List, [], ◌∷◌, ap, codes, refl}
 use Rattle.std.specs.List.{list_all}
 use Rattle.udfs_walk.specs.NodeFields.{NodeFields}
 use Rattle.udfs_walk.specs.Unsettled.{is_whole}

@@ -1,5 +1,5 @@
 -- What is said of a listing's table is said of the disc's, stage after stage.
-use Rattle.std.proofs.Common.{◌≡◌, ◌⊎◌, Bool, Bor, List, Option, None, Some, inl, inr, subst, ℕ}
+use Rattle.std.proofs.Common.{◌≡◌, Bool, Bor, List, Option, None, Some, inl, inr, subst, ℕ}
 use Rattle.std.specs.Prelude.{◌&&◌, MatchOption}
 use Rattle.udfs_lattice.specs.Tables.{Table}
 use Rattle.udfs_reading.specs.Device.{Stream}
@@ -38,5 +38,5 @@ adding_stops reach stream r place old one two new before between after table of 
   where
     by : (o : Option (Bor (List ℕ))) → MatchOption o ⊥ (λ folder. LostStops reach.files reach.output folder.now new (stream between) (stream after) table report refusal)
         → MatchOption o ⊥ (λ folder. StopsAdding reach stream r place folder.now old new before after table report refusal)
-    by None no = no
+    by None never = never
     by (Some folder) stops = record { one = one; two = two; between = between; good = good; nodes = nodes; lost = stops }

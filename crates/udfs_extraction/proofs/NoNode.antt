@@ -35,21 +35,21 @@ nodes (faulty fault) v Failed only own P ns before after old new refusal i is li
 
 manifest : {F I M S W : Type 0} (reach : Reach F I M S W) (r : ExtractRequest) (place : Option (List ℕ)) (old new : F) (before after : Stream) (table : Table) (report : Report) (refusal : Refusal) (i : ℕ) → refusal ≡ NoNode i
     → MatchOption place ⊥ (λ there. Unlisted reach r there old new before after table report refusal) → ⊥
-manifest reach r None old new before after table report refusal i is no = no
+manifest reach r None old new before after table report refusal i is never = never
 manifest reach r (Some there) old new before after table report refusal i is unlisted = unput _ refusal i is unlisted.unput
 
 lost : {F I M S W O : Type 0} (reach : Reach F I M S W) (stream : O → Stream) (r : ExtractRequest) (place : Option (List ℕ)) (folder : Option (Bor (List ℕ))) (old new : F) (before after : O) (table : Table) (report : Report) (refusal : Refusal) (i : ℕ) → refusal ≡ NoNode i
     → MatchOption folder ⊥ (λ path. StopsAdding reach stream r place path.now old new before after table report refusal) → ⊥
-lost reach stream r place None old new before after table report refusal i is no = no
+lost reach stream r place None old new before after table report refusal i is never = never
 lost reach stream r place (Some path) old new before after table report refusal i is stops = by stops.lost
   where
     by : LostStops reach.files reach.output path.now new (stream stops.between) (stream after) table report refusal → ⊥
     by (inl (kept, made, failed)) = let bad : NoNode i ≡ LostFolder = sym is ∙ made in cc
     by (inr (heard, fates, each, lines, why)) = behind _ _ _ refusal i is why
 
-pub no_node : {F I M S W O : Type 0} {reach : Reach F I M S W} {stream : O → Stream} {r : ExtractRequest} {place : Option (List ℕ)} {old new : F} {before after : O} {last : ℕ} {table : Table} {refusal : Refusal} (i : ℕ) → refusal ≡ NoNode i
+pub no_node : {F I M S W O : Type 0} (reach : Reach F I M S W) (stream : O → Stream) (r : ExtractRequest) (place : Option (List ℕ)) (old new : F) (before after : O) (last : ℕ) (table : Table) (refusal : Refusal) (i : ℕ) → refusal ≡ NoNode i
     → MakingRefused reach stream r place old new before after last table refusal → new ≡ old
-no_node i is (inl (same, kept, untold)) = same
-no_node {reach = reach} {r = r} {place = place} {old = old} {new = new} {table = table} {refusal = refusal} i is (inr (report, is_report, inl (inl stops))) = nodes report.volume report.volume _ _ _ _ report.nodes old new _ _ refusal i is stops
-no_node {reach = reach} {r = r} {place = place} {old = old} {new = new} {table = table} {refusal = refusal} i is (inr (report, is_report, inl (inr unlisted))) = absurd (manifest reach r place old new _ _ table report refusal i is unlisted)
-no_node {reach = reach} {stream = stream} {r = r} {place = place} {old = old} {new = new} {before = before} {after = after} {table = table} {refusal = refusal} i is (inr (report, is_report, inr stops)) = absurd (lost reach stream r place r.lost old new before after table report refusal i is stops)
+no_node reach stream r place old new before after last table refusal i is (inl (same, kept, untold)) = same
+no_node reach stream r place old new before after last table refusal i is (inr (report, is_report, inl (inl stops))) = nodes report.volume report.volume _ _ _ _ report.nodes old new _ _ refusal i is stops
+no_node reach stream r place old new before after last table refusal i is (inr (report, is_report, inl (inr unlisted))) = absurd (manifest reach r place old new _ _ table report refusal i is unlisted)
+no_node reach stream r place old new before after last table refusal i is (inr (report, is_report, inr stops)) = absurd (lost reach stream r place r.lost old new before after table report refusal i is stops)

@@ -6,7 +6,7 @@
 --     PutsLost                         all entries with their fates and lines
 --     SparesLost .. before after       no file that was there changes, nor anything outside of the folder, whatever crashes
 --     IsNewFolder                      nothing is where the folder is to be, and other paths do not lead there
-use Rattle.std.specs.Prelude.{◌≡◌, ◌⊎◌, ℕ, Bool, false, List, [], ◌∷◌, ◌++◌, ⊤, ◌&&◌, Option, Some, None, cond, codes, length}
+use Rattle.std.specs.Prelude.{◌≡◌, ◌⊎◌, ℕ, Bool, false, List, [], ◌∷◌, ◌++◌, ⊤, Option, Some, None, cond, codes, length}
 use Rattle.udfs_file.specs.declared.cells.Cell.{Cell}
 use Rattle.udfs_files.specs.Disk.{Disk, Fails, Goes, SinkFails}
 use Rattle.udfs_files.specs.declared.files.Files.{Ghosts}

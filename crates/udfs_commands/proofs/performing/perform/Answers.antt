@@ -1,6 +1,6 @@
 use Rattle.std.proofs.Common.{refl}
 use Rattle.udfs_common.proofs.PutsLemmas.{spares}
-use Rattle.udfs_commands.proofs.PerformingLemmas.{all_done, all_failed, any_failed, both, map_left, unchanged}
+use Rattle.udfs_commands.proofs.PerformingLemmas.{all_done, all_failed, any_failed, both, map_left, unchanged, where_some}
 use Rattle.udfs_commands.proofs.performing.perform.Goals as goal
 
 pub returns-in-Merge-clause-done : goal.returns-in-Merge-clause-done
@@ -58,7 +58,7 @@ pub returns-in-Summary-clause-failed : goal.returns-in-Summary-clause-failed
 returns-in-Summary-clause-failed g c = rw c.in-Summary.is (unchanged _ _ _ refl)
 
 pub returns-in-Some-clause-left : goal.returns-in-Some-clause-left
-returns-in-Some-clause-left g c = rw c.in-Reread.is (rw c.in-Some.is (map_left _ _ _ _ _ _ _ _ c.in-Reread.is c.reread_map.ensures.puts.spares))
+returns-in-Some-clause-left g c = rw c.in-Reread.is (where_some _ _ _ _ c.in-Some.is (map_left _ _ _ _ _ _ _ _ c.in-Reread.is c.reread_map.ensures.puts.spares))
 
 pub returns-in-Page-clause-done : goal.returns-in-Page-clause-done
 returns-in-Page-clause-done g c = rw c.in-Page.is (both _ _ _ c.page.ensures.puts.put c.page.ensures.free)

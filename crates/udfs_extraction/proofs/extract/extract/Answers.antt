@@ -1,4 +1,4 @@
-use Rattle.std.proofs.Common.{inl, inr, option_map, refl, rules, string_bytes, ⊎_elim}
+use Rattle.std.proofs.Common.{inl, inr, option_map, refl, string_bytes, ⊎_elim}
 use Rattle.udfs_common.proofs.VolumeLemmas.{of_disc}
 use Rattle.udfs_extraction.proofs.NoNode.{no_node}
 use Rattle.udfs_extraction.proofs.extract.extract.Goals as goal
@@ -41,4 +41,4 @@ pub returns-clause-why : goal.returns-clause-why
 returns-clause-why g c = inr (option_map string_bytes c.in-Ok-find_places.place, c.in-Ok-find_places.ensures.leads, of_disc _ c.in-Ok-joined_volume.ensures.joined c.in-Err-extract_disc.ensures.why)
 
 pub returns-clause-no_node : goal.returns-clause-no_node
-returns-clause-no_node g c i is = no_node i is c.in-Err-extract_disc.ensures.why
+returns-clause-no_node g c i is = no_node _ _ _ _ _ _ _ _ _ _ _ i is c.in-Err-extract_disc.ensures.why

@@ -1,5 +1,4 @@
-use Rattle.std.proofs.Common.{inl, inr, refl, subst}
-use Rattle.udfs_lattice.specs.Tables.{Table}
+use Rattle.std.proofs.Common.{inl, inr, refl}
 use Rattle.udfs_salvage.specs.Listings.{listing_now}
 use Rattle.udfs_extraction.proofs.ExtractLemmas.{adding_stops, listing_stops, made}
 use Rattle.udfs_extraction.proofs.LostLemmas.{nothing_added}
@@ -44,5 +43,5 @@ pub returns-clause-why : goal.returns-clause-why
 returns-clause-why g c = inr (
   listing_now c.in-Ok.listing,
   c.in-Ok.ensures.report,
-  adding_stops _ _ _ _ _ _ _ _ _ _ _ _ _ _ _ c.in-Ok.ensures.of.0 c.in-Ok-list_report.ensures.made.1 c.in-Err-add_lost.ensures.why,
+  adding_stops _ _ _ _ _ _ _ _ _ _ _ _ _ _ _ _ c.in-Ok.ensures.of.0 c.in-Ok-list_report.ensures.made.1 c.in-Err-add_lost.ensures.why,
 )

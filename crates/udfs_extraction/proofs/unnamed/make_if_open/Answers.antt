@@ -4,4 +4,4 @@ use Rattle.udfs_extraction.proofs.unnamed.make_if_open.Goals as goal
 pub returns-in_default-clause-crash : goal.returns-in_default-clause-crash
 returns-in_default-clause-crash g c =
     let F = g.F.Files in
-    same_nothing F.tells F.holds _ _ _ c.args.files.now
+    same_nothing F c.args.files.now
