@@ -42,13 +42,19 @@ class Entry:
         return {4: "directory", 12: "link"}.get(self.type, "other-%d" % self.type)
 
     def body(self):
-        """The body's stretches. By the wide rules the tail of the last extent is taken, unless the body has a fault with it."""
-        if self.volume.rules["tail"]:
-            try:
-                return self.stretches(True)
-            except NodeFault:
-                pass
-        return self.stretches(False)
+        """The body's stretches, and whether they are read by the tail of the last extent. By the wide rules the tail is taken, unless the body has a fault with it;
+        it tells where the body has a fault without it."""
+        if not self.volume.rules["tail"]:
+            return self.stretches(False), False
+        try:
+            body = self.stretches(True)
+        except NodeFault:
+            return self.stretches(False), False
+        try:
+            self.stretches(False)
+        except NodeFault:
+            return body, True
+        return body, False
 
     def stretches(self, tail):
         if self.form == 3:
@@ -166,7 +172,7 @@ class Found:
 
     def __init__(self, volume, reference, block):
         self.kind, self.size, self.time, self.standing = "unread", None, None, "whole"
-        self.missing, self.holes, self.body, self.names, self.moved = [], [], [], [], False
+        self.missing, self.holes, self.body, self.names, self.moved, self.tail = [], [], [], [], False, False
         place = volume.place(reference, block)
         if not volume.known(place):
             self.standing, self.missing = "torn", [place]
@@ -174,7 +180,7 @@ class Found:
         try:
             entry = Entry(volume, reference, block, volume.known(place))
             self.kind, self.size, self.time = entry.kind(), entry.size, entry.time
-            self.body = entry.body()
+            self.body, self.tail = entry.body()
             if self.kind == "directory":
                 self.names, fault, self.moved = names_of(self.body, self.size, volume.rules["anywhere"])
                 if fault:
@@ -192,7 +198,7 @@ class Found:
             begin += stretch.length
 
 
-Node = collections.namedtuple("Node", "names hidden kind size time standing missing holes body icb")
+Node = collections.namedtuple("Node", "names hidden kind size time standing missing holes body icb tail")
 
 
 class Walk:
@@ -220,7 +226,8 @@ class Walk:
         if len(self.nodes) == 65536:
             raise Refused("fault 3 TooManyPaths")
         kind, size, time = (found.kind, found.size, found.time) if found else ("unread", None, None)
-        self.nodes.append(Node(names, hidden, kind, size, time, standing, list(missing), list(holes), found.body if found else [], icb))
+        body, tail = (found.body, found.tail) if found else ([], False)
+        self.nodes.append(Node(names, hidden, kind, size, time, standing, list(missing), list(holes), body, icb, tail))
 
     def visit(self, names, hidden, address, above):
         try:

@@ -84,12 +84,12 @@ class Report:
         return json.dumps(top, sort_keys=True, ensure_ascii=False, separators=(",", ":")) + "\n"
 
     def list(self, torn, paths, end):
-        """A line for each node after the root."""
+        """A line for each node after the root. A word behind the path tells that a body is read by the tail of its last extent."""
         lines = []
         for node in self.nodes[1:]:
             if not torn or node.standing != "whole":
                 path = re.sub(FORGING, lambda found: "\\u%04X" % ord(found[0]), path_of(node))
-                lines.append(path if paths else "\t".join(columns(node) + [path]))
+                lines.append(path if paths else "\t".join(columns(node) + [path] + ["tail"] * node.tail))
         return "".join(line + end for line in lines)
 
     def extract(self, folder, fill):
