@@ -8,7 +8,8 @@ ghost use Rattle.udfs_words.specs.Grammar.{extract_app, forget_app, image_app, l
 
 use crate::arguments::{
     blocks, disc_size, domain, flag, folder, force, group, image_file, image_map, inputs, joining,
-    last, lost_folder, manifest, only, page_file, pair_inputs, profile, quiet, table_file, verbose,
+    last, lost_folder, manifest, only, page_file, pair_inputs, profile, quiet, table_file, title,
+    verbose,
 };
 use clap::Command;
 use std::alloc::{AllocError, Global};
@@ -72,6 +73,9 @@ pub const TIMES: &str = "times";
 
 /// The id of the flag for short names among the matches.
 pub const SHORT_NAMES: &str = "short-names";
+
+/// The page's title among the matches.
+pub const TITLE: &str = "title";
 
 /// The id of the flag for JSON among the matches.
 pub const JSON: &str = "json";
@@ -345,7 +349,7 @@ fn summary<'a>(alloc: Global, given: Given) -> Result<Command<'a>, AllocError>
     with_inputs(alloc, command, given.pairs)
 }
 
-/// `page --out FILE (--last N | --size BYTES) [--profile PROFILE] [--force] IN...`
+/// `page --out FILE (--last N | --size BYTES) [--profile PROFILE] [--title TEXT] [--force] IN...`
 fn page<'a>(alloc: Global, given: Given) -> Result<Command<'a>, AllocError>
     ensures { IfOk result (λ command. app_of command ≡ page_app given) }
 {
@@ -358,6 +362,7 @@ fn page<'a>(alloc: Global, given: Given) -> Result<Command<'a>, AllocError>
         .arg(disc_size(alloc))?
         .arg(profile(alloc))?
         .arg(page_file(alloc))?
+        .arg(title(alloc))?
         .arg(joining(alloc))?;
     with_inputs(alloc, command, given.pairs)
 }
