@@ -13,6 +13,7 @@ pub mod Spares
 pub mod VolumeLines
 pub mod TornRows
 pub mod TornLists
+pub mod UnreadLists
 pub mod Disagreements
 pub mod Repeating
 pub mod NextCommands

@@ -17,32 +17,44 @@ table_path [] = codes "disc.tab"
 table_path (path ∷ paths) = if is_table path then path else table_path paths
 
 -- the names of the image and of the mapfile of a pass
-abbrev pub pass_words : ℕ → List ℕ
+unfoldable pub pass_words : ℕ → List ℕ
 pass_words n = image_name n ++ codes " " ++ mapfile_name n
+
+-- the inputs at the end of a command
+unfoldable pub inputs_end : GivenWords → List ℕ
+inputs_end g = inputs_words g ++ codes "\n"
 
 -- the blocks that are worth reading again, in a domain mapfile
 unfoldable pub reread_command : GivenWords → Profile → ℕ → List ℕ
-reread_command g rules last = codes "udfsalvage reread" ++ disc_words g rules last ++ codes " --mapfile want.map" ++ inputs_words g ++ codes "\n"
+reread_command g rules last = codes "udfsalvage reread" ++ disc_words g rules last ++ codes " --mapfile want.map" ++ inputs_end g
 
 -- a pass over them
 unfoldable pub ddrescue_command : ℕ → List ℕ
 ddrescue_command n = codes "ddrescue -d -r3 -b2048 -m want.map /dev/sr0 " ++ pass_words n ++ codes "\n"
 
+-- what begins the next command, up to its inputs
+unfoldable pub merge_front : GivenWords → List ℕ
+merge_front g = codes "udfsalvage merge --out " ++ shell_path (table_path g.files) ++ force_words g.force
+
+-- and the pass at its end
+unfoldable pub pass_end : ℕ → List ℕ
+pass_end n = codes " --ddrescue " ++ pass_words n ++ codes "\n"
+
 -- the table of the inputs and this pass
 unfoldable pub merge_command : GivenWords → ℕ → List ℕ
-merge_command g n = codes "udfsalvage merge --out " ++ shell_path (table_path g.files) ++ force_words g.force ++ inputs_words g ++ codes " --ddrescue " ++ pass_words n ++ codes "\n"
+merge_command g n = merge_front g ++ inputs_words g ++ pass_end n
 
 -- the table of the inputs without the blocks in conflict
 unfoldable pub forget_command : GivenWords → List ℕ
-forget_command g = codes "udfsalvage forget --conflicts --out clean.tab" ++ force_words g.force ++ inputs_words g ++ codes "\n"
+forget_command g = codes "udfsalvage forget --conflicts --out clean.tab" ++ force_words g.force ++ inputs_end g
 
 -- what writes the whole files
 unfoldable pub extract_command : GivenWords → Profile → ℕ → List ℕ
-extract_command g rules last = codes "udfsalvage extract" ++ disc_words g rules last ++ codes " --to files" ++ inputs_words g ++ codes "\n"
+extract_command g rules last = codes "udfsalvage extract" ++ disc_words g rules last ++ codes " --to files" ++ inputs_end g
 
 -- the summary by the rules of a profile
 unfoldable pub summary_command : GivenWords → Profile → ℕ → List ℕ
-summary_command g rules last = codes "udfsalvage summary" ++ disc_words g rules last ++ inputs_words g ++ codes "\n"
+summary_command g rules last = codes "udfsalvage summary" ++ disc_words g rules last ++ inputs_end g
 
 -- the same arguments where that table is the only input
 abbrev pub cleaned : GivenWords → GivenWords

@@ -5,7 +5,7 @@
 --     inputs_words words          the inputs as arguments
 --     disc_words words rules last where the disc ends, and by which rules it is read, as arguments
 --     pass_number words known     the number of a pass that is none of the inputs
-use Rattle.std.specs.Prelude.{ℕ, ◌+◌, ◌/◌, ◌%◌, ◌==◌, ◌&&◌, ◌||◌, nat_eq, nat_le, nat_lt, Bool, false, not, is_empty, List, [], ◌∷◌, ◌++◌, Option, Some, None, codes, decimal, flat_map, map, option_map, if◌then◌else◌}
+use Rattle.std.specs.Prelude.{ℕ, ◌+◌, ◌/◌, ◌%◌, ◌==◌, ◌&&◌, ◌||◌, nat_eq, nat_le, nat_lt, Bool, false, List, [], ◌∷◌, ◌++◌, Option, Some, None, codes, decimal, flat_map, map, option_map, if◌then◌else◌}
 use Rattle.std.specs.List.{ends_with, list_all, list_any, starts_with}
 use Rattle.udfs_volume.specs.declared.profiles.Profile.{Profile}
 use Rattle.udfs_volume.specs.declared.profiles.Profile.TheVariants as profile
@@ -51,7 +51,8 @@ quoted_word text = codes "'" ++ text ++ codes "'"
 
 -- a text that needs no quotes
 abbrev pub is_bare : List ℕ → Bool
-is_bare text = not (is_empty text) && list_all is_plain text
+is_bare [] = false
+is_bare (b ∷ bs) = list_all is_plain (b ∷ bs)
 
 -- a text as one word
 unfoldable pub shell_word : List ℕ → List ℕ
@@ -74,7 +75,7 @@ pair_words (image ∷ []) = []
 pair_words (image ∷ mapfile ∷ rest) = codes " --ddrescue" ++ file_word image ++ file_word mapfile ++ pair_words rest
 
 -- all inputs
-abbrev pub inputs_words : GivenWords → List ℕ
+unfoldable pub inputs_words : GivenWords → List ℕ
 inputs_words g = flat_map file_word g.files ++ pair_words g.parts
 
 -- where the disc ends: its size as it was given, or its last block
@@ -92,7 +93,7 @@ abbrev pub force_words : Bool → List ℕ
 force_words force = if force then codes " --force" else []
 
 -- what says how the disc is read
-abbrev pub disc_words : GivenWords → Profile → ℕ → List ℕ
+unfoldable pub disc_words : GivenWords → Profile → ℕ → List ℕ
 disc_words g rules last = end_words g.size last ++ rules_words rules ++ force_words g.force
 
 -- ---- names of a pass
@@ -104,9 +105,13 @@ image_name n = codes "p" ++ decimal n ++ codes ".img"
 abbrev pub mapfile_name : ℕ → List ℕ
 mapfile_name n = codes "p" ++ decimal n ++ codes ".map"
 
--- a path that ends with one of them
+-- a path that ends with one of two names
+unfoldable pub ends_in : List ℕ → List ℕ → List ℕ → Bool
+ends_in image mapfile path = ends_with nat_eq path image || ends_with nat_eq path mapfile
+
+-- a path that ends with one of those of the pass
 abbrev pub is_of_pass : ℕ → List ℕ → Bool
-is_of_pass n path = ends_with nat_eq path (image_name n) || ends_with nat_eq path (mapfile_name n)
+is_of_pass n path = ends_in (image_name n) (mapfile_name n) path
 
 -- an input has such a path
 abbrev pub is_taken : GivenWords → ℕ → Bool

@@ -29,17 +29,19 @@ complete_text n = if n == 0 then codes "No file is complete" else counted n (by_
 unfoldable pub files_part : Tally → List ℕ
 files_part t = complete_text t.whole_files ++ part (codes ", ") t.torn_files (codes " damaged") ++ part (codes ", ") t.unread (codes " could not be looked at")
 
--- what has faults, and the folders that are torn
+-- what has faults, the files of a type that is not written, and the folders that are torn
 unfoldable pub folders_part : Tally → List ℕ
 folders_part t =
-    part (codes ",\n") t.faulty (codes " with faults")
-    ++ part (if t.faulty == 0 then codes ",\n" else codes ", ") t.torn_folders (by_number t.torn_folders (codes " folder may lack names") (codes " folders may lack names"))
+    part (codes ",\n") t.faulty (codes " with faults") ++ part (codes ",\n") t.left_out (codes " of a type that is not written")
+    ++ part (codes ",\n") t.torn_folders (by_number t.torn_folders (codes " folder may lack names") (codes " folders may lack names"))
 
--- the blocks that are worth reading again
+-- how many blocks are worth reading again
+unfoldable pub worth_text : ℕ → List ℕ
+worth_text needed = counted needed (by_number needed (codes " block is worth reading again") (codes " blocks are worth reading again"))
+
+-- the blocks that are worth reading again, if there are any
 unfoldable pub blocks_part : Tally → ℕ → List ℕ
-blocks_part t needed =
-    if needed == 0 then []
-    else codes ";\n" ++ at_least t ++ counted needed (by_number needed (codes " block is worth reading again") (codes " blocks are worth reading again"))
+blocks_part t needed = if needed == 0 then [] else codes ";\n" ++ at_least t ++ worth_text needed
 
 -- the sentence
 unfoldable pub sentence : Tally → ℕ → List ℕ

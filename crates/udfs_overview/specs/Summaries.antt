@@ -3,7 +3,7 @@
 --     next_lines words rules table last report        what to do next
 --     summary_text words rules table last report      all lines
 use Rattle.std.specs.Prelude.{ℕ, ◌-◌, ◌==◌, ◌&&◌, Bool, List, [], ◌∷◌, ◌++◌, Option, Some, None, codes, find, length, option_map, if◌then◌else◌}
-use Rattle.udfs_lattice.specs.Tables.{Table, known_count, state_of}
+use Rattle.udfs_lattice.specs.Tables.{Table, state_of}
 use Rattle.udfs_volume.specs.Answers.{Answer, found, holes, faulty}
 use Rattle.udfs_volume.specs.declared.profiles.Profile.{Profile}
 use Rattle.udfs_volume.specs.declared.profiles.Profile.TheVariants as profile
@@ -22,20 +22,26 @@ use Rattle.udfs_overview.specs.Streams.{stream_count, streams_line}
 use Rattle.udfs_overview.specs.SummaryTexts.{disc_line, files_line, others_line, unnamed_line}
 use Rattle.udfs_overview.specs.Tallies.{is_node_of, tally_of}
 use Rattle.udfs_overview.specs.TornLists.{by_loss, more_line, shown_path, torn_rows, torn_text}
+use Rattle.udfs_overview.specs.UnreadLists.{unread_paths, unread_text}
 use Rattle.udfs_overview.specs.VolumeLines.{volume_line}
 use Rattle.udfs_overview.specs.Widenings.{widening_by, widening_text}
 use Rattle.udfs_overview.specs.declared.widenings.Widening.{Widening}
 use Rattle.udfs_overview.specs.declared.widenings.Widening.TheVariants as wide
 use Rattle.udfs_overview.specs.declared.tallies.NodeSort.TheVariants as sort
+use Rattle.udfs_overview.specs.declared.disc_tallies.DiscTally.{DiscTally}
 use Rattle.udfs_overview.specs.declared.tallies.Tally.{Tally}
 
 -- the path of the first torn directory
 abbrev pub torn_folder : List NodeFields → Option (List (List ℕ))
 torn_folder nodes = option_map (λ (n : NodeFields). n.path) (find (is_node_of sort.TornFolder) nodes)
 
--- where names may be missing: the first of this many torn directories, and how many more
+-- where names may be missing
+unfoldable pub missing_line : List (List ℕ) → List ℕ
+missing_line path = codes "           names may be missing in " ++ shown_path path ++ codes "\n"
+
+-- the first of this many torn directories, and how many more
 abbrev pub missing_in : ℕ → List (List ℕ) → List ℕ
-missing_in torn path = codes "           names may be missing in " ++ shown_path path ++ codes "\n" ++ more_line (torn - 1)
+missing_in torn path = missing_line path ++ more_line (torn - 1)
 
 -- where names may be missing, if anywhere
 abbrev pub names_missing : ℕ → Option (List (List ℕ)) → List ℕ
@@ -50,11 +56,15 @@ folders_counts t = codes "Folders    " ++ counted t.whole_folders (codes " whole
 unfoldable pub folders_line : Tally → Option (List (List ℕ)) → List ℕ
 folders_line t path = if t.whole_folders == 0 && t.torn_folders == 0 then [] else folders_counts t ++ names_missing t.torn_folders path
 
+-- the lines of what is counted of a volume that opens
+unfoldable pub counts_lines : Report → List ℕ
+counts_lines r =
+    files_line (tally_of r.nodes) ++ folders_line (tally_of r.nodes) (torn_folder r.nodes) ++ others_line (tally_of r.nodes)
+    ++ left_out_line (left_out_types r.nodes) ++ unnamed_line (unnamed_of r.unnamed)
+
 -- the lines of what is found of a volume that opens
 unfoldable pub nodes_lines : Report → List ℕ
-nodes_lines r =
-    sentence (tally_of r.nodes) (length r.reread) ++ files_line (tally_of r.nodes) ++ folders_line (tally_of r.nodes) (torn_folder r.nodes) ++ others_line (tally_of r.nodes)
-    ++ left_out_line (left_out_types r.nodes) ++ unnamed_line (unnamed_of r.unnamed)
+nodes_lines r = sentence (tally_of r.nodes) (length r.reread) ++ counts_lines r
 
 -- there is nothing found of a volume that does not open
 abbrev pub found_lines : Table → Answer Found → Report → List ℕ
@@ -77,6 +87,10 @@ next_label = codes "Next       "
 abbrev pub next_indent : List ℕ
 next_indent = codes "           "
 
+-- there are nodes, all are whole, and none is a file of a type that is not written
+abbrev pub is_all_whole : Report → Bool
+is_all_whole r = all_whole r.nodes && length (left_out_types r.nodes) == 0
+
 -- the command that writes the files of a volume of which nothing is worth reading again
 abbrev pub extract_lines : GivenWords → Profile → ℕ → Bool → List ℕ
 extract_lines g rules last whole =
@@ -85,7 +99,7 @@ extract_lines g rules last whole =
 
 -- the summary by the wide rules, of a volume that these read
 unfoldable pub wide_lines : GivenWords → ℕ → Widening → List ℕ
-wide_lines g last found = next_label ++ widening_text found ++ codes "\n           " ++ summary_command g profile.Wide last
+wide_lines g last other = next_label ++ widening_text other ++ codes "\n           " ++ summary_command g profile.Wide last
 
 -- of a volume with a fault: it does not open by these rules, whatever is read again
 abbrev pub fault_lines : GivenWords → ℕ → Widening → List ℕ
@@ -95,14 +109,18 @@ fault_lines g last (wide.Reads revision) = wide_lines g last (wide.Reads revisio
 
 -- where no block is worth reading again
 abbrev pub no_need_lines : GivenWords → Profile → Table → ℕ → Report → Answer Found → List ℕ
-no_need_lines g rules table last r (found f) = extract_lines g rules last (all_whole r.nodes)
+no_need_lines g rules table last r (found f) = extract_lines g rules last (is_all_whole r)
 no_need_lines g rules table last r (holes blocks) = []
 no_need_lines g rules table last r (faulty f) = fault_lines g last (widening_by rules (state_of table) last)
+
+-- where so many blocks are known, and blocks are worth reading again
+abbrev pub again_lines : GivenWords → Profile → ℕ → DiscTally → List ℕ
+again_lines g rules last disc = needed_steps next_label next_indent g rules last (pass_number g disc.known) disc.needed_in_conflict
 
 -- where these are
 abbrev pub next_by : GivenWords → Profile → Table → ℕ → Report → List ℕ → List ℕ
 next_by g rules table last r [] = no_need_lines g rules table last r r.volume
-next_by g rules table last r (n ∷ ns) = needed_steps next_label next_indent g rules last (pass_number g (known_count table)) (disc_of table last r.reread).needed_in_conflict
+next_by g rules table last r (n ∷ ns) = again_lines g rules last (disc_of table last r.reread)
 
 -- what to do next
 unfoldable pub next_lines : GivenWords → Profile → Table → ℕ → Report → List ℕ
@@ -111,5 +129,6 @@ next_lines g rules table last r = next_by g rules table last r r.reread
 -- all lines of a report by the rules of a profile, of a disc that is read with these arguments
 unfoldable pub summary_text : GivenWords → Profile → Table → ℕ → Report → List ℕ
 summary_text g rules table last r =
-    volume_line r.volume last ++ apart_lines rules (state_of table) last ++ found_lines table r.volume r ++ disc_line (disc_of table last r.reread) ++ torn_lines r.volume r
+    volume_line r.volume last ++ apart_lines rules (state_of table) last ++ found_lines table r.volume r ++ disc_line (disc_of table last r.reread) ++ unread_text (unread_paths r.nodes)
+    ++ torn_lines r.volume r
     ++ next_lines g rules table last r

@@ -45,7 +45,10 @@ needed_text t =
     part (codes "           ") t.needed (by_number t.needed (codes " of these is needed, in ") (codes " of these are needed, in "))
     ++ part [] t.runs (by_number t.runs (codes " place\n") (codes " places\n"))
 
--- the lines of the blocks: how many are known, not known and in conflict, and how many of those are worth reading again
+-- how many blocks are known, not known and in conflict
+unfoldable pub known_text : DiscTally → List ℕ
+known_text t = counted t.known (codes " known   ") ++ counted t.not_known (codes " not known   ") ++ counted t.conflicts (codes " in conflict\n")
+
+-- the lines of the blocks, and how many of these are worth reading again
 unfoldable pub disc_line : DiscTally → List ℕ
-disc_line t =
-    codes "Disc       " ++ counted t.known (codes " known   ") ++ counted t.not_known (codes " not known   ") ++ counted t.conflicts (codes " in conflict\n") ++ needed_text t
+disc_line t = codes "Disc       " ++ known_text t ++ needed_text t

@@ -34,7 +34,7 @@ widening_by profile.Strict blocks last = widening_in blocks last
 widening_by profile.Wide blocks last = wide.No
 
 -- what records discs of this revision
-abbrev pub recorder_text : ℕ → List ℕ
+unfoldable pub recorder_text : ℕ → List ℕ
 recorder_text revision = if revision == 0x0200 then codes " (a camcorder or recorder disc)" else []
 
 -- what is said of it

@@ -20,6 +20,7 @@ mod summary_lines;
 mod tallies;
 mod torn_lines;
 mod torn_rows;
+mod unread_lines;
 mod volume_lines;
 mod widenings;
 
@@ -29,7 +30,8 @@ pub use figures::{push_grouped, push_percent, push_size};
 pub use left_out::{left_out_remark, left_out_types, push_left_out};
 pub use moved_tags::{count_moved, push_moved};
 pub use next_commands::{
-    Margins, Pass, cleaned, push_extract, push_needed_steps, push_summary_by, table_path,
+    Margins, Pass, cleaned, push_extract, push_inputs_end, push_needed_steps, push_summary_by,
+    table_path,
 };
 pub use node_columns::lost_of;
 pub use node_list::{ListForm, write_list};
@@ -40,9 +42,10 @@ pub use safe_names::{push_safe_name, safe_names_are_safe, safe_names_tell_units}
 pub use sentences::push_sentence;
 pub use spares::{push_spares, spares_disagree};
 pub use streams::{count_streams, push_streams};
-pub use summary::{first_torn_folder, write_summary};
+pub use summary::{first_torn_folder, is_all_whole, write_summary};
 pub use summary_lines::{push_disc, push_files, push_others, push_unnamed};
 pub use tallies::{Tally, count_nodes};
 pub use torn_rows::{TornFiles, TornRow, push_shown_path, torn_files, torn_files_are_by_loss};
+pub use unread_lines::{push_unread, unread_in};
 pub use volume_lines::{push_disc_size, push_label, push_revision, push_volume};
 pub use widenings::{Widening, push_widening, widening_by};

@@ -3,7 +3,7 @@
 
 ghost use Rattle.std.specs.Prelude.{◌≡◌, ◌++◌, OnOk, map};
 ghost use Rattle.std.specs.String.{string_bytes};
-ghost use Rattle.udfs_overview.specs.NextCommands.{cleaned, ddrescue_command, extract_command, forget_command, forget_steps, is_table, merge_command, needed_steps, pass_steps, pass_words, reread_command, reread_steps, summary_command, table_path};
+ghost use Rattle.udfs_overview.specs.NextCommands.{cleaned, ddrescue_command, extract_command, forget_command, forget_steps, inputs_end, merge_command, merge_front, needed_steps, pass_end, pass_steps, pass_words, reread_command, reread_steps, summary_command, table_path};
 ghost use Rattle.udfs_overview.specs.Repeating.{given_now};
 
 use crate::repeating::{
@@ -53,12 +53,26 @@ pub fn table_path<'a>(files: &[&'a str]) -> &'a str
 }
 
 /// The names of the image and of the mapfile of a pass.
+#[tactic(auto, unfolding(crate::specs::NextCommands::pass_words))]
 fn push_pass(text: &mut String, number: u64) -> Result<(), OutOfMemory>
     ensures { OnOk result (string_bytes text.new ≡ string_bytes text.old ++ pass_words number) }
 {
     push_image_name(text, number)?;
     text.push_str(" ")?;
     push_mapfile_name(text, number)
+}
+
+/// Appends the inputs at the end of a command, and the end of its line.
+///
+/// # Errors
+///
+/// If memory runs out. Then a part may be appended.
+#[tactic(auto, unfolding(crate::specs::NextCommands::inputs_end))]
+pub fn push_inputs_end(text: &mut String, given: &Given<'_>) -> Result<(), OutOfMemory>
+    ensures { OnOk result (string_bytes text.new ≡ string_bytes text.old ++ inputs_end (given_now given.now)) }
+{
+    push_inputs(text, given)?;
+    text.push_str("\n")
 }
 
 /// The command that puts the blocks that are worth reading again into a domain mapfile.
@@ -74,8 +88,7 @@ fn push_reread(
     text.push_str("udfsalvage reread")?;
     push_disc_words(text, given, profile, last)?;
     text.push_str(" --mapfile want.map")?;
-    push_inputs(text, given)?;
-    text.push_str("\n")
+    push_inputs_end(text, given)
 }
 
 /// A pass over them.
@@ -88,18 +101,34 @@ fn push_ddrescue(text: &mut String, number: u64) -> Result<(), OutOfMemory>
     text.push_str("\n")
 }
 
+/// What begins the next command, up to its inputs.
+#[tactic(auto, unfolding(crate::specs::NextCommands::merge_front))]
+fn push_merge_front(text: &mut String, given: &Given<'_>) -> Result<(), OutOfMemory>
+    ensures { OnOk result (string_bytes text.new ≡ string_bytes text.old ++ merge_front (given_now given.now)) }
+{
+    text.push_str("udfsalvage merge --out ")?;
+    push_shell_path(text, table_path(given.files))?;
+    text.push_str(force_words(given.force))
+}
+
+/// The pass at its end.
+#[tactic(auto, unfolding(crate::specs::NextCommands::pass_end))]
+fn push_pass_end(text: &mut String, number: u64) -> Result<(), OutOfMemory>
+    ensures { OnOk result (string_bytes text.new ≡ string_bytes text.old ++ pass_end number) }
+{
+    text.push_str(" --ddrescue ")?;
+    push_pass(text, number)?;
+    text.push_str("\n")
+}
+
 /// The table of the inputs and this pass.
 #[tactic(auto, unfolding(crate::specs::NextCommands::merge_command))]
 fn push_merge(text: &mut String, given: &Given<'_>, number: u64) -> Result<(), OutOfMemory>
     ensures { OnOk result (string_bytes text.new ≡ string_bytes text.old ++ merge_command (given_now given.now) number) }
 {
-    text.push_str("udfsalvage merge --out ")?;
-    push_shell_path(text, table_path(given.files))?;
-    text.push_str(force_words(given.force))?;
+    push_merge_front(text, given)?;
     push_inputs(text, given)?;
-    text.push_str(" --ddrescue ")?;
-    push_pass(text, number)?;
-    text.push_str("\n")
+    push_pass_end(text, number)
 }
 
 /// The table of the inputs without the blocks in conflict.
@@ -109,8 +138,7 @@ fn push_forget(text: &mut String, given: &Given<'_>) -> Result<(), OutOfMemory>
 {
     text.push_str("udfsalvage forget --conflicts --out clean.tab")?;
     text.push_str(force_words(given.force))?;
-    push_inputs(text, given)?;
-    text.push_str("\n")
+    push_inputs_end(text, given)
 }
 
 /// Appends the command that writes the whole files.
@@ -130,8 +158,7 @@ pub fn push_extract(
     text.push_str("udfsalvage extract")?;
     push_disc_words(text, given, profile, last)?;
     text.push_str(" --to files")?;
-    push_inputs(text, given)?;
-    text.push_str("\n")
+    push_inputs_end(text, given)
 }
 
 /// Appends the command for the summary by the rules of a profile.
@@ -150,8 +177,7 @@ pub fn push_summary_by(
 {
     text.push_str("udfsalvage summary")?;
     push_disc_words(text, given, profile, last)?;
-    push_inputs(text, given)?;
-    text.push_str("\n")
+    push_inputs_end(text, given)
 }
 
 /// The same arguments where the table without the blocks in conflict is the only input.

@@ -1,9 +1,9 @@
 //! What was given to a command, as the commands that it names repeat it. Each function appends to a text; if memory runs out, a part may be appended.
 
-ghost use Rattle.std.specs.Prelude.{◌≡◌, ◌+◌, ◌/◌, ◌%◌, ◌^◌, ◌<◌, ◌≤◌, ◌++◌, ◌∷◌, ◌||◌, [], nat_eq, IfOk, OnOk, flat_map, length, map, option_map};
-ghost use Rattle.std.specs.List.{ends_with, list_all, list_any};
+ghost use Rattle.std.specs.Prelude.{◌≡◌, ◌+◌, ◌/◌, ◌%◌, ◌^◌, ◌<◌, ◌≤◌, ◌++◌, ◌∷◌, [], IfOk, OnOk, flat_map, length, map, option_map};
+ghost use Rattle.std.specs.List.{list_all, list_any};
 ghost use Rattle.std.specs.String.{string_bytes};
-ghost use Rattle.udfs_overview.specs.Repeating.{disc_words, end_words, escaped_byte, escaped_word, file_word, force_words, given_now, image_name, inputs_words, is_bare, is_hidden, is_of_pass, is_plain, is_taken, mapfile_name, pair_words, pass_number, past_taken, quoted_word, rules_words, shell_path, shell_word};
+ghost use Rattle.udfs_overview.specs.Repeating.{disc_words, end_words, ends_in, escaped_byte, escaped_word, file_word, force_words, given_now, image_name, inputs_words, is_bare, is_hidden, is_plain, is_taken, mapfile_name, pair_words, pass_number, past_taken, quoted_word, rules_words, shell_path, shell_word};
 
 use std::alloc::Global;
 use std::fmt::Write;
@@ -68,7 +68,10 @@ fn are_plain(bytes: &[u8]) -> bool
 fn is_bare(bytes: &[u8]) -> bool
     ensures { result ≡ is_bare bytes.now }
 {
-    !bytes.is_empty() && are_plain(bytes)
+    match bytes {
+        [] => false,
+        _ => are_plain(bytes),
+    }
 }
 
 /// A digit.
@@ -203,6 +206,7 @@ fn push_pairs(text: &mut String, paths: &[&str]) -> Result<(), OutOfMemory>
 /// # Errors
 ///
 /// If memory runs out. Then a part may be appended.
+#[tactic(auto, unfolding(crate::specs::Repeating::inputs_words))]
 pub fn push_inputs(text: &mut String, given: &Given<'_>) -> Result<(), OutOfMemory>
     ensures { OnOk result (string_bytes text.new ≡ string_bytes text.old ++ inputs_words (given_now given.now)) }
 {
@@ -245,6 +249,7 @@ pub(crate) fn force_words(force: bool) -> &'static str
 /// # Errors
 ///
 /// If memory runs out. Then a part may be appended.
+#[tactic(auto, unfolding(crate::specs::Repeating::disc_words))]
 pub fn push_disc_words(
     text: &mut String,
     given: &Given<'_>,
@@ -272,13 +277,21 @@ pub(crate) fn push_mapfile_name(text: &mut String, number: u64) -> Result<(), Ou
     write!(text, "p{number}.map")
 }
 
-/// Whether one of these paths ends with one of these names.
+/// Whether a path ends with one of two names.
+#[tactic(auto, unfolding(crate::specs::Repeating::ends_in))]
+fn ends_in(path: &str, image: &str, mapfile: &str) -> bool
+    ensures { result ≡ ends_in image.now mapfile.now path.now }
+{
+    let bytes = path.as_bytes();
+    bytes.ends_with(image.as_bytes()) || bytes.ends_with(mapfile.as_bytes())
+}
+
+/// Whether one of these paths does.
 fn ends_any(paths: &[&str], image: &str, mapfile: &str) -> bool
-    ensures { result ≡ list_any (λ path. ends_with nat_eq path image.now || ends_with nat_eq path mapfile.now) (map (λ path. path.now) paths.now) }
+    ensures { result ≡ list_any (ends_in image.now mapfile.now) (map (λ path. path.now) paths.now) }
 {
     for path in paths {
-        let bytes = path.as_bytes();
-        if bytes.ends_with(image.as_bytes()) || bytes.ends_with(mapfile.as_bytes()) {
+        if ends_in(path, image, mapfile) {
             return true;
         }
     }
@@ -327,11 +340,7 @@ fn past_taken(
 /// # Errors
 ///
 /// If memory runs out.
-pub fn pass_number(
-    alloc: Global,
-    given: &Given<'_>,
-    known: u32,
-) -> Result<u64, OutOfMemory>
+pub fn pass_number(alloc: Global, given: &Given<'_>, known: u32) -> Result<u64, OutOfMemory>
     ensures { IfOk result (λ free. free ≡ pass_number (given_now given.now) known) }
 {
     let free = past_taken(alloc, given, given.files, u64::from(known))?;

@@ -1,8 +1,8 @@
 //! The sentence on top of a summary. Each function appends to a text; if memory runs out, a part may be appended.
 
-ghost use Rattle.std.specs.Prelude.{◌≡◌, ◌==◌, ◌++◌, OnOk, codes, if◌then◌else◌};
+ghost use Rattle.std.specs.Prelude.{◌≡◌, ◌++◌, OnOk, codes};
 ghost use Rattle.std.specs.String.{string_bytes};
-ghost use Rattle.udfs_overview.specs.Sentences.{at_least, blocks_part, by_number, complete_text, counted, files_part, folders_part, part, sentence};
+ghost use Rattle.udfs_overview.specs.Sentences.{at_least, blocks_part, by_number, complete_text, counted, files_part, folders_part, part, sentence, worth_text};
 
 use crate::figures::push_grouped;
 use crate::tallies::Tally;
@@ -72,32 +72,44 @@ fn push_files_part(text: &mut String, tally: &Tally) -> Result<(), OutOfMemory>
     push_part(text, ", ", tally.unread as u64, " could not be looked at")
 }
 
-/// What stands before the folders that are torn, behind what has faults.
-fn before_folders(faulty: usize) -> &'static str
-    ensures { result.now ≡ (if faulty == 0 then codes ",\n" else codes ", ") }
-{
-    if faulty == 0 { ",\n" } else { ", " }
-}
-
 /// The folders that are torn.
-fn push_torn_folders(text: &mut String, faulty: usize, folders: u64) -> Result<(), OutOfMemory>
+fn push_torn_folders(text: &mut String, folders: u64) -> Result<(), OutOfMemory>
     ensures { OnOk result (string_bytes text.new ≡ string_bytes text.old
-        ++ part (if faulty == 0 then codes ",\n" else codes ", ") folders (by_number folders (codes " folder may lack names") (codes " folders may lack names"))) }
+        ++ part (codes ",\n") folders (by_number folders (codes " folder may lack names") (codes " folders may lack names"))) }
 {
     let words = by_number(folders, " folder may lack names", " folders may lack names");
-    push_part(text, before_folders(faulty), folders, words)
+    push_part(text, ",\n", folders, words)
 }
 
-/// What has faults, and the folders that are torn.
+/// What has faults, the files of a type that is not written, and the folders that are torn.
 #[tactic(auto, unfolding(crate::specs::Sentences::folders_part))]
 fn push_folders_part(text: &mut String, tally: &Tally) -> Result<(), OutOfMemory>
     ensures { OnOk result (string_bytes text.new ≡ string_bytes text.old ++ folders_part tally.now) }
 {
     push_part(text, ",\n", tally.faulty as u64, " with faults")?;
-    push_torn_folders(text, tally.faulty, tally.torn_folders as u64)
+    push_part(
+        text,
+        ",\n",
+        tally.left_out as u64,
+        " of a type that is not written",
+    )?;
+    push_torn_folders(text, tally.torn_folders as u64)
 }
 
-/// The blocks that are worth reading again.
+/// How many blocks are worth reading again.
+#[tactic(auto, unfolding(crate::specs::Sentences::worth_text))]
+fn push_worth(text: &mut String, needed: u64) -> Result<(), OutOfMemory>
+    ensures { OnOk result (string_bytes text.new ≡ string_bytes text.old ++ worth_text needed) }
+{
+    let words = by_number(
+        needed,
+        " block is worth reading again",
+        " blocks are worth reading again",
+    );
+    push_counted(text, needed, words)
+}
+
+/// The blocks that are worth reading again, if there are any.
 #[tactic(auto, unfolding(crate::specs::Sentences::blocks_part))]
 fn push_blocks_part(text: &mut String, tally: &Tally, needed: u64) -> Result<(), OutOfMemory>
     ensures { OnOk result (string_bytes text.new ≡ string_bytes text.old ++ blocks_part tally.now needed) }
@@ -107,12 +119,7 @@ fn push_blocks_part(text: &mut String, tally: &Tally, needed: u64) -> Result<(),
     }
     text.push_str(";\n")?;
     text.push_str(at_least(tally))?;
-    let words = by_number(
-        needed,
-        " block is worth reading again",
-        " blocks are worth reading again",
-    );
-    push_counted(text, needed, words)
+    push_worth(text, needed)
 }
 
 /// Appends the sentence of a tally and so many blocks that are worth reading again: `241 files are complete, 5 damaged, 16 could not be looked at`, and

@@ -1,6 +1,6 @@
 //! The summary of a volume: what a person wants to know, on one screen.
 
-ghost use Rattle.std.specs.Prelude.{◌≡◌, ◌++◌, OnOk, codes, option_map, map, if◌then◌else◌};
+ghost use Rattle.std.specs.Prelude.{◌≡◌, ◌++◌, IfOk, OnOk, codes, length, option_map, map, if◌then◌else◌};
 ghost use Rattle.std.specs.String.{string_bytes};
 ghost use Rattle.udfs_lattice.specs.Tables.{state_of};
 ghost use Rattle.udfs_space.specs.Views.{view_now};
@@ -9,16 +9,16 @@ ghost use Rattle.udfs_salvage.specs.Found.{volume_now};
 ghost use Rattle.udfs_salvage.specs.Printing.{Prints};
 ghost use Rattle.udfs_salvage.specs.Surveys.{survey_now};
 ghost use Rattle.udfs_overview.specs.DiscTallies.{disc_of};
-ghost use Rattle.udfs_overview.specs.NextCommands.{extract_command, needed_steps};
-ghost use Rattle.udfs_overview.specs.Repeating.{given_now, pass_number};
+ghost use Rattle.udfs_overview.specs.Repeating.{given_now};
 ghost use Rattle.udfs_overview.specs.Sentences.{sentence};
-ghost use Rattle.udfs_overview.specs.Summaries.{extract_lines, fault_lines, folders_counts, folders_line, found_lines, missing_in, names_missing, next_indent, next_label, next_lines, no_need_lines, nodes_lines, summary_text, torn_folder, torn_lines, wide_lines};
+ghost use Rattle.udfs_overview.specs.Summaries.{again_lines, counts_lines, extract_lines, fault_lines, folders_counts, folders_line, found_lines, is_all_whole, missing_in, missing_line, names_missing, next_lines, no_need_lines, nodes_lines, summary_text, torn_folder, torn_lines, wide_lines};
 ghost use Rattle.udfs_overview.specs.LeftOut.{left_out_line};
 ghost use Rattle.udfs_overview.specs.Spares.{spares_disagree, spares_line};
 ghost use Rattle.udfs_overview.specs.MovedTags.{moved_count, moved_line};
 ghost use Rattle.udfs_overview.specs.Streams.{stream_count, streams_line};
 ghost use Rattle.udfs_overview.specs.SummaryTexts.{files_line, others_line, unnamed_line};
 ghost use Rattle.udfs_overview.specs.Tallies.{tally_of};
+ghost use Rattle.udfs_overview.specs.UnreadLists.{unread_paths, unread_text};
 ghost use Rattle.udfs_overview.specs.TornLists.{by_loss, torn_rows, torn_text};
 
 use crate::disagreements::push_apart;
@@ -34,6 +34,7 @@ use crate::summary_lines::{push_disc, push_files, push_others, push_unnamed};
 use crate::tallies::{NodeSort, Tally, count_nodes, count_of};
 use crate::torn_lines::{push_more, push_torn};
 use crate::torn_rows::{SHOWN, push_shown_path, top_rows};
+use crate::unread_lines::{push_unread, unread_in};
 use crate::volume_lines::push_volume;
 use crate::widenings::{Widening, push_widening, widening_by};
 use std::alloc::Global;
@@ -66,13 +67,21 @@ pub fn first_torn_folder<'a>(survey: &'a Survey<'_>) -> Option<&'a Path>
     torn_folder(&survey.nodes)
 }
 
-/// Where names may be missing: the first torn directory, and how many more.
-fn push_missing_in(text: &mut String, torn: usize, path: &Path) -> Result<(), OutOfMemory>
-    ensures { OnOk result (string_bytes text.new ≡ string_bytes text.old ++ missing_in torn path.now) }
+/// Where names may be missing.
+#[tactic(auto, unfolding(crate::specs::Summaries::missing_line))]
+fn push_missing_line(text: &mut String, path: &Path) -> Result<(), OutOfMemory>
+    ensures { OnOk result (string_bytes text.new ≡ string_bytes text.old ++ missing_line path.now) }
 {
     text.push_str("           names may be missing in ")?;
     push_shown_path(text, path)?;
-    text.push_str("\n")?;
+    text.push_str("\n")
+}
+
+/// The first torn directory, and how many more.
+fn push_missing_in(text: &mut String, torn: usize, path: &Path) -> Result<(), OutOfMemory>
+    ensures { OnOk result (string_bytes text.new ≡ string_bytes text.old ++ missing_in torn path.now) }
+{
+    push_missing_line(text, path)?;
     push_more(text, torn.saturating_sub(1))
 }
 
@@ -132,23 +141,49 @@ fn push_nodes(
     push_unnamed(text, unnamed)
 }
 
-/// The lines of what is found of a volume, where it opens.
-#[tactic(auto, using(crate::proofs::FullFolders::folder_full), unfolding(crate::specs::Summaries::nodes_lines))]
-fn push_found(alloc: Global, text: &mut String, survey: &Survey<'_>) -> Result<(), OutOfMemory>
-    ensures { OnOk result (string_bytes text.new ≡ string_bytes text.old ++ nodes_lines (survey_now survey.now)) }
+/// The lines of what is counted of a volume, where it opens.
+#[tactic(auto, using(crate::proofs::FullFolders::folder_full), unfolding(crate::specs::Summaries::counts_lines))]
+fn push_counts(
+    alloc: Global,
+    text: &mut String,
+    survey: &Survey<'_>,
+    tally: &Tally,
+) -> Result<(), OutOfMemory>
+    requires { tally.now ≡ tally_of (survey_now survey.now).nodes }
+    ensures { OnOk result (string_bytes text.new ≡ string_bytes text.old ++ counts_lines (survey_now survey.now)) }
 {
-    let tally = count_nodes(alloc, survey)?;
-    push_sentence(text, &tally, survey.reread.len() as u64)?;
     let types = left_out_types(alloc, survey)?;
     let unnamed = count_unnamed(survey);
     push_nodes(
         alloc,
         text,
-        &tally,
+        tally,
         torn_folder(&survey.nodes),
         &types,
         &unnamed,
     )
+}
+
+/// The sentence of the nodes of a survey.
+fn push_nodes_sentence(
+    text: &mut String,
+    survey: &Survey<'_>,
+    tally: &Tally,
+) -> Result<(), OutOfMemory>
+    requires { tally.now ≡ tally_of (survey_now survey.now).nodes }
+    ensures { OnOk result (string_bytes text.new ≡ string_bytes text.old ++ sentence (tally_of (survey_now survey.now).nodes) (length (survey_now survey.now).reread)) }
+{
+    push_sentence(text, tally, survey.reread.len() as u64)
+}
+
+/// The lines of what is found of a volume, where it opens.
+#[tactic(auto, unfolding(crate::specs::Summaries::nodes_lines))]
+fn push_found(alloc: Global, text: &mut String, survey: &Survey<'_>) -> Result<(), OutOfMemory>
+    ensures { OnOk result (string_bytes text.new ≡ string_bytes text.old ++ nodes_lines (survey_now survey.now)) }
+{
+    let tally = count_nodes(alloc, survey)?;
+    push_nodes_sentence(text, survey, &tally)?;
+    push_counts(alloc, text, survey, &tally)
 }
 
 /// These lines, that of the files with named streams, that of the folders with tags of another place, and that of sparing copies which
@@ -212,6 +247,14 @@ fn push_torn_if_open(
     }
 }
 
+/// The lines of the entries that were not read.
+fn push_all_unread(alloc: Global, text: &mut String, survey: &Survey<'_>) -> Result<(), OutOfMemory>
+    ensures { OnOk result (string_bytes text.new ≡ string_bytes text.old ++ unread_text (unread_paths (survey_now survey.now).nodes)) }
+{
+    let paths = unread_in(alloc, survey)?;
+    push_unread(text, &paths)
+}
+
 /// What stands before what to do next.
 const MARGINS: Margins<'static> = Margins {
     first: "Next       ",
@@ -227,6 +270,18 @@ fn extract_words(whole: bool) -> &'static str
     } else {
         "Next       No block is worth reading again. Write out what is whole:\n"
     }
+}
+
+/// Whether there are nodes, all are whole, and none is a file of a type that is not written.
+///
+/// # Errors
+///
+/// If memory runs out.
+pub fn is_all_whole(alloc: Global, survey: &Survey<'_>) -> Result<bool, OutOfMemory>
+    ensures { IfOk result (λ whole. whole ≡ is_all_whole (survey_now survey.now)) }
+{
+    let types = left_out_types(alloc, survey)?;
+    Ok(survey.all_whole() && types.len() == 0)
 }
 
 /// The command that writes the files of a volume of which nothing is worth reading again.
@@ -289,7 +344,7 @@ fn push_no_need(
 {
     match &survey.volume {
         Volume::Open(_) => {
-            let whole = survey.all_whole();
+            let whole = is_all_whole(alloc, survey)?;
             push_extract_lines(text, given, survey.profile, survey.last, whole)
         }
         Volume::Holes(_) => Ok(()),
@@ -309,7 +364,7 @@ fn push_again(
     disc: &DiscTally,
 ) -> Result<(), OutOfMemory>
     ensures { OnOk result (string_bytes text.new ≡ string_bytes text.old
-        ++ needed_steps next_label next_indent (given_now given.now) survey.now.profile survey.now.last (pass_number (given_now given.now) disc.now.known) disc.now.needed_in_conflict) }
+        ++ again_lines (given_now given.now) survey.now.profile survey.now.last disc.now) }
 {
     let pass = Pass {
         profile: survey.profile,
@@ -352,6 +407,7 @@ fn push_summary(
     push_found_if_open(alloc, text, survey)?;
     let disc = count_disc(survey);
     push_disc(text, &disc)?;
+    push_all_unread(alloc, text, survey)?;
     push_torn_if_open(alloc, text, survey)?;
     push_next(alloc, text, given, survey, &disc)
 }

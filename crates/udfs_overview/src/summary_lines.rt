@@ -3,7 +3,7 @@
 ghost use Rattle.std.specs.Prelude.{◌≡◌, ◌++◌, [], OnOk, codes};
 ghost use Rattle.std.specs.String.{string_bytes};
 ghost use Rattle.udfs_overview.specs.Sentences.{at_least, by_number, counted, part};
-ghost use Rattle.udfs_overview.specs.SummaryTexts.{disc_line, files_line, lost_files_text, needed_text, others_line, torn_files_text, unnamed_line, whole_files_text};
+ghost use Rattle.udfs_overview.specs.SummaryTexts.{disc_line, files_line, known_text, lost_files_text, needed_text, others_line, torn_files_text, unnamed_line, whole_files_text};
 
 use crate::disc_tallies::{DiscTally, UnnamedTally};
 use crate::figures::push_size;
@@ -123,11 +123,7 @@ pub fn push_unnamed(text: &mut String, tally: &UnnamedTally) -> Result<(), OutOf
     }
     text.push_str("No name    ")?;
     push_counted(text, tally.with_data as u64, " whole files with data, ")?;
-    push_counted(
-        text,
-        tally.empty as u64,
-        " empty: extract --unnamed lost\n",
-    )
+    push_counted(text, tally.empty as u64, " empty: extract --unnamed lost\n")
 }
 
 /// How many blocks are worth reading again, if any are.
@@ -160,6 +156,16 @@ fn push_needed(text: &mut String, tally: &DiscTally) -> Result<(), OutOfMemory>
     push_places(text, tally.runs as u64)
 }
 
+/// How many blocks are known, not known and in conflict.
+#[tactic(auto, unfolding(crate::specs::SummaryTexts::known_text))]
+fn push_known(text: &mut String, tally: &DiscTally) -> Result<(), OutOfMemory>
+    ensures { OnOk result (string_bytes text.new ≡ string_bytes text.old ++ known_text tally.now) }
+{
+    push_counted(text, tally.known as u64, " known   ")?;
+    push_counted(text, tally.not_known, " not known   ")?;
+    push_counted(text, tally.conflicts as u64, " in conflict\n")
+}
+
 /// Appends the lines of the blocks.
 ///
 /// # Errors
@@ -170,8 +176,6 @@ pub fn push_disc(text: &mut String, tally: &DiscTally) -> Result<(), OutOfMemory
     ensures { OnOk result (string_bytes text.new ≡ string_bytes text.old ++ disc_line tally.now) }
 {
     text.push_str("Disc       ")?;
-    push_counted(text, tally.known as u64, " known   ")?;
-    push_counted(text, tally.not_known, " not known   ")?;
-    push_counted(text, tally.conflicts as u64, " in conflict\n")?;
+    push_known(text, tally)?;
     push_needed(text, tally)
 }

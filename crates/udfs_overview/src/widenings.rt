@@ -5,6 +5,7 @@ ghost use Rattle.std.specs.String.{string_bytes};
 ghost use Rattle.udfs_lattice.specs.Tables.{state_of};
 ghost use Rattle.udfs_volume.specs.Layout.{layout_by};
 ghost use Rattle.udfs_volume.specs.declared.profiles.Profile.TheVariants as profile;
+ghost use Rattle.udfs_salvage.specs.Texts.{revision_text};
 ghost use Rattle.udfs_overview.specs.Widenings.{recorder_text, widened, widened_from, widening_by, widening_in, widening_text};
 
 use crate::disagreements::has_room;
@@ -84,13 +85,22 @@ pub fn widening_by(
 }
 
 /// What records discs of this revision.
-fn recorder_text(revision: u16) -> &'static str
-    ensures { result.now ≡ recorder_text revision }
+#[tactic(auto, unfolding(crate::specs::Widenings::recorder_text))]
+fn push_recorder(text: &mut String, revision: u16) -> Result<(), OutOfMemory>
+    ensures { OnOk result (string_bytes text.new ≡ string_bytes text.old ++ recorder_text revision) }
 {
-    match revision {
-        0x0200 => " (a camcorder or recorder disc)",
-        _ => "",
+    if revision == 0x0200 {
+        text.push_str(" (a camcorder or recorder disc)")
+    } else {
+        Ok(())
     }
+}
+
+/// A revision of UDF.
+fn push_revision_name(text: &mut String, revision: u16) -> Result<(), OutOfMemory>
+    ensures { OnOk result (string_bytes text.new ≡ string_bytes text.old ++ revision_text revision) }
+{
+    text.push_str(revision_name(revision))
 }
 
 /// That the wide rules read a volume of this revision.
@@ -98,8 +108,8 @@ fn push_reads(text: &mut String, revision: u16) -> Result<(), OutOfMemory>
     ensures { OnOk result (string_bytes text.new ≡ string_bytes text.old ++ widening_text (Widening.Reads revision)) }
 {
     text.push_str("UDF ")?;
-    text.push_str(revision_name(revision))?;
-    text.push_str(recorder_text(revision))?;
+    push_revision_name(text, revision)?;
+    push_recorder(text, revision)?;
     text.push_str(": add --profile wide")
 }
 

@@ -3,15 +3,16 @@
 --     page_command words called rules last   the command that makes such a page
 --     next_html words called rules table last report     what to do next
 use Rattle.std.specs.Prelude.{ℕ, ◌==◌, Bool, List, [], ◌∷◌, ◌++◌, Option, Some, None, codes, if◌then◌else◌}
-use Rattle.udfs_lattice.specs.Tables.{Table, known_count, state_of}
+use Rattle.udfs_lattice.specs.Tables.{Table, state_of}
 use Rattle.udfs_volume.specs.Answers.{Answer, found, holes, faulty}
 use Rattle.udfs_volume.specs.declared.profiles.Profile.{Profile}
 use Rattle.udfs_volume.specs.declared.profiles.Profile.TheVariants as profile
 use Rattle.udfs_salvage.specs.Found.{Found}
-use Rattle.udfs_salvage.specs.Reports.{Report, all_whole}
+use Rattle.udfs_salvage.specs.Reports.{Report}
 use Rattle.udfs_overview.specs.DiscTallies.{disc_of}
-use Rattle.udfs_overview.specs.NextCommands.{cleaned, extract_command, joined, needed_steps}
-use Rattle.udfs_overview.specs.Repeating.{GivenWords, disc_words, inputs_words, pass_number, shell_path, shell_word}
+use Rattle.udfs_overview.specs.NextCommands.{cleaned, extract_command, inputs_end, joined, needed_steps}
+use Rattle.udfs_overview.specs.Repeating.{GivenWords, disc_words, pass_number, shell_path, shell_word}
+use Rattle.udfs_overview.specs.Summaries.{is_all_whole}
 use Rattle.udfs_overview.specs.Widenings.{widening_by, widening_text}
 use Rattle.udfs_overview.specs.declared.widenings.Widening.{Widening}
 use Rattle.udfs_overview.specs.declared.widenings.Widening.TheVariants as wide
@@ -20,14 +21,21 @@ use Rattle.udfs_page.specs.Markups.{markup}
 use Rattle.udfs_page.specs.Naming.{CalledWords}
 
 -- the title as an argument, if there is one
-abbrev pub title_words : Option (List ℕ) → List ℕ
+unfoldable pub title_words : Option (List ℕ) → List ℕ
 title_words None = []
-title_words (Some title) = codes " --title " ++ shell_word title
+title_words (Some title) = markup (codes " --title ") ++ shell_word title
 
--- the command that makes such a page
+-- the command that makes such a page: how the disc is read, and how the page is called
+unfoldable pub page_front : GivenWords → CalledWords → Profile → ℕ → List ℕ
+page_front g called rules last = markup (codes "udfsalvage page") ++ disc_words g rules last ++ title_words called.title
+
+-- where it is written, and the inputs
+unfoldable pub page_end : GivenWords → CalledWords → List ℕ
+page_end g called = markup (codes " --out ") ++ shell_path called.out ++ inputs_end g
+
+-- both
 unfoldable pub page_command : GivenWords → CalledWords → Profile → ℕ → List ℕ
-page_command g called rules last =
-    codes "udfsalvage page" ++ disc_words g rules last ++ title_words called.title ++ codes " --out " ++ shell_path called.out ++ inputs_words g ++ codes "\n"
+page_command g called rules last = page_front g called rules last ++ page_end g called
 
 -- commands, in a box
 unfoldable pub commands_html : List ℕ → List ℕ
@@ -51,8 +59,8 @@ needed_html g called rules last n disputed =
 
 -- the page by the wide rules, of a volume that these read
 unfoldable pub wide_html : GivenWords → CalledWords → ℕ → Widening → List ℕ
-wide_html g called last found =
-    markup (codes "<p>") ++ html_text (widening_text found) ++ markup (codes ".</p>\n") ++ commands_html (page_command g called profile.Wide last)
+wide_html g called last other =
+    markup (codes "<p>") ++ html_text (widening_text other) ++ markup (codes ".</p>\n") ++ commands_html (page_command g called profile.Wide last)
 
 -- of a volume with a fault
 abbrev pub fault_html : GivenWords → CalledWords → ℕ → Widening → List ℕ
@@ -66,14 +74,14 @@ whole_words whole = if whole then codes "<p>All is whole.</p>\n" else codes "<p>
 
 -- that no block is worth reading again
 abbrev pub no_need_html : GivenWords → CalledWords → Profile → Table → ℕ → Report → Answer Found → List ℕ
-no_need_html g called rules table last r (found f) = markup (whole_words (all_whole r.nodes))
+no_need_html g called rules table last r (found f) = markup (whole_words (is_all_whole r))
 no_need_html g called rules table last r (holes blocks) = markup (codes "<p>The volume does not open, and no block is worth reading again.</p>\n")
 no_need_html g called rules table last r (faulty f) = fault_html g called last (widening_by rules (state_of table) last)
 
 -- what to read again, if anything
 abbrev pub again_html : GivenWords → CalledWords → Profile → Table → ℕ → Report → List ℕ → List ℕ
 again_html g called rules table last r [] = no_need_html g called rules table last r r.volume
-again_html g called rules table last r (n ∷ ns) = needed_html g called rules last (pass_number g (known_count table)) (disc_of table last r.reread).needed_in_conflict
+again_html g called rules table last r (n ∷ ns) = needed_html g called rules last (pass_number g (disc_of table last r.reread).known) (disc_of table last r.reread).needed_in_conflict
 
 -- the command that writes the files
 unfoldable pub extract_html : GivenWords → Profile → ℕ → List ℕ

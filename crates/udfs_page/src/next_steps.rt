@@ -9,8 +9,9 @@ ghost use Rattle.udfs_overview.specs.NextCommands.{cleaned, joined, needed_steps
 ghost use Rattle.udfs_overview.specs.Repeating.{given_now, pass_number};
 ghost use Rattle.udfs_overview.specs.Widenings.{widening_text};
 ghost use Rattle.udfs_page.specs.Escapes.{html_text};
+ghost use Rattle.udfs_page.specs.Markups.{markup};
 ghost use Rattle.udfs_page.specs.Naming.{called_now};
-ghost use Rattle.udfs_page.specs.NextSteps.{again_html, commands_html, extract_html, fault_html, files_steps, needed_html, needed_words, next_html, no_need_html, page_command, renewed, title_words, whole_words, wide_html};
+ghost use Rattle.udfs_page.specs.NextSteps.{again_html, commands_html, extract_html, fault_html, files_steps, needed_html, needed_words, next_html, no_need_html, page_command, page_end, page_front, renewed, title_words, whole_words, wide_html};
 
 use crate::escapes::push_html;
 use crate::markups::push_markup;
@@ -18,24 +19,55 @@ use crate::naming::Called;
 use std::alloc::Global;
 use udfs_osta::OutOfMemory;
 use udfs_overview::{
-    DiscTally, Given, Margins, Pass, Widening, cleaned, count_disc, pass_number, push_disc_words,
-    push_extract, push_inputs, push_needed_steps, push_shell_path, push_shell_word, push_widening,
-    table_path, widening_by,
+    DiscTally, Given, Margins, Pass, Widening, cleaned, count_disc, is_all_whole, pass_number,
+    push_disc_words, push_extract, push_inputs_end, push_needed_steps, push_shell_path,
+    push_shell_word, push_widening, table_path, widening_by,
 };
 use udfs_salvage::{Survey, Volume};
 use udfs_volume::Profile;
 
 /// The title as an argument, if there is one.
+#[tactic(auto, unfolding(crate::specs::NextSteps::title_words))]
 fn push_title_words(text: &mut String, title: Option<&str>) -> Result<(), OutOfMemory>
     ensures { OnOk result (string_bytes text.new ≡ string_bytes text.old ++ title_words (option_map (λ title. title.now) title.entry)) }
 {
     match title {
         None => Ok(()),
         Some(title) => {
-            text.push_str(" --title ")?;
+            push_markup(text, " --title ")?;
             push_shell_word(text, title)
         }
     }
+}
+
+/// How the disc is read, and how the page is called.
+#[tactic(auto, unfolding(crate::specs::NextSteps::page_front))]
+fn push_page_front(
+    text: &mut String,
+    given: &Given<'_>,
+    called: &Called<'_>,
+    profile: Profile,
+    last: u32,
+) -> Result<(), OutOfMemory>
+    ensures { OnOk result (string_bytes text.new ≡ string_bytes text.old ++ page_front (given_now given.now) (called_now called.now) profile last) }
+{
+    push_markup(text, "udfsalvage page")?;
+    push_disc_words(text, given, profile, last)?;
+    push_title_words(text, called.title)
+}
+
+/// Where it is written, and the inputs.
+#[tactic(auto, unfolding(crate::specs::NextSteps::page_end))]
+fn push_page_end(
+    text: &mut String,
+    given: &Given<'_>,
+    called: &Called<'_>,
+) -> Result<(), OutOfMemory>
+    ensures { OnOk result (string_bytes text.new ≡ string_bytes text.old ++ page_end (given_now given.now) (called_now called.now)) }
+{
+    push_markup(text, " --out ")?;
+    push_shell_path(text, called.out)?;
+    push_inputs_end(text, given)
 }
 
 /// The command that makes a page.
@@ -49,13 +81,8 @@ fn push_page_command(
 ) -> Result<(), OutOfMemory>
     ensures { OnOk result (string_bytes text.new ≡ string_bytes text.old ++ page_command (given_now given.now) (called_now called.now) profile last) }
 {
-    text.push_str("udfsalvage page")?;
-    push_disc_words(text, given, profile, last)?;
-    push_title_words(text, called.title)?;
-    text.push_str(" --out ")?;
-    push_shell_path(text, called.out)?;
-    push_inputs(text, given)?;
-    text.push_str("\n")
+    push_page_front(text, given, called, profile, last)?;
+    push_page_end(text, given, called)
 }
 
 /// Commands, in a box.
@@ -69,13 +96,19 @@ fn push_commands(text: &mut String, commands: &str) -> Result<(), OutOfMemory>
 }
 
 /// What is said of blocks that are needed, of which so many are in conflict.
-fn needed_words(disputed: usize) -> &'static str
-    ensures { result.now ≡ needed_words disputed }
+fn push_needed_words(text: &mut String, disputed: usize) -> Result<(), OutOfMemory>
+    ensures { OnOk result (string_bytes text.new ≡ string_bytes text.old ++ markup (needed_words disputed)) }
 {
     if disputed == 0 {
-        "<p>Blocks are needed that are not known. Read just these again, with this drive or another, and join the pass with what was read:</p>\n"
+        push_markup(
+            text,
+            "<p>Blocks are needed that are not known. Read just these again, with this drive or another, and join the pass with what was read:</p>\n",
+        )
     } else {
-        "<p>Blocks in conflict are needed: of each, two readings differ. Forget them first, then read what is needed again, with this drive or another, and join the pass with the rest:</p>\n"
+        push_markup(
+            text,
+            "<p>Blocks in conflict are needed: of each, two readings differ. Forget them first, then read what is needed again, with this drive or another, and join the pass with the rest:</p>\n",
+        )
     }
 }
 
@@ -166,18 +199,17 @@ fn push_needed(
 ) -> Result<(), OutOfMemory>
     ensures { OnOk result (string_bytes text.new ≡ string_bytes text.old ++ needed_html (given_now given.now) (called_now called.now) pass.profile pass.last pass.number disputed) }
 {
-    push_markup(text, needed_words(disputed))?;
+    push_needed_words(text, disputed)?;
     push_needed_commands(alloc, text, given, pass, disputed)?;
-    push_markup(text, "<p>Then make the page anew, and do what it says:</p>\n")?;
+    push_markup(
+        text,
+        "<p>Then make the page anew, and do what it says:</p>\n",
+    )?;
     push_renewed_box(alloc, text, given, called, pass, disputed)
 }
 
 /// What is said of a volume that the wide rules read.
-fn push_wide_words(
-    alloc: Global,
-    text: &mut String,
-    widening: Widening,
-) -> Result<(), OutOfMemory>
+fn push_wide_words(alloc: Global, text: &mut String, widening: Widening) -> Result<(), OutOfMemory>
     ensures { OnOk result (string_bytes text.new ≡ string_bytes text.old ++ html_text (widening_text widening)) }
 {
     let mut words = String::new(alloc);
@@ -226,13 +258,13 @@ fn push_fault(
 }
 
 /// That all is whole, or that no block is worth reading again.
-fn whole_words(whole: bool) -> &'static str
-    ensures { result.now ≡ whole_words whole }
+fn push_whole_words(text: &mut String, whole: bool) -> Result<(), OutOfMemory>
+    ensures { OnOk result (string_bytes text.new ≡ string_bytes text.old ++ markup (whole_words whole)) }
 {
     if whole {
-        "<p>All is whole.</p>\n"
+        push_markup(text, "<p>All is whole.</p>\n")
     } else {
-        "<p>No block is worth reading again.</p>\n"
+        push_markup(text, "<p>No block is worth reading again.</p>\n")
     }
 }
 
@@ -248,7 +280,7 @@ fn push_no_need(
         ++ no_need_html (given_now given.now) (called_now called.now) survey.now.profile survey.now.table.now survey.now.last (survey_now survey.now) (volume_now survey.now.volume)) }
 {
     match &survey.volume {
-        Volume::Open(_) => push_markup(text, whole_words(survey.all_whole())),
+        Volume::Open(_) => push_whole_words(text, is_all_whole(alloc, survey)?),
         Volume::Holes(_) => push_markup(
             text,
             "<p>The volume does not open, and no block is worth reading again.</p>\n",
@@ -312,7 +344,10 @@ fn push_extract_box(
 {
     let mut commands = String::new(alloc);
     push_extract(&mut commands, given, profile, last)?;
-    push_markup(text, "<p>The whole files can be written out at any time:</p>\n")?;
+    push_markup(
+        text,
+        "<p>The whole files can be written out at any time:</p>\n",
+    )?;
     push_commands(text, &commands)
 }
 

@@ -25,8 +25,8 @@ use udfs_osta::{Label, OutOfMemory};
 use udfs_overview::{
     Tally, UnnamedTally, count_disc, count_moved, count_nodes, count_unnamed, first_torn_folder,
     left_out_types, push_apart, push_disc, push_disc_size, push_files, push_grouped, push_label,
-    push_left_out, push_moved, push_others, push_revision, push_sentence, push_shown_path, push_unnamed,
-    push_volume,
+    push_left_out, push_moved, push_others, push_revision, push_sentence, push_shown_path,
+    push_unnamed, push_volume,
 };
 use udfs_salvage::{OpenVolume, Survey, Volume};
 use udfs_walk::Path;

@@ -10,8 +10,7 @@ ghost use Rattle.udfs_salvage.specs.Surveys.{survey_now};
 ghost use Rattle.udfs_common.specs.Guarding.{MayNotBeSeen};
 ghost use Rattle.udfs_common.specs.Puts.{PutFails, PutsAs};
 ghost use Rattle.udfs_common.specs.Refusing.{IsUnput};
-ghost use Rattle.udfs_reports.specs.Giving.{given_by};
-ghost use Rattle.udfs_reports.specs.Paging.{called_by, IsFreePage, IsPage, IsPageFree, IsPageOf, IsSparedPage, PageRefused};
+ghost use Rattle.udfs_reports.specs.Paging.{IsFreePage, IsPage, IsPageFree, IsPageOf, IsSparedPage, PageRefused};
 ghost use Rattle.udfs_reports.specs.Telling.{IsRefusedPut};
 
 use crate::giving::given_by;
@@ -49,9 +48,9 @@ struct PageText<'a, 'r> {
     /// Where memory is taken from.
     alloc: Global,
     /// The arguments by which the disc is read.
-    given: Given<'a>,
+    given: &'a Given<'a>,
     /// How the page is called.
-    called: Called<'a>,
+    called: &'a Called<'a>,
     /// What was found.
     survey: &'a Survey<'r>,
 }
@@ -61,12 +60,12 @@ impl<'a, 'r> Job for PageText<'a, 'r> {
 
     type Refusal = PageError;
 
-    ghost wrote = { λ job old new. Appends old new (page_html (given_now job.given) (called_now job.called) job.survey.now.profile job.survey.now.table.now job.survey.now.last (survey_now job.survey.now)) };
+    ghost wrote = { λ job old new. Appends old new (page_html (given_now job.given.now) (called_now job.called.now) job.survey.now.profile job.survey.now.table.now job.survey.now.last (survey_now job.survey.now)) };
 
     ghost blames_sink = { λ _ error. error ≡ page_error.NotWritten };
 
     fn write_to<W: Sink>(&self, sink: &mut W) -> Result<(), PageError> {
-        match write_page(self.alloc, &self.given, &self.called, self.survey, sink) {
+        match write_page(self.alloc, self.given, self.called, self.survey, sink) {
             Ok(()) => Ok(()),
             Err(RunError::Write) => Err(PageError::NotWritten),
             // Its only other error is out of memory.
@@ -95,23 +94,22 @@ fn look_at_page<F: Files>(
 /// written, so that memory can run out in the middle: then the new file is removed again.
 fn put_page<F: Files>(
     alloc: Global,
-    request: &PageRequest<'_>,
+    given: &Given<'_>,
+    called: &Called<'_>,
     survey: &Survey<'_>,
+    path: &str,
     files: &mut F,
 ) -> Result<(), Refusal>
-    ensures puts { PutsAs ⟦<F as Known>⟧.reach (λ said bytes. bytes ≡ page_html (given_by request.now.volume request.now.size) (called_by request.now) survey.now.profile survey.now.table.now survey.now.last (survey_now survey.now)) request.now.out.now files.old files.new result }
-    ensures why { IfErr result (IsUnput (PutFails ⟦<F as Known>⟧.reach request.now.out.now files.old)) }
+    ensures puts { PutsAs ⟦<F as Known>⟧.reach (λ said bytes. bytes ≡ page_html (given_now given.now) (called_now called.now) survey.now.profile survey.now.table.now survey.now.last (survey_now survey.now)) path.now files.old files.new result }
+    ensures why { IfErr result (IsUnput (PutFails ⟦<F as Known>⟧.reach path.now files.old)) }
 {
     let page = PageText {
         alloc,
-        given: given_by(&request.volume, request.size),
-        called: Called {
-            title: request.title,
-            out: request.out,
-        },
+        given,
+        called,
         survey,
     };
-    match put_job(alloc, &page, request.out, files) {
+    match put_job(alloc, &page, path, files) {
         Ok(Ok(())) => Ok(()),
         Ok(Err(PageError::OutOfMemory)) => Err(Refusal::Memory(AllocError)),
         Ok(Err(PageError::NotWritten)) => Err(Refusal::Output),
@@ -135,7 +133,12 @@ fn page_of<F: Files>(
         Ok(survey) => survey,
         Err(refusal) => return Err(refusal),
     };
-    match put_page(alloc, request, &survey, files) {
+    let given = given_by(&request.volume, request.size);
+    let called = Called {
+        title: request.title,
+        out: request.out,
+    };
+    match put_page(alloc, &given, &called, &survey, request.out, files) {
         Ok(()) => Ok(survey.all_whole()),
         Err(refusal) => Err(refusal),
     }
