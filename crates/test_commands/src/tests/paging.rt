@@ -34,10 +34,10 @@ file-has p.html <pre>udfsalvage page --size 1230848 --out p.html disc.tab\n</pre
 = the_page_with_a_title
 but
 
-$ page --last 600 --title Box\x2012,\x20<disc>\x203 --out p.html disc.tab
+$ page --last 600 --title Box12,<disc3> --out p.html disc.tab
 silent
-file-has p.html <title>Box 12, &lt;disc&gt; 3: TEST</title>
-file-has p.html <h1>Box 12, &lt;disc&gt; 3: What can be salvaged</h1>\n
+file-has p.html <title>Box12,&lt;disc3&gt;: TEST</title>
+file-has p.html <h1>Box12,&lt;disc3&gt;: What can be salvaged</h1>\n
 
 = the_page_of_a_whole_disc
 but
