@@ -21,9 +21,7 @@ unfolding markup
 as_it_is words = refl
 
 begins_marked : (g : GivenWords) (called : CalledWords) (rules : Profile) (table : Table) (last : ℕ) (report : Report) → (rest : List ℕ) × (page_html g called rules table last report ≡ markup page_mark ++ rest)
-unfolding page_html
-
-unfolding head_text
+unfolding page_html head_text
 begins_marked g called rules table last report = (
   _,
   and_more _ (markup page_mark) _ (markup (codes "</body>\n</html>\n"))
