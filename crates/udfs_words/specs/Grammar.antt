@@ -97,6 +97,10 @@ reread_app given = with_inputs (with_rule (with_rule (with_rule (with_rule (with
 abbrev pub manifest_rule : Rule
 manifest_rule = option_rule (codes "manifest") false
 
+-- `--title TEXT`
+abbrev pub title_rule : Rule
+title_rule = option_rule (codes "title") false
+
 -- `--unnamed DIR`
 abbrev pub unnamed_rule : Rule
 unnamed_rule = option_rule (codes "unnamed") false
@@ -121,9 +125,9 @@ summary_app given = with_inputs (with_rule (with_profile (codes "summary") given
 abbrev pub image_app : Given → App
 image_app given = with_inputs (with_rule (with_rule (with_rule (with_last (codes "image") given.needs_last) out_rule) (value_rule (codes "mapfile"))) (flag_rule (codes "force"))) given.pairs
 
--- `page --out FILE (--last N | --size BYTES | --size-of MAPFILE) [--profile PROFILE] [--force] IN...`
+-- `page --out FILE (--last N | --size BYTES | --size-of MAPFILE) [--profile PROFILE] [--title TEXT] [--force] IN...`
 abbrev pub page_app : Given → App
-page_app given = with_inputs (with_rule (with_rule (with_profile (codes "page") given.needs_last) out_rule) (flag_rule (codes "force"))) given.pairs
+page_app given = with_inputs (with_rule (with_rule (with_rule (with_profile (codes "page") given.needs_last) out_rule) title_rule) (flag_rule (codes "force"))) given.pairs
 
 -- the program before its commands: one of them has to be named, and there is `--version`
 abbrev pub program : App

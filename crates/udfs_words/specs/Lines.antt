@@ -96,13 +96,13 @@ abbrev pub IsSomeSummary : Request → Type 0
 IsSomeSummary (request.Summary r) = Reads r.volume (codes "all.tab") (Block 1000) Wide
 IsSomeSummary _ = ⊥
 
--- `udfsalvage page --last 1000 --out - all.tab`
+-- `udfsalvage page --last 1000 --out - --title Box all.tab`
 abbrev pub page_line : List Text
-page_line = codes "udfsalvage" ∷ codes "page" ∷ codes "--last" ∷ codes "1000" ∷ codes "--out" ∷ codes "-" ∷ codes "all.tab" ∷ []
+page_line = codes "udfsalvage" ∷ codes "page" ∷ codes "--last" ∷ codes "1000" ∷ codes "--out" ∷ codes "-" ∷ codes "--title" ∷ codes "Box" ∷ codes "all.tab" ∷ []
 
--- onto standard output
+-- onto standard output, with a title
 abbrev pub IsSomePage : Request → Type 0
-IsSomePage (request.Page r) = Reads r.volume (codes "all.tab") (Block 1000) Strict × (r.out.now ≡ codes "/dev/stdout")
+IsSomePage (request.Page r) = Reads r.volume (codes "all.tab") (Block 1000) Strict × (r.out.now ≡ codes "/dev/stdout") × (option_map (λ text. text.now) r.size ≡ None) × (option_map (λ text. text.now) r.title ≡ Some (codes "Box"))
 IsSomePage _ = ⊥
 
 -- `udfsalvage extract --last 1000 --to files --fill --only /a --only /b --manifest sums --times all.tab`

@@ -1,7 +1,7 @@
 -- What the arguments of a command ask for, as a value.
 --     texts paths                      some paths, as text
 --     streamed_texts words             the paths of the inputs that are files, where `-` is standard input
---     optional_text words id           the path that was given as this, if one was
+--     optional_text words id           what was given as this, if anything was
 --     given_texts words id             all that was given as this
 --     printed_path words               the path of the output, where `-` is standard output
 --     AreInputs given pairs inputs     the inputs are these files, and these images with their mapfiles
@@ -50,7 +50,7 @@ texts paths = map (λ path. path.now) paths
 abbrev pub streamed_texts : Found → List (List ℕ)
 streamed_texts words = map stream_path (input_texts words)
 
--- the path that was given as this, if one was
+-- what was given as this, if anything was
 abbrev pub optional_text : Found → List ℕ → Option (List ℕ)
 optional_text words id = option_map (λ _. unwrap_or (first_value words id) []) (matched_of words id)
 
@@ -131,10 +131,13 @@ pub record IsList (words : Found) (request : ListRequest) : Type 0 where
 -- the arguments of `summary`
 pub record IsSummary (words : Found) (request : SummaryRequest) : Type 0 where
   pub volume : IsVolumeSource (streamed_texts words) words request.volume
+  pub size : option_map (λ text. text.now) request.size ≡ optional_text words (codes "size")
 
 -- the arguments of `page`
 pub record IsPage (words : Found) (request : PageRequest) : Type 0 where
   pub volume : IsVolumeSource (streamed_texts words) words request.volume
+  pub size : option_map (λ text. text.now) request.size ≡ optional_text words (codes "size")
+  pub title : option_map (λ text. text.now) request.title ≡ optional_text words (codes "title")
   pub out : request.out.now ≡ printed_path words
 
 -- the arguments of `extract`; where no path is given of what is wanted, it is the root

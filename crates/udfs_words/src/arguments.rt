@@ -2,11 +2,11 @@
 
 ghost use Rattle.std.specs.Prelude.{◌≡◌, false, codes};
 ghost use Rattle.clap.specs.Words.{rule_of};
-ghost use Rattle.udfs_words.specs.Grammar.{blocks_rule, flag_rule, group_rule, inputs_rule, last_rule, letter_rule, manifest_rule, mapfile_rule, only_rule, option_rule, out_rule, pairs_rule, profile_rule, size_of_rule, size_rule, unnamed_rule, value_rule};
+ghost use Rattle.udfs_words.specs.Grammar.{blocks_rule, flag_rule, group_rule, inputs_rule, last_rule, letter_rule, manifest_rule, mapfile_rule, only_rule, option_rule, out_rule, pairs_rule, profile_rule, size_of_rule, size_rule, title_rule, unnamed_rule, value_rule};
 
 use crate::words::{
     BLOCKS, FORCE, GROUP, INPUTS, LAST, MANIFEST, MAPFILE, ONLY, OUT, PAIRS, PROFILE, QUIET, SIZE,
-    SIZE_OF, TO, UNNAMED, VERBOSE,
+    SIZE_OF, TITLE, TO, UNNAMED, VERBOSE,
 };
 use clap::{Arg, ArgAction, value_parser};
 use std::alloc::Global;
@@ -158,6 +158,19 @@ pub fn page_file<'a>(alloc: Global) -> Arg<'a>
         alloc,
         "FILE",
         "The page to write, over an old one; - is standard output",
+    )
+}
+
+/// What the page is called.
+pub fn title<'a>(alloc: Global) -> Arg<'a>
+    ensures { (rule_of result ≡ title_rule) × (result.global ≡ false) }
+{
+    option(
+        alloc,
+        TITLE,
+        "TEXT",
+        "What the page is called, as the disc's shelf mark: it stands before the volume's name",
+        false,
     )
 }
 

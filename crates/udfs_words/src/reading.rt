@@ -19,7 +19,7 @@ use crate::request::{
 use crate::streams::are_two_streams;
 use crate::words::{
     BLOCKS, FILL, INPUTS, LAST, MANIFEST, MAPFILE, NULL, ONLY, PAIRS, PATHS, SHORT_NAMES, SIZE,
-    SIZE_OF, TIMES, TORN, UNNAMED,
+    SIZE_OF, TIMES, TITLE, TORN, UNNAMED,
 };
 use clap::ArgMatches;
 use std::alloc::{AllocError, Global};
@@ -114,7 +114,7 @@ fn read_last<'a>(words: &ArgMatches<'a>) -> LastSource<'a>
     }
 }
 
-/// The path that was given as this, if one was.
+/// What was given as this, if anything was.
 fn read_optional<'a>(words: &ArgMatches<'a>, id: &str) -> Option<&'a str>
     ensures { option_map (λ path. path.now) result ≡ optional_text (found_of words.now) id.now }
 {
@@ -264,7 +264,10 @@ fn read_summary<'a>(alloc: Global, words: &ArgMatches<'a>) -> Result<Request<'a>
     ensures { IfOk result (IsRequest (codes "summary") (found_of words.now)) }
 {
     let volume = read_streamed_volume(alloc, words)?;
-    Ok(Request::Summary(SummaryRequest { volume }))
+    Ok(Request::Summary(SummaryRequest {
+        volume,
+        size: read_optional(words, SIZE),
+    }))
 }
 
 /// The arguments of `page`.
@@ -274,6 +277,8 @@ fn read_page<'a>(alloc: Global, words: &ArgMatches<'a>) -> Result<Request<'a>, A
     let volume = read_streamed_volume(alloc, words)?;
     Ok(Request::Page(PageRequest {
         volume,
+        size: read_optional(words, SIZE),
+        title: read_optional(words, TITLE),
         out: read_printed(words),
     }))
 }

@@ -118,12 +118,18 @@ pub struct ListRequest<'a> {
 #[derive(Drop)]
 pub struct SummaryRequest<'a> {
     pub volume: VolumeSource<'a>,
+    /// The size of the disc as it was given, if it was.
+    pub size: Option<&'a str>,
 }
 
 /// The page of a volume is to be written.
 #[derive(Drop)]
 pub struct PageRequest<'a> {
     pub volume: VolumeSource<'a>,
+    /// The size of the disc as it was given, if it was.
+    pub size: Option<&'a str>,
+    /// What the page is called, beside the volume's name.
+    pub title: Option<&'a str>,
     /// The path of the page.
     pub out: &'a str,
 }

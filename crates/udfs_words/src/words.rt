@@ -9,7 +9,7 @@ ghost use Rattle.udfs_words.specs.Grammar.{extract_app, forget_app, image_app, l
 use crate::arguments::{
     blocks, disc_size, domain, flag, folder, force, group, image_file, image_map, inputs, joining,
     last, lost_folder, manifest, only, page_file, pair_inputs, profile, quiet, size_map,
-    table_file, verbose,
+    table_file, title, verbose,
 };
 use clap::Command;
 use std::alloc::{AllocError, Global};
@@ -76,6 +76,9 @@ pub const TIMES: &str = "times";
 
 /// The id of the flag for short names among the matches.
 pub const SHORT_NAMES: &str = "short-names";
+
+/// The page's title among the matches.
+pub const TITLE: &str = "title";
 
 /// The id of the flag for JSON among the matches.
 pub const JSON: &str = "json";
@@ -369,7 +372,7 @@ fn summary<'a>(alloc: Global, given: Given) -> Result<Command<'a>, AllocError>
     with_inputs(alloc, command, given.pairs)
 }
 
-/// `page --out FILE (--last N | --size BYTES | --size-of MAPFILE) [--profile PROFILE] [--force] IN...`
+/// `page --out FILE (--last N | --size BYTES | --size-of MAPFILE) [--profile PROFILE] [--title TEXT] [--force] IN...`
 fn page<'a>(alloc: Global, given: Given) -> Result<Command<'a>, AllocError>
     ensures { IfOk result (λ command. app_of command ≡ page_app given) }
 {
@@ -381,6 +384,7 @@ fn page<'a>(alloc: Global, given: Given) -> Result<Command<'a>, AllocError>
     let command = with_end(alloc, command, given.needs_last)?
         .arg(profile(alloc))?
         .arg(page_file(alloc))?
+        .arg(title(alloc))?
         .arg(joining(alloc))?;
     with_inputs(alloc, command, given.pairs)
 }
