@@ -1,3 +1,4 @@
 pub mod Disk
 pub mod Jobs
+pub mod Opened
 pub mod Telling
