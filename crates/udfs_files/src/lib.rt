@@ -10,6 +10,7 @@ mod output;
 mod places;
 mod reaching;
 mod replacing;
+mod resolving;
 mod watch;
 
 pub use files::{Files, Handle, Kind, Target};

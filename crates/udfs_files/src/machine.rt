@@ -1,17 +1,26 @@
 //! The machine's files, over the system calls that reach them.
 
 ghost use Rattle.std.proofs.Common.{inl, inr, refl, ⊎_elim};
-ghost use Rattle.udfs_files.specs.Opened.{all_before, told_bytes, untold_contents};
+ghost use Rattle.udfs_calls.specs.Log.{after, after_sync};
+ghost use Rattle.udfs_calls.specs.Log.Call.{folder_synced};
+ghost use Rattle.udfs_calls.specs.Paths.{parent};
+ghost use Rattle.udfs_files.specs.Disk.{Disk, Goes, Same, SameBut, folder_of};
+ghost use Rattle.udfs_files.specs.Leading.{LeadsTo};
+ghost use Rattle.udfs_files.specs.Opened.{all_before, contents_of, told_bytes, untold_contents};
+ghost use Rattle.udfs_files.specs.There.{holds_from_start};
+ghost use Rattle.udfs_files.specs.declared.files.Kind.{Kind};
 ghost use Rattle.udfs_reading.specs.Device.{CountsFault};
-ghost use Rattle.std.specs.Prelude.{None, ⊤};
+ghost use Rattle.std.specs.Prelude.{◌≡◌, ◌≢◌, ℕ, List, Option, Some, None, Ok, IfOk, IsErr, OnErr, OnOk, string_bytes, ⊤};
 
-use crate::files::{Files, Kind, Target};
+use crate::files::{Files, Target};
 use crate::opened::{MachineImage, MachineInput, MachineStored};
 use crate::output::MachineFile;
-use crate::places::{is_device, joined, split};
+use crate::places::split;
 use crate::reaching::{
-    create, open_image, open_in_place, open_input, open_stored, sync_folder, sync_output,
+    create, open_image, open_in_place, open_input, open_stored, remove, rename, sync_folder,
+    sync_output,
 };
+use crate::resolving::resolve;
 use crate::watch::{Stage, Watch, heeded};
 use std::alloc::{AllocError, Global};
 use std::io::{Error, ErrorKind};
@@ -20,9 +29,6 @@ use std::time::{Duration, SystemTime};
 use udfs_calls::Calls;
 use udfs_reading::DeviceFault;
 use udfs_times::{Times, Zone};
-
-/// How many links are followed one after the other, as the system does.
-const LINKS: usize = 40;
 
 /// The machine's files, over its system calls. The runtime gives the zone of its clock alone.
 #[derive(Drop)]
@@ -58,6 +64,9 @@ fn changed<C: Calls>(calls: &C, path: &str, micros: u64) -> Result<(), Error> {
 impl<'a, C: Calls, R: std::rt::Files + Env + AllocGlobal, N: Watch> Machine<'a, C, R, N> {
     /// The outcome of a call that changes files, counted. Why it failed is kept.
     fn heeded<T: Drop>(&mut self, outcome: Result<T, Error>) -> Result<T, DeviceFault>
+        ensures value { IfOk result (λ value. outcome ≡ Ok value) }
+        ensures none { OnErr result (IsErr outcome) }
+        ensures calls { self.new.calls ≡ self.old.calls }
         ensures count { CountsFault self.old.faults self.new.faults result }
     {
         match heeded(self.watch, outcome) {
@@ -67,44 +76,6 @@ impl<'a, C: Calls, R: std::rt::Files + Env + AllocGlobal, N: Watch> Machine<'a, 
                 Err(DeviceFault)
             }
         }
-    }
-
-    /// A fault of a call that changes no file. Why it failed is kept.
-    fn refused(&self, error: Error) -> DeviceFault {
-        self.watch.failed(error);
-        DeviceFault
-    }
-
-    /// Whether a file that is there may be written.
-    fn is_writable(&self, path: &str) -> bool {
-        heeded(self.watch, self.calls.try_to_write(path)).is_some()
-    }
-
-    /// A path of which the last part is no link, without the links before it, and what is there. A file that may not be written is a fault.
-    fn settled(
-        &self,
-        alloc: Global,
-        path: &str,
-    ) -> Result<Result<Target, DeviceFault>, AllocError> {
-        let (kind, there) = match self.calls.about(path) {
-            Ok(about) if about.is_file => (Kind::Regular, path),
-            Ok(_) => (Kind::Other, path),
-            Err(error) if error.kind() == ErrorKind::NotFound => (Kind::Absent, split(path).0),
-            Err(error) => return Ok(Err(self.refused(error))),
-        };
-        if kind == Kind::Regular && !self.is_writable(path) {
-            return Ok(Err(DeviceFault));
-        }
-        let real = match self.calls.real_path(alloc, there) {
-            Ok(real) => real,
-            Err(error) if error.kind() == ErrorKind::OutOfMemory => return Err(AllocError),
-            Err(error) => return Ok(Err(self.refused(error))),
-        };
-        let path = match kind {
-            Kind::Absent => joined(alloc, real.as_str(), split(path).1)?,
-            Kind::Regular | Kind::Other => String::from_str(alloc, real.as_str())?,
-        };
-        Ok(Ok(Target { path, kind }))
     }
 }
 
@@ -119,9 +90,9 @@ impl<'a, C: Calls, R: std::rt::Files + Env + AllocGlobal, N: Watch> Files for Ma
 
     ghost tells = { ⊥ };
 
-    ghost holds = { λ _ _. None };
+    ghost holds = { λ m. holds_from_start (C.log m.calls) };
 
-    ghost real = { λ _ path. path };
+    ghost real = { λ m. C.real m.calls };
 
     ghost in_place = { λ _ _. ⊤ };
 
@@ -167,26 +138,15 @@ impl<'a, C: Calls, R: std::rt::Files + Env + AllocGlobal, N: Watch> Files for Ma
         open_stored(&self.calls, self.watch, path)
     }
 
-    fn resolve(
-        &self,
-        alloc: Global,
-        path: &str,
-    ) -> Result<Result<Target, DeviceFault>, AllocError> {
-        let mut at = String::from_str(alloc, path)?;
-        for _ in 0..LINKS {
-            if is_device(at.as_str()) {
-                return Ok(Ok(Target {
-                    path: at,
-                    kind: Kind::Other,
-                }));
-            }
-            match self.calls.link(alloc, at.as_str()) {
-                Ok(link) => at = joined(alloc, split(at.as_str()).0, link.as_str())?,
-                Err(error) if error.kind() == ErrorKind::OutOfMemory => return Err(AllocError),
-                Err(_) => return self.settled(alloc, at.as_str()),
-            }
-        }
-        Ok(Err(DeviceFault))
+    fn resolve(&self, alloc: Global, path: &str) -> Result<Result<Target, DeviceFault>, AllocError>
+        ensures led { IfOk result (λ found. IfOk found (λ target. C.tells → LeadsTo (C.log self.now.calls) (C.real self.now.calls) (C.in_place self.now.calls) path.now target)) }
+        // The trait's, of files that do not tell.
+        ensures leads { IfOk result (λ found. IfOk found (λ target. ⊥ → string_bytes target.path ≡ C.real self.now.calls path.now)) }
+        ensures other { IfOk result (λ found. IfOk found (λ target. target.kind ≡ Kind.Other → ⊤)) }
+        ensures absent { IfOk result (λ found. IfOk found (λ target. target.kind ≡ Kind.Absent → ⊥ → holds_from_start (C.log self.now.calls) (C.real self.now.calls path.now) ≡ Some None)) }
+        ensures fails { IfOk result (λ found. OnErr found ⊤) }
+    {
+        resolve(&self.calls, self.watch, alloc, path)
     }
 
     fn make_new(&mut self, path: &str) -> Result<Self::Output, DeviceFault> {
@@ -199,23 +159,40 @@ impl<'a, C: Calls, R: std::rt::Files + Env + AllocGlobal, N: Watch> Files for Ma
         self.heeded(outcome)
     }
 
-    fn sync(&mut self, _path: &str, output: Self::Output) -> Result<(), DeviceFault> {
+    fn sync(&mut self, _path: &str, output: Self::Output) -> Result<(), DeviceFault>
+        ensures synced { OnOk result (C.log self.new.calls ≡ after_sync (C.File.number output.entry.file) (contents_of (C.File.state output.entry.file) output.entry.size) (C.log self.old.calls)) }
+        // The trait's, of files that do not tell.
+        ensures holds { OnOk result ((bytes : List ℕ) → ⊥ → contents_of (C.File.state output.entry.file) output.entry.size ≡ Some bytes → holds_from_start (C.log self.new.calls) _path.now ≡ Some (Some bytes)) }
+        ensures durable { OnOk result ((bytes : List ℕ) (c : Option (List ℕ)) → ⊥ → contents_of (C.File.state output.entry.file) output.entry.size ≡ Some bytes → ⊤ → c ≡ Some bytes) }
+        ensures others { (q : List ℕ) → q ≢ _path.now → holds_from_start (C.log self.new.calls) q ≡ holds_from_start (C.log self.old.calls) q }
+        ensures real { C.real self.new.calls ≡ C.real self.old.calls }
+        ensures count { CountsFault self.old.faults self.new.faults result }
+        ensures crash { Goes (λ _. 0) (λ _ _. ⊤) (λ _ _ _. ⊤) self.old self.new (SameBut _path.now) }
+    {
         let outcome = sync_output(&mut self.calls, output);
         self.heeded(outcome)
     }
 
     fn rename(&mut self, from: &str, to: &str) -> Result<(), DeviceFault> {
-        let outcome = self.calls.rename(from, to);
+        let outcome = rename(&mut self.calls, self.rt.alloc(), from, to);
         self.heeded(outcome)
     }
 
-    fn sync_folder(&mut self, path: &str) -> Result<(), DeviceFault> {
+    fn sync_folder(&mut self, path: &str) -> Result<(), DeviceFault>
+        ensures synced { OnOk result (C.log self.new.calls ≡ after (folder_synced (parent path.now)) (C.log self.old.calls)) }
+        // The trait's, of files that do not tell.
+        ensures durable { OnOk result ((c : Disk) (q : List ℕ) → ⊤ → folder_of q ≡ folder_of path.now → ⊤) }
+        ensures others { (q : List ℕ) → holds_from_start (C.log self.new.calls) q ≡ holds_from_start (C.log self.old.calls) q }
+        ensures real { C.real self.new.calls ≡ C.real self.old.calls }
+        ensures count { CountsFault self.old.faults self.new.faults result }
+        ensures crash { Goes (λ _. 0) (λ _ _. ⊤) (λ _ _ _. ⊤) self.old self.new Same }
+    {
         let outcome = sync_folder(&mut self.calls, split(path).0);
         self.heeded(outcome)
     }
 
     fn remove(&mut self, path: &str) -> Result<(), DeviceFault> {
-        let outcome = self.calls.remove(path);
+        let outcome = remove(&mut self.calls, self.rt.alloc(), path);
         self.heeded(outcome)
     }
 

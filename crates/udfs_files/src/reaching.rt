@@ -1,15 +1,16 @@
 //! What the machine's files ask of the system, call by call: what is opened holds what its path leads to, and what is written gets to its path.
 
 ghost use Rattle.std.specs.IoError.{error_kind};
-ghost use Rattle.std.specs.Prelude.{◌≡◌, ◌≢◌, [], Some, None, IfOk, IfErr, IfSome, OnOk, OnErr, OnSome, IsNone};
+ghost use Rattle.std.specs.Prelude.{◌≡◌, ◌⊎◌, [], Some, None, IfOk, IfErr, IfSome, OnOk, OnErr, OnSome, IsNone};
 ghost use Rattle.udfs_calls.specs.Files.{bytes_of, rest_of};
 ghost use Rattle.udfs_calls.specs.Log.{Names, NamesSome, after, after_sync, holds, moment_of};
-ghost use Rattle.udfs_calls.specs.Log.Call.{created, opened, failed, folder_synced};
+ghost use Rattle.udfs_calls.specs.Log.Call.{created, opened, renamed, removed, failed, folder_synced};
 ghost use Rattle.udfs_files.specs.Opened.{contents_of};
 
 use crate::opened::{MachineImage, MachineInput, MachineStored};
 use crate::output::MachineFile;
 use crate::watch::{Watch, heeded};
+use std::alloc::Global;
 use std::io::{Error, ErrorKind};
 use udfs_calls::{Calls, Opened};
 use udfs_reading::DeviceFault;
@@ -149,6 +150,47 @@ pub(crate) fn sync_folder<C: Calls>(calls: &mut C, folder: &str) -> Result<(), E
         Err(error) if error.kind() == ErrorKind::InvalidInput => Ok(()),
         outcome => outcome,
     }
+}
+
+/// Sees that a path names no link.
+///
+/// # Errors
+///
+/// Where it names one, and where memory runs out.
+fn refuse_link<C: Calls>(calls: &C, alloc: Global, path: &str) -> Result<(), Error>
+    ensures { OnOk result (C.link_at calls.now path.now ≡ None) }
+{
+    match calls.link(alloc, path) {
+        Ok(_) => Err(Error::from(ErrorKind::InvalidInput)),
+        Err(error) if error.kind() == ErrorKind::OutOfMemory => Err(error),
+        Err(_) => Ok(()),
+    }
+}
+
+/// Gives a file another path, if neither path is a link.
+pub(crate) fn rename<C: Calls>(
+    calls: &mut C,
+    alloc: Global,
+    from: &str,
+    to: &str,
+) -> Result<(), Error>
+    ensures done { OnOk result (C.log calls.new ≡ after (renamed from.now to.now) (C.log calls.old)) }
+    ensures failed { OnErr result ((C.log calls.new ≡ C.log calls.old) ⊎ (C.log calls.new ≡ after (failed (renamed from.now to.now)) (C.log calls.old))) }
+    ensures real { C.real calls.new ≡ C.real calls.old }
+{
+    refuse_link(calls, alloc, from)?;
+    refuse_link(calls, alloc, to)?;
+    calls.rename(from, to)
+}
+
+/// Removes the name of a file, if it is no link.
+pub(crate) fn remove<C: Calls>(calls: &mut C, alloc: Global, path: &str) -> Result<(), Error>
+    ensures done { OnOk result (C.log calls.new ≡ after (removed path.now) (C.log calls.old)) }
+    ensures failed { OnErr result ((C.log calls.new ≡ C.log calls.old) ⊎ (C.log calls.new ≡ after (failed (removed path.now)) (C.log calls.old))) }
+    ensures real { C.real calls.new ≡ C.real calls.old }
+{
+    refuse_link(calls, alloc, path)?;
+    calls.remove(path)
 }
 
 /// Opens what a path leads to, to be read as an image.
