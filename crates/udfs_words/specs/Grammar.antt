@@ -77,13 +77,13 @@ with_profile name size = with_rule (with_last name size) profile_rule
 abbrev pub report_app : Given → App
 report_app given = with_inputs (with_rule (with_rule (with_profile (codes "report") given.needs_last) (flag_rule (codes "json"))) (flag_rule (codes "force"))) given.pairs
 
--- `reread (--last N | --size BYTES) [--profile PROFILE] [--mapfile FILE] [--group G] [--no-witnesses] [--force] IN...`
-abbrev pub reread_app : Given → App
-reread_app given = with_inputs (with_rule (with_rule (with_rule (with_rule (with_profile (codes "reread") given.needs_last) mapfile_rule) group_rule) (flag_rule (codes "no-witnesses"))) (flag_rule (codes "force"))) given.pairs
-
 -- `--only PATH`, any number of times
 abbrev pub only_rule : Rule
 only_rule = record (new_rule (codes "only")) { long = Some (codes "only"); value_names = 1; action = Some Append }
+
+-- `reread (--last N | --size BYTES) [--profile PROFILE] [--only PATH]... [--mapfile FILE] [--group G] [--no-witnesses] [--force] IN...`
+abbrev pub reread_app : Given → App
+reread_app given = with_inputs (with_rule (with_rule (with_rule (with_rule (with_rule (with_profile (codes "reread") given.needs_last) only_rule) mapfile_rule) group_rule) (flag_rule (codes "no-witnesses"))) (flag_rule (codes "force"))) given.pairs
 
 -- `--manifest FILE`
 abbrev pub manifest_rule : Rule

@@ -69,13 +69,13 @@ abbrev pub IsSomeReport : Request → Type 0
 IsSomeReport (request.Report r) = Reads r.volume (codes "all.tab") (Block 1000) Strict × (r.form ≡ Json)
 IsSomeReport _ = ⊥
 
--- `udfsalvage reread --last 1000 --mapfile again.map --group 16 all.tab`
+-- `udfsalvage reread --last 1000 --only /a --mapfile again.map --group 16 all.tab`
 abbrev pub reread_line : List Text
-reread_line = codes "udfsalvage" ∷ codes "reread" ∷ codes "--last" ∷ codes "1000" ∷ codes "--mapfile" ∷ codes "again.map" ∷ codes "--group" ∷ codes "16" ∷ codes "all.tab" ∷ []
+reread_line = codes "udfsalvage" ∷ codes "reread" ∷ codes "--last" ∷ codes "1000" ∷ codes "--only" ∷ codes "/a" ∷ codes "--mapfile" ∷ codes "again.map" ∷ codes "--group" ∷ codes "16" ∷ codes "all.tab" ∷ []
 
--- into a mapfile, in groups of 16, with known blocks
+-- for one file or folder, into a mapfile, in groups of 16, with known blocks
 abbrev pub IsSomeReread : Request → Type 0
-IsSomeReread (request.Reread r) = Reads r.volume (codes "all.tab") (Block 1000) Strict × (option_map (λ path. path.now) r.mapfile ≡ Some (codes "again.map")) × (r.group ≡ Some Sixteen) × (r.witnesses ≡ true)
+IsSomeReread (request.Reread r) = Reads r.volume (codes "all.tab") (Block 1000) Strict × (texts r.only.items ≡ codes "/a" ∷ []) × (option_map (λ path. path.now) r.mapfile ≡ Some (codes "again.map")) × (r.group ≡ Some Sixteen) × (r.witnesses ≡ true)
 IsSomeReread _ = ⊥
 
 -- `udfsalvage list --size 1001s --torn --paths -`

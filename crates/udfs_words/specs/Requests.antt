@@ -2,6 +2,7 @@
 --     texts paths                      some paths, as text
 --     streamed_texts words             the paths of the inputs that are files, where `-` is standard input
 --     optional_text words id           the path that was given as this, if one was
+--     given_texts words id             all that was given as this
 --     printed_path words               the path of the output, where `-` is standard output
 --     AreInputs given pairs inputs     the inputs are these files, and these images with their mapfiles
 --     IsLastSource words last          where the disc ends
@@ -14,7 +15,7 @@
 use Rattle.std.specs.Prelude.{◌≡◌, ◌⊎◌, ◌||◌, ◌++◌, ℕ, true, false, List, Option, [], codes, is_some, map, option_map, unwrap_or, if◌then◌else◌}
 use Rattle.std.specs.Str.{bytes_eq}
 use Rattle.std.specs.Borrow.{Bor}
-use Rattle.clap.specs.Matches.{first_value, matched_of}
+use Rattle.clap.specs.Matches.{first_value, matched_of, raw_values}
 use Rattle.clap.specs.declared.parser.matches.Found.{Found}
 use Rattle.udfs_words.specs.Asking.{IsEndFault, IsGoodGroup, IsGroup, IsGroupFault, IsKnownProfile, IsOneEnd, IsPicked, IsProfile, IsToldLast, IsUnknownProfile, are_two_streams, asked_for, folder_text, input_texts, list_texts, mapfile_text, only_texts, out_text, pair_texts, pairs_of, stream_path}
 use Rattle.udfs_words.specs.Asking.Asked.{AskedFile}
@@ -52,6 +53,10 @@ streamed_texts words = map stream_path (input_texts words)
 -- the path that was given as this, if one was
 abbrev pub optional_text : Found → List ℕ → Option (List ℕ)
 optional_text words id = option_map (λ _. unwrap_or (first_value words id) []) (matched_of words id)
+
+-- all that was given as this; nothing, where it was not given
+abbrev pub given_texts : Found → List ℕ → List (List ℕ)
+given_texts words id = unwrap_or (option_map raw_values (matched_of words id)) []
 
 -- the path of the output, where `-` is standard output
 abbrev pub printed_path : Found → List ℕ
@@ -107,9 +112,10 @@ pub record IsReport (words : Found) (request : ReportRequest) : Type 0 where
   pub volume : IsVolumeSource (input_texts words) words request.volume
   pub form : IsPicked words (codes "json") Json Text request.form
 
--- the arguments of `reread`
+-- the arguments of `reread`; where no path is given of what is wanted, there is none
 pub record IsReread (words : Found) (request : RereadRequest) : Type 0 where
   pub volume : IsVolumeSource (input_texts words) words request.volume
+  pub only : texts request.only.items ≡ given_texts words (codes "only")
   pub mapfile : option_map (λ path. path.now) request.mapfile ≡ optional_text words (codes "mapfile")
   pub group : IsGroup words request.group
   pub witnesses : IsPicked words (codes "no-witnesses") false true request.witnesses

@@ -199,15 +199,13 @@ pub fn folder<'a>(alloc: Global) -> Arg<'a>
 }
 
 /// Paths of nodes that alone are asked for.
-pub fn only<'a>(alloc: Global) -> Arg<'a>
+pub fn only<'a>(alloc: Global, help: &'a str) -> Arg<'a>
     ensures { (rule_of result ≡ only_rule) × (result.global ≡ false) }
 {
     Arg::new(alloc, ONLY)
         .long("only")
         .value_name("PATH")
-        .help(
-            "Write only this file, or this folder with all below it: its path as report prints it",
-        )
+        .help(help)
         .action(ArgAction::Append)
 }
 

@@ -233,8 +233,10 @@ fn read_reread<'a>(alloc: Global, words: &ArgMatches<'a>) -> Result<Request<'a>,
     ensures { IfOk result (IsRequest (codes "reread") (found_of words.now)) }
 {
     let volume = read_volume(alloc, words)?;
+    let only = read_texts(alloc, words, ONLY)?;
     Ok(Request::Reread(RereadRequest {
         volume,
+        only,
         mapfile: read_optional(words, MAPFILE),
         group: asked_group(words),
         witnesses: asked_witnesses(words),

@@ -90,6 +90,8 @@ pub struct ReportRequest<'a> {
 #[derive(Drop)]
 pub struct RereadRequest<'a> {
     pub volume: VolumeSource<'a>,
+    /// The paths, in the volume, of what they are wanted for, with all that is in it; where there are none, of all.
+    pub only: Vec<&'a str>,
     /// The path of the mapfile in which they are to be wanted; where there is none, their numbers are to be printed.
     pub mapfile: Option<&'a str>,
     /// Whole groups of this size are to be wanted in it.

@@ -190,16 +190,27 @@ fn report<'a>(alloc: Global, given: Given) -> Result<Command<'a>, AllocError>
     with_inputs(alloc, command, given.pairs)
 }
 
-/// `reread (--last N | --size BYTES) [--profile PROFILE] [--mapfile FILE] [--group G] [--no-witnesses] [--force] IN...`
+/// `reread` before its arguments.
+fn bare_reread<'a>(alloc: Global) -> Command<'a>
+    ensures { app_of result ≡ new_app (codes "reread") }
+{
+    Command::new(alloc, "reread")
+        .about("Prints the numbers of the blocks to read again")
+        .override_usage("udfsalvage reread [OPTIONS] [--last <N> | --size <BYTES>] <IN>...")
+}
+
+/// `reread (--last N | --size BYTES) [--profile PROFILE] [--only PATH]... [--mapfile FILE] [--group G] [--no-witnesses] [--force] IN...`
 fn reread<'a>(alloc: Global, given: Given) -> Result<Command<'a>, AllocError>
     ensures { IfOk result (λ command. app_of command ≡ reread_app given) }
 {
-    let command = Command::new(alloc, "reread")
-        .about("Prints the numbers of the blocks to read again")
-        .override_usage("udfsalvage reread [OPTIONS] [--last <N> | --size <BYTES>] <IN>...")
+    let command = bare_reread(alloc)
         .arg(last(alloc, given.needs_last))?
         .arg(disc_size(alloc))?
         .arg(profile(alloc))?
+        .arg(only(
+            alloc,
+            "Only the blocks for this file, or this folder with all below it: its path as report prints it",
+        ))?
         .arg(domain(alloc))?
         .arg(group(alloc))?
         .arg(flag(
@@ -236,7 +247,10 @@ fn extract<'a>(alloc: Global, given: Given) -> Result<Command<'a>, AllocError>
             FILL,
             "Write torn files too, with zeros for the bytes that are missing",
         ))?
-        .arg(only(alloc))?
+        .arg(only(
+            alloc,
+            "Write only this file, or this folder with all below it: its path as report prints it",
+        ))?
         .arg(manifest(alloc))?
         .arg(lost_folder(alloc))?
         .arg(flag(
