@@ -8,8 +8,8 @@ use Rattle.udfs_osta.specs.Escapes.{escaped}
 use Rattle.udfs_osta.specs.Parts.{AllPlain}
 use Rattle.udfs_osta.proofs.PathParts.{escaped_plain}
 use Rattle.udfs_salvage.specs.NodeTexts.{names_text, path_name}
-use Rattle.udfs_extraction.specs.Choosing.{AsksByNames, goes_on, is_under}
-use Rattle.udfs_extraction.proofs.ChoosingLemmas.{goes_with, on_behind}
+use Rattle.udfs_salvage.specs.Choosing.{AsksByNames, goes_on, is_under}
+use Rattle.udfs_salvage.proofs.ChoosingLemmas.{goes_with, on_behind}
 
 -- bytes with no `/` in front of some others, which are as well these in front of a `/`
 behind_plain : (plain more word rest : List ℕ) → AllPlain plain → plain ++ more ≡ word ++ 47 ∷ rest → (left : List ℕ) × (word ≡ plain ++ left) × (more ≡ left ++ 47 ∷ rest)
@@ -41,7 +41,7 @@ named (name ∷ names) word some e = e
 no_bytes : (x : ℕ) (xs : List ℕ) → (x ∷ xs) ≡ [] → ⊥
 no_bytes x xs e = cc
 
-either : (a b c : Bool) → (a || b || c) ≡ true → (a ≡ true) ⊎ (b ≡ true) ⊎ (c ≡ true)
+pub either : (a b c : Bool) → (a || b || c) ≡ true → (a ≡ true) ⊎ (b ≡ true) ⊎ (c ≡ true)
 either true b c e = inl refl
 either false true c e = inr (inl refl)
 either false false c e = inr (inr e)
@@ -68,17 +68,17 @@ to_names word path some is = elim (either (bytes_eq word (codes "/")) (bytes_eq 
   | inr (inr on) ↦ by_path word path some on
 ]
 
-second : (a b c : Bool) → b ≡ true → (a || b || c) ≡ true
+pub second : (a b c : Bool) → b ≡ true → (a || b || c) ≡ true
 second true b c e = refl
 second false true c e = refl
 second false false c e = let bad : false ≡ true = e in cc
 
-third : (a b c : Bool) → c ≡ true → (a || b || c) ≡ true
+pub third : (a b c : Bool) → c ≡ true → (a || b || c) ≡ true
 third true b c e = refl
 third false true c e = refl
 third false false c e = e
 
-split_text : (some more : List (List ℕ)) → names_text (some ++ more) ≡ names_text some ++ names_text more
+pub split_text : (some more : List (List ℕ)) → names_text (some ++ more) ≡ names_text some ++ names_text more
 split_text [] more = refl
 split_text (name ∷ some) more = ap (λ l. 47 ∷ (escaped name ++ l)) (split_text some more) ∙ ap (λ l. 47 ∷ l) (sym (append_assoc (escaped name) (names_text some) (names_text more)))
 

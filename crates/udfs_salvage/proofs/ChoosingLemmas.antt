@@ -6,7 +6,7 @@ use Rattle.std.proofs.Common.{◌≡◌, ◌<◌, inl, inr, ◌++◌, ◌∷◌,
 use Rattle.std.specs.Prelude.{◌&&◌, zero}
 use Rattle.std.specs.List.{list_all}
 use Rattle.std.specs.Str.{bytes_eq}
-use Rattle.udfs_extraction.specs.Choosing.{goes_on}
+use Rattle.udfs_salvage.specs.Choosing.{goes_on}
 
 not_so : (b : Bool) → (b ≡ true → ⊥) → b ≡ false
 not_so true never = absurd (never refl)

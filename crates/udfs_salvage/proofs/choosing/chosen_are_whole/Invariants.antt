@@ -3,8 +3,8 @@ use Rattle.std.proofs.Common.{◌≡◌, Bor, ℕ, List, drop, map}
 use Rattle.std.specs.List.{list_all}
 use Rattle.udfs_walk.specs.NodeFields.{NodeFields}
 use Rattle.udfs_walk.specs.Unsettled.{is_whole}
-use Rattle.udfs_extraction.specs.Choosing.{chosen}
-use Rattle.udfs_extraction.proofs.choosing.chosen_are_whole.Given as goal
+use Rattle.udfs_salvage.specs.Choosing.{chosen}
+use Rattle.udfs_salvage.proofs.choosing.chosen_are_whole.Given as goal
 
 abbrev pub invariant-loop-node : goal.invariant-loop-node
 invariant-loop-node l =

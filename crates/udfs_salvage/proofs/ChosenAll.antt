@@ -4,7 +4,7 @@ use Rattle.std.specs.List.{list_all}
 use Rattle.udfs_walk.specs.NodeFields.{NodeFields}
 use Rattle.udfs_walk.specs.Unsettled.{is_whole}
 use Rattle.udfs_salvage.specs.Reports.{all_whole}
-use Rattle.udfs_extraction.specs.Choosing.{RootAsksForAll, chosen, is_node}
+use Rattle.udfs_salvage.specs.Choosing.{RootAsksForAll, chosen, is_node}
 
 chosen_all : (nodes : List NodeFields) → chosen (codes "/" ∷ []) nodes ≡ nodes
 chosen_all [] = refl
