@@ -32,7 +32,7 @@ fn tell_numbers<F: Files, O: Sink>(
     ensures refused { IfErr result (λ refusal. IsRefusedNumbers (texts request.now.only.items) request.now.volume.profile last (O.stream out.old) (O.stream out.new) refusal table.now) }
 {
     files.begin(Stage::Walking);
-    let listing = match listed_for(alloc, table, last, request.volume.profile, &request.only) {
+    let listing = match listed_for(alloc, table, last, request) {
         Ok(listing) => listing,
         Err(refusal) => return Err(refusal),
     };

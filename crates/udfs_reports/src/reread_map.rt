@@ -193,8 +193,7 @@ fn map_of<F: Files, O: Sink>(
     ensures why { IfErr result (λ refusal. IsRefusedDomain (PutFails ⟦<F as Known>⟧.reach path.now files.old) request.now last (O.stream out.old) (O.stream out.new) refusal table.now) }
 {
     files.begin(Stage::Walking);
-    let profile = request.volume.profile;
-    let listing = match listed_for(alloc, table, last, profile, &request.only) {
+    let listing = match listed_for(alloc, table, last, request) {
         Ok(listing) => listing,
         Err(refusal) => return Err(refusal),
     };

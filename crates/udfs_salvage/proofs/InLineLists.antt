@@ -2,6 +2,7 @@
 use Rattle.std.proofs.Common.{◌≡◌, refl, sym, ◌∙◌, ap, arith, Bool, true, false, ℕ, ◌<◌, ◌==◌, List, [], ◌∷◌, cond, length, map, slice_get, Option, Some, None, Bor}
 use Rattle.std.specs.Prelude.{◌&&◌, ◌||◌, not, zero, suc}
 use Rattle.std.specs.List.{list_any}
+use Rattle.std.proofs.lemmas.Bool.{eqb-true}
 use Rattle.udfs_lattice.specs.Volumes.{Blocks}
 use Rattle.udfs_tree.specs.KnownLaws.{taken}
 use Rattle.udfs_volume.specs.Answers.{Answer, found, holes, faulty}
@@ -65,7 +66,7 @@ rereads_for_all profile blocks last report r = go report.volume r.by_volume
 -- without words every path is in line
 pub in_line_none : (words : List (Bor (List ℕ))) (path : List (List ℕ)) → (length words == 0) ≡ true → true ≡ is_in_line (map (λ (w : Bor (List ℕ)). w.now) words) path
 in_line_none [] path e = refl
-in_line_none (w ∷ words) path e = let bad : false ≡ true = e in cc
+in_line_none (w ∷ words) path e = let none : length (w ∷ words) ≡ 0 = eqb-true (length (w ∷ words)) 0 e in absurd (omega (arith, none))
 
 -- with some, those that lie along one of them
 pub in_line_some : (words : List (Bor (List ℕ))) (path : List (List ℕ)) → (length words == 0) ≡ false

@@ -59,7 +59,7 @@ fronts (x ∷ text) (y ∷ word) rest left e =
     go f (shorter more is) = shorter more (ap (λ l. y ∷ l) is ∙ ap (λ z. z ∷ (text ++ 47 ∷ more)) (sym f))
 
 -- a word and a text lie along one another
-Along : List ℕ → List ℕ → Type 0
+abbrev Along : List ℕ → List ℕ → Type 0
 Along word text = (is_under word text || is_under text word) ≡ true
 
 -- what lies along a text with a `/` and more behind it lies along that text
@@ -93,15 +93,15 @@ shorten word text rest some along = by (one_of_two _ _ along)
     by (inl e) = under (either (bytes_eq word (codes "/")) (bytes_eq longer_text word) (goes_on word longer_text) e)
       where
         under : (bytes_eq word (codes "/") ≡ true) ⊎ (bytes_eq longer_text word ≡ true) ⊎ (goes_on word longer_text ≡ true) → Along word text
-        under (inl root) = down (subst (λ w. is_under w text ≡ true) (sym ((bytes_eq-Decides _ _).0 root)) (under_all text))
-        under (inr (inl is)) = up (behind text word rest (sym ((bytes_eq-Decides _ _).0 is)))
-        under (inr (inr on)) = by_fronts (fronts text word rest _ (goes_with word longer_text on))
+        under (inl root) = let is : word ≡ codes "/" = (bytes_eq-Decides word (codes "/")).0 root in down (subst (λ (w : List ℕ). is_under w text ≡ true) (sym is) (under_all text))
+        under (inr (inl is)) = up (behind text word rest (sym ((bytes_eq-Decides longer_text word).0 is)))
+        under (inr (inr on)) = by_fronts (fronts text word rest (drop (suc (length word)) longer_text) (goes_with word longer_text on))
     by (inr e) = over (either (bytes_eq longer_text (codes "/")) (bytes_eq word longer_text) (goes_on longer_text word) e)
       where
         over : (bytes_eq longer_text (codes "/") ≡ true) ⊎ (bytes_eq word longer_text ≡ true) ⊎ (goes_on longer_text word ≡ true) → Along word text
-        over (inl root) = not_root ((bytes_eq-Decides _ _).0 root)
-        over (inr (inl is)) = up (behind text word rest ((bytes_eq-Decides _ _).0 is))
-        over (inr (inr on)) = up (behind text word _ (goes_with longer_text word on ∙ append_assoc text (47 ∷ rest) _))
+        over (inl root) = not_root ((bytes_eq-Decides longer_text (codes "/")).0 root)
+        over (inr (inl is)) = up (behind text word rest ((bytes_eq-Decides word longer_text).0 is))
+        over (inr (inr on)) = let after : List ℕ = drop (suc (length longer_text)) word in up (behind text word (rest ++ 47 ∷ after) (goes_with longer_text word on ∙ append_assoc text (47 ∷ rest) (47 ∷ after)))
 
 -- ---- paths
 -- the root lies along each word
@@ -120,11 +120,11 @@ above_along word (name ∷ path) (next ∷ more) e = shorten word (names_text (n
 
 any_above : (words : List (List ℕ)) (path more : List (List ℕ)) → list_any (λ word. lies_along word (path ++ more)) words ≡ true → list_any (λ word. lies_along word path) words ≡ true
 any_above [] path more e = e
-any_above (word ∷ words) path more e = by (one_of_two _ _ e)
+any_above (word ∷ words) path more e = by (λ there. any_above words path more there) (one_of_two (lies_along word (path ++ more)) (list_any (λ w. lies_along w (path ++ more)) words) e)
   where
-    by : (lies_along word (path ++ more) ≡ true) ⊎ (list_any (λ w. lies_along w (path ++ more)) words ≡ true) → list_any (λ w. lies_along w path) (word ∷ words) ≡ true
-    by (inl here) = first_one (lies_along word path) (list_any (λ w. lies_along w path) words) (above_along word path more here)
-    by (inr there) = second_one (lies_along word path) (list_any (λ w. lies_along w path) words) (any_above words path more there)
+    by : (list_any (λ w. lies_along w (path ++ more)) words ≡ true → list_any (λ w. lies_along w path) words ≡ true) → (lies_along word (path ++ more) ≡ true) ⊎ (list_any (λ w. lies_along w (path ++ more)) words ≡ true) → list_any (λ w. lies_along w path) (word ∷ words) ≡ true
+    by later (inl here) = first_one (lies_along word path) (list_any (λ w. lies_along w path) words) (above_along word path more here)
+    by later (inr there) = second_one (lies_along word path) (list_any (λ w. lies_along w path) words) (later there)
 
 -- with each path in line all above it are
 pub in_line_above : (words : List (List ℕ)) → TakesAbove (is_in_line words)

@@ -1,6 +1,6 @@
 //! What has to be read again for the nodes at some paths, below them and above them.
 
-ghost use Rattle.std.specs.Prelude.{◌≡◌, IfOk, IfErr, map};
+ghost use Rattle.std.specs.Prelude.{◌≡◌, ◌||◌, IfOk, IfErr, map};
 ghost use Rattle.std.specs.List.{list_any};
 ghost use Rattle.udfs_lattice.specs.Tables.{state_of};
 ghost use Rattle.udfs_salvage.specs.Choosing.{is_under};
@@ -66,11 +66,11 @@ pub fn keep_in_line<'a>(
     listing: Listing<'a>,
     only: &[&str],
 ) -> Result<Listing<'a>, SalvageError>
-    ensures blocks { IfOk result (λ kept. (listing_now kept).reread ≡ reread_for (map (λ word. word.now) only.now) (listing_now listing)) }
-    ensures rising { IsRising (listing_now listing).reread → IfOk result (λ kept. IsRising (listing_now kept).reread) }
-    ensures nodes { IfOk result (λ kept. (listing_now kept).nodes ≡ nodes_for (map (λ word. word.now) only.now) (listing_now listing)) }
-    ensures volume { IfOk result (λ kept. (listing_now kept).volume ≡ (listing_now listing).volume) }
-    ensures of { IfOk result (λ kept. (kept.table.now ≡ listing.table.now) × (kept.last ≡ listing.last) × (kept.profile ≡ listing.profile)) }
+    ensures blocks { IfOk result (λ kept. (listing_now kept).reread ≡ reread_for (map (λ word. word.now) only.now) (listing_now listing.entry)) }
+    ensures rising { IsRising (listing_now listing.entry).reread → IfOk result (λ kept. IsRising (listing_now kept).reread) }
+    ensures nodes { IfOk result (λ kept. (listing_now kept).nodes ≡ nodes_for (map (λ word. word.now) only.now) (listing_now listing.entry)) }
+    ensures volume { IfOk result (λ kept. (listing_now kept).volume ≡ (listing_now listing.entry).volume) }
+    ensures of { IfOk result (λ kept. (kept.table.now ≡ listing.entry.table.now) × (kept.last ≡ listing.entry.last) × (kept.profile ≡ listing.entry.profile)) }
     ensures refused { IfErr result (λ error. error ≡ SalvageError.OutOfMemory) }
 {
     let Listing {
