@@ -5,7 +5,7 @@
 --     BlamesSource                      one of these sources could not be read, and what is said of it
 --     BlamesInput                       the same of the sources of some paths
 --     InputsRefused                     the inputs of some paths were not joined: memory ran out, or one of them is shut, or could not be read, or is of another disc
-use Rattle.std.specs.Prelude.{◌≡◌, ◌⊎◌, ⊤, ℕ, ◌+◌, ◌-◌, List, [], ◌∷◌, Option, Some, None, IfSome, length, slice_get, alloc_error, nat_eq, if◌then◌else◌}
+use Rattle.std.specs.Prelude.{◌≡◌, ◌⊎◌, ⊤, ℕ, ◌+◌, ◌-◌, List, Option, Some, None, IfSome, length, slice_get, alloc_error}
 use Rattle.udfs_reading.specs.Several.{InputFails}
 use Rattle.udfs_reading.specs.declared.inputs.InputError.{InputError}
 use Rattle.udfs_rescue.specs.Opening.{PairFails}
@@ -14,7 +14,7 @@ use Rattle.udfs_pairs.specs.declared.any_stored.AnyStored.{AnyStored}
 use Rattle.udfs_pairs.specs.declared.any_stored.AnyStored.TheVariants as any
 use Rattle.udfs_common.specs.Keeping.{Opens}
 use Rattle.udfs_common.specs.OtherDiscs.{IsOtherDisc}
-use Rattle.udfs_common.specs.Refusing.{refusal_for, refusal_of}
+use Rattle.udfs_common.specs.Refusing.{refusal_for}
 use Rattle.udfs_common.specs.declared.refusal.Refusal.{Refusal}
 use Rattle.udfs_common.specs.declared.refusal.Refusal.TheVariants.{Memory, Open}
 use Rattle.udfs_common.specs.declared.sources.AnySource.{AnySource}

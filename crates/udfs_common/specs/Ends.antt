@@ -3,7 +3,7 @@
 --     EndsWithMap found map last         the mapfile of this path ends with this block
 --     IsEnd found source inputs last     the last block, by where the disc ends
 --     HasNoLast reach at source inputs refusal     no last block is known, and why
-use Rattle.std.specs.Prelude.{◌≡◌, ◌≢◌, ◌⊎◌, ◌%◌, ℕ, List, [], Option, IfSome, alloc_error, ⊥}
+use Rattle.std.specs.Prelude.{◌≡◌, ◌≢◌, ◌⊎◌, ◌%◌, ℕ, List, [], Option, IfSome, alloc_error}
 use Rattle.udfs_words.specs.Asking.{EndsMap, IsLastOfSize, MapsEndAt}
 use Rattle.udfs_words.specs.declared.input_path.InputPath.{InputPath}
 use Rattle.udfs_words.specs.declared.request.LastSource.{LastSource}

@@ -6,14 +6,12 @@
 --     RefusedOut     what an error leaves: nothing has changed, or what `FailedOut` says
 use Rattle.std.specs.Prelude.{◌≡◌, ◌≢◌, ◌⊎◌, ℕ, List, Option, Some, length, slice_get}
 use Rattle.std.specs.Io.KnownBytes.{Appends}
-use Rattle.udfs_files.specs.Disk.{Disk, IsOwn, Same, Replaced}
+use Rattle.udfs_files.specs.Disk.{Disk, IsOwn}
 use Rattle.udfs_lattice.specs.Tables.{Table}
 use Rattle.udfs_lattice.specs.Records.{join_all}
 use Rattle.udfs_reading.specs.Several.{TablesAre}
 use Rattle.udfs_common.specs.Sources.{IsPathOpened}
-use Rattle.udfs_common.specs.Spelling.{table_file}
 use Rattle.udfs_words.specs.declared.input_path.InputPath.{InputPath}
-use Rattle.udfs_words.specs.declared.forms.Version.{Version}
 use Rattle.udfs_reading.specs.Device.{Stream}
 
 -- the source at each place has what the path at that place leads to, where that is known

@@ -139,8 +139,8 @@ pub fn last_block<F: Files>(
     force: bool,
     files: &F,
 ) -> Result<u32, Refusal>
-    ensures ends { IfOk result (IsEnd (found_at ⟦<F as Known>⟧.reach files.now) source inputs.now) }
-    ensures blamed { IfErr result (HasNoLast ⟦<F as Known>⟧.reach files.now source inputs.now) }
+    ensures ends { IfOk result (IsEnd (found_at ⟦<F as Known>⟧.reach files.now) source.entry inputs.now) }
+    ensures blamed { IfErr result (HasNoLast ⟦<F as Known>⟧.reach files.now source.entry inputs.now) }
     // By force none is named as one of another disc.
     ensures forced { IfErr result (λ refusal. force ≡ true → NamesNoOther refusal) }
 {
