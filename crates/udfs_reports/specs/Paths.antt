@@ -5,10 +5,9 @@
 --     NamesNothing         a path is no node's, and is named
 --     IsNowhere            the same of the table's report
 --     IsUntoldFor          the table has no report, or a path is no node's, or memory ran out
-use Rattle.std.specs.Prelude.{◌≡◌, ◌⊎◌, ◌+◌, ℕ, Bool, List, alloc_error}
+use Rattle.std.specs.Prelude.{◌≡◌, ◌⊎◌, ℕ, Bool, List, alloc_error}
 use Rattle.udfs_lattice.specs.Tables.{Table, state_of}
 use Rattle.udfs_volume.specs.declared.profiles.Profile.{Profile}
-use Rattle.udfs_walk.specs.NodeFields.{NodeFields}
 use Rattle.udfs_salvage.specs.Headline.{HeadlineBy}
 use Rattle.udfs_salvage.specs.InLine.{AllMayBe, FindsFirst, RereadsSufficeFor, nodes_for, reread_for}
 use Rattle.udfs_salvage.specs.Reports.{Report, IsReportBy, all_whole}
@@ -35,20 +34,20 @@ pub record IsListingFor (only : List (List ℕ)) (profile : Profile) (last : ℕ
   pub blocks : kept.reread ≡ reread_for only report
 
 -- the first path that is no node's, above which all directories are whole, is named by its number, counted from 1
-pub record NamesNothing (only : List (List ℕ)) (nodes : List NodeFields) (refusal : Refusal) : Type 0 where
-  pub place : ℕ
-  pub first : FindsFirst only nodes place
-  pub told : refusal ≡ NoNode (place + 1)
+pub record NamesNothing (only : List (List ℕ)) (report : Report) (refusal : Refusal) : Type 0 where
+  pub number : ℕ
+  pub first : FindsFirst only report.nodes number
+  pub told : refusal ≡ NoNode number
 
 -- that, or memory ran out
-abbrev pub MayNotBeNode : List (List ℕ) → List NodeFields → Refusal → Type 0
-MayNotBeNode only nodes refusal = (refusal ≡ Memory alloc_error) ⊎ NamesNothing only nodes refusal
+abbrev pub MayNotBeNode : List (List ℕ) → Report → Refusal → Type 0
+MayNotBeNode only report refusal = (refusal ≡ Memory alloc_error) ⊎ NamesNothing only report refusal
 
 -- the table has a report, and a path names nothing in it
 pub record IsNowhere (only : List (List ℕ)) (profile : Profile) (last : ℕ) (refusal : Refusal) (table : Table) : Type 0 where
   pub report : Report
   pub is_report : IsReportBy profile (state_of table) last report
-  pub names : NamesNothing only report.nodes refusal
+  pub names : NamesNothing only report refusal
 
 -- the table has no report, or memory ran out; or a path is no node's
 abbrev pub IsUntoldFor : List (List ℕ) → Profile → ℕ → Refusal → Table → Type 0

@@ -22,11 +22,11 @@ use udfs_words::request::RereadRequest;
 /// first that is not, counted from 1; or with `Memory` where memory runs out.
 fn judge_paths(alloc: Global, only: &[&str], listing: &Listing<'_>) -> Result<(), Refusal>
     ensures may_be { OnOk result (AllMayBe (texts only.now) (listing_now listing.now).nodes) }
-    ensures refused { IfErr result (MayNotBeNode (texts only.now) (listing_now listing.now).nodes) }
+    ensures refused { IfErr result (MayNotBeNode (texts only.now) (listing_now listing.now)) }
 {
     match first_nowhere(alloc, only, listing) {
         Ok(None) => Ok(()),
-        Ok(Some(index)) => Err(Refusal::NoNode(index + 1)),
+        Ok(Some(number)) => Err(Refusal::NoNode(number)),
         Err(AllocError) => Err(Refusal::Memory(AllocError)),
     }
 }

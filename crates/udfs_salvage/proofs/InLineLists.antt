@@ -99,7 +99,9 @@ same_nothing blocks volume (n ∷ nodes) word =
 -- so the first such path of a listing is that of its report
 pub first_listed : (blocks : Blocks) (volume : Answer Found) (words : List (List ℕ)) (nodes : List NodeFields) (first : Option ℕ) → IsFirstOf words nodes first → IsFirstOf words (map (full_in blocks volume) nodes) first
 first_listed blocks volume words nodes None all = λ k word at. same_nothing blocks volume nodes word ∙ all k word at
-first_listed blocks volume words nodes (Some index) found_first = record {
+first_listed blocks volume words nodes (Some number) found_first = record {
+  index = found_first.index;
+  counted = found_first.counted;
   word = found_first.word;
   stands = found_first.stands;
   nothing = same_nothing blocks volume nodes found_first.word ∙ found_first.nothing;

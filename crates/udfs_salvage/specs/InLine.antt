@@ -7,7 +7,7 @@
 --     FindsFirst, AllMayBe         the first word that names nothing; no word does
 --     AsksInLine                   a path asks for those that its first names are, or that begin with all of its names
 --     EachRereadForSuffices        the blocks to read again for these nodes are needed, and are enough of them
-use Rattle.std.specs.Prelude.{◌≡◌, ◌⊎◌, ◌↔◌, ℕ, ◌<◌, Bool, true, false, not, ◌||◌, ◌&&◌, List, [], ◌∷◌, Option, Some, None, Contains, slice_get, take}
+use Rattle.std.specs.Prelude.{◌≡◌, ◌⊎◌, ◌↔◌, ℕ, ◌+◌, ◌<◌, Bool, true, false, not, ◌||◌, ◌&&◌, List, [], ◌∷◌, Option, Some, None, Contains, slice_get, take}
 use Rattle.std.specs.List.{list_any}
 use Rattle.udfs_file.specs.declared.faults.Kind.{Kind}
 use Rattle.udfs_file.specs.declared.faults.Kind.TheVariants.{Directory, Unread}
@@ -82,8 +82,10 @@ names_nothing (n ∷ nodes) word = not (is_node (n ∷ nodes) word) && not (list
 abbrev pub AllMayBe : List (List ℕ) → List NodeFields → Type 0
 AllMayBe words nodes = (k : ℕ) (word : List ℕ) → slice_get words k ≡ Some word → names_nothing nodes word ≡ false
 
--- the word at this index names nothing, and none before it does
-pub record FindsFirst (words : List (List ℕ)) (nodes : List NodeFields) (index : ℕ) : Type 0 where
+-- the word with this number, counted from 1, names nothing, and none before it does
+pub record FindsFirst (words : List (List ℕ)) (nodes : List NodeFields) (number : ℕ) : Type 0 where
+  pub index : ℕ
+  pub counted : number ≡ index + 1
   pub word : List ℕ
   pub stands : slice_get words index ≡ Some word
   pub nothing : names_nothing nodes word ≡ true
@@ -92,7 +94,7 @@ pub record FindsFirst (words : List (List ℕ)) (nodes : List NodeFields) (index
 -- the first word that names nothing, if one does
 abbrev pub IsFirstOf : List (List ℕ) → List NodeFields → Option ℕ → Type 0
 IsFirstOf words nodes None = AllMayBe words nodes
-IsFirstOf words nodes (Some index) = FindsFirst words nodes index
+IsFirstOf words nodes (Some number) = FindsFirst words nodes number
 
 -- ---- the blocks are needed, and enough
 

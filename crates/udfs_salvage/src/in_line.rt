@@ -127,7 +127,7 @@ fn names_nothing(alloc: Global, nodes: &[Node], word: &str) -> Result<bool, Allo
     Ok(!hides)
 }
 
-/// The index of the first of these arguments that names nothing among some nodes, if one does.
+/// The number, counted from 1, of the first of these arguments that names nothing among some nodes, if one does.
 fn first_of_nothing(
     alloc: Global,
     only: &[&str],
@@ -138,15 +138,15 @@ fn first_of_nothing(
     for (index, word) in only.iter().enumerate() {
         match names_nothing(alloc, nodes, word) {
             Ok(false) => {}
-            Ok(true) => return Ok(Some(index)),
+            Ok(true) => return Ok(Some(index + 1)),
             Err(AllocError) => return Err(AllocError),
         }
     }
     Ok(None)
 }
 
-/// The index of the first of these arguments that is the path of no node, where all directories above it are whole; `None` where there is no such one. Where no
-/// nodes are listed, since the volume does not open, there is none.
+/// The number, counted from 1, of the first of these arguments that is the path of no node, where all directories above it are whole; `None` where there is none. Where no
+/// nodes are listed, since the volume does not open, there is none either.
 ///
 /// # Errors
 ///

@@ -1,4 +1,4 @@
-use Rattle.std.proofs.Common.{rules, ◌<◌, length, ◌≡◌, ◌+◌, ◌∙◌, sym, ap, subst, arith, Bor, ℕ, List, Some, map, slice_get, ⊎_elim}
+use Rattle.std.proofs.Common.{rules, ◌<◌, length, ◌≡◌, ◌+◌, ◌∙◌, sym, ap, subst, arith, Bor, ℕ, List, Some, map, slice_get, ⊎_elim, refl}
 use Rattle.std.proofs.lemmas.Bool.{cases_lt}
 use Rattle.std.proofs.lemmas.List.{length-map}
 use Rattle.udfs_salvage.specs.InLine.{names_nothing}
@@ -19,7 +19,7 @@ loop-index-preserved c = λ k word below at. ⊎_elim (λ less. c.loop-index.inv
 pub returns-in-Ok-true : goal.returns-in-Ok-true
 returns-in-Ok-true c =
     let there = word_there c.args.only.now c.loop-index.index _ (search rules) in
-    record { word = there.0; stands = there.1; nothing = ap (λ (w : List ℕ). names_nothing c.args.nodes.now w) (sym there.2) ∙ sym c.in-Ok-true.ensures ∙ c.in-Ok-true.field-0-test; first = c.loop-index.invariant }
+    record { index = c.loop-index.index; counted = refl; word = there.0; stands = there.1; nothing = ap (λ (w : List ℕ). names_nothing c.args.nodes.now w) (sym there.2) ∙ sym c.in-Ok-true.ensures ∙ c.in-Ok-true.field-0-test; first = c.loop-index.invariant }
 
 pub returns : goal.returns
 returns c = λ k word at. c.loop-index.invariant k word (let less = got_below (map (λ (w : Bor (List ℕ)). w.now) c.args.only.now) k word at in let same = length-map c.args.only.now (λ (w : Bor (List ℕ)). w.now) in let below : k < length c.args.only.now = omega (arith, less, same) in search rules) at
