@@ -11,10 +11,10 @@ use Rattle.udfs_walk.specs.NodeFields.{NodeFields}
 use Rattle.udfs_walk.specs.Rereads.{reread}
 use Rattle.udfs_salvage.specs.Found.{Found}
 use Rattle.udfs_salvage.specs.Choosing.{is_node, is_under}
-use Rattle.udfs_salvage.specs.InLine.{AllMayBe, FindsFirst, IsFirstOf, RereadsForAll, is_in_line, lies_along, may_hide, may_list, names_nothing, reread_by}
+use Rattle.udfs_salvage.specs.InLine.{IsFirstOf, RereadsForAll, is_in_line, lies_along, may_hide, may_list, names_nothing, reread_by}
 use Rattle.udfs_salvage.specs.Listings.{full_in, reread_in, unnamed_in}
 use Rattle.udfs_salvage.specs.NodeTexts.{path_name}
-use Rattle.udfs_salvage.specs.Reports.{Report, ReportsBy}
+use Rattle.udfs_salvage.specs.Reports.{ReportsBy}
 use Rattle.udfs_salvage.proofs.ListedNodes.{same_node, same_whole_in}
 use Rattle.udfs_salvage.proofs.Rereads.{reread_rises}
 

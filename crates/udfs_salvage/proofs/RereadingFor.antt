@@ -1,5 +1,5 @@
 -- What is listed to be read again for the nodes in line with some words, of a report of a lawful volume.
-use Rattle.std.proofs.Common.{◌≡◌, refl, sym, ◌∙◌, ap, subst, inl, inr, ◌⊎◌, ℕ, true, List, []}
+use Rattle.std.proofs.Common.{◌≡◌, sym, ◌∙◌, ap, subst, inl, inr, ◌⊎◌, ℕ, true, List, []}
 use Rattle.std.specs.Prelude.{Contains}
 use Rattle.udfs_volume.specs.declared.profiles.Profile.{Profile}
 use Rattle.udfs_lattice.specs.States.{is_known, join_of}
@@ -16,7 +16,7 @@ use Rattle.udfs_tree.specs.Needs.{HasKnown}
 use Rattle.udfs_tree.specs.Trees.{TreeFile, InTree}
 use Rattle.udfs_tree.proofs.PublicLaws.{chosen_is_wanted}
 use Rattle.udfs_salvage.specs.Found.{Found}
-use Rattle.udfs_salvage.specs.InLine.{EachRereadForSuffices, IsWantedFor, RereadsSufficeFor, is_in_line, reread_by, reread_for}
+use Rattle.udfs_salvage.specs.InLine.{EachRereadForSuffices, IsWantedFor, is_in_line, reread_by, reread_for}
 use Rattle.udfs_salvage.specs.KnownEnough.{HoldsWantedIn, IsReportedWhole}
 use Rattle.udfs_salvage.specs.Laws.{IsVolumeGroup}
 use Rattle.udfs_salvage.specs.Reports.{Report, IsReportBy}
@@ -24,7 +24,7 @@ use Rattle.udfs_salvage.specs.VolumeTrees.{IsInVolumeBy, IsLawfulBy, IsMetBy}
 use Rattle.udfs_salvage.proofs.Founds.{known_not_unread}
 use Rattle.udfs_salvage.proofs.InLineNames.{in_line_above, root_in_line}
 use Rattle.udfs_salvage.proofs.Openings.{lawful_tree, read_as}
-use Rattle.udfs_salvage.proofs.Rereading.{IsOpenOrShut, IsWholeAndMet, all_of, blocks_of, group_has, is_open, is_shut, listed_whole, node_up, open_or_shut, part_is, part_of, root_in_tree, shut_has_none, tree_down, tree_up, unread_join, volume_up, whole_and_met}
+use Rattle.udfs_salvage.proofs.Rereading.{IsOpenOrShut, all_of, blocks_of, group_has, is_open, is_shut, listed_whole, node_up, open_or_shut, part_is, part_of, root_in_tree, shut_has_none, tree_down, tree_up, unread_join, volume_up, whole_and_met}
 
 -- what is asked of the list, but for the pass
 record IsRightFor (W : List (List ℕ)) (P : Profile) (T : Blocks) (V : Volume) (N : ℕ) (report : Report) (listed : List ℕ) : Type 0 where

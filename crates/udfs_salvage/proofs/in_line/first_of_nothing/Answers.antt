@@ -1,4 +1,4 @@
-use Rattle.std.proofs.Common.{rules, ◌<◌, length, ◌≡◌, ◌+◌, ◌∙◌, sym, ap, subst, arith, Bor, ℕ, List, Some, map, slice_get, ⊎_elim, refl}
+use Rattle.std.proofs.Common.{rules, ◌<◌, length, ◌≡◌, ◌∙◌, sym, ap, subst, arith, Bor, ℕ, List, Some, map, slice_get, ⊎_elim, refl}
 use Rattle.std.proofs.lemmas.Bool.{cases_lt}
 use Rattle.std.proofs.lemmas.List.{length-map}
 use Rattle.udfs_salvage.specs.InLine.{names_nothing}
