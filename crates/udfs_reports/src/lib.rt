@@ -5,6 +5,7 @@
 mod comparing;
 pub mod list;
 pub mod page;
+mod paths;
 pub mod report;
 pub mod reread;
 pub mod reread_map;
