@@ -10,6 +10,7 @@ use udfs_common::refusal::Refusal;
 use udfs_extraction::extract::extract;
 use udfs_overview::ListForm;
 use udfs_reading::Sink;
+use udfs_reports::giving::given_by;
 use udfs_reports::list::NodeLines;
 use udfs_reports::page::page;
 use udfs_reports::report::ReportAs;
@@ -71,7 +72,12 @@ pub fn perform<F: Files, O: Sink>(
             Some(path) => reread_map(alloc, asked, path, files, out),
         },
         Request::List(list) => tell(alloc, &list.volume, &node_lines(list), files, out),
-        Request::Summary(summary) => tell(alloc, &summary.volume, &Summary, files, out),
+        Request::Summary(summary) => {
+            let telling = Summary {
+                given: given_by(&summary.volume, summary.size),
+            };
+            tell(alloc, &summary.volume, &telling, files, out)
+        }
         Request::Page(asked) => page(alloc, asked, files),
         Request::Extract(asked) => extract(alloc, asked, files, out),
     }

@@ -1,3 +1,4 @@
+pub mod Giving
 pub mod Comparing
 pub mod Telling
 pub mod Paths

@@ -3,6 +3,7 @@
 #![tactic(auto)]
 
 mod comparing;
+pub mod giving;
 pub mod list;
 pub mod page;
 mod paths;

@@ -240,13 +240,13 @@ write 32 240 \0\x02
 write 48 240 \0\x02
 but
 $ report -v --last 600 disc.tab
-remarked volume: UDF 2.00, not 1.50 or 2.01: try --profile wide\n
+remarked volume: UDF 2.00 (a camcorder or recorder disc): add --profile wide\n
 
 write 32 240 \x02\x01
 write 48 240 \x02\x01
 but
 $ reread -v --last 600 disc.tab
-remarked volume: UDF 1.02, not 1.50 or 2.01: try --profile wide\n
+remarked volume: UDF 1.02: add --profile wide\n
 
 write 32 240 P\x02
 write 48 240 P\x02

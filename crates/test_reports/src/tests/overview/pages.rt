@@ -1,20 +1,27 @@
 //! The page of sample volumes. What is expected is worked out by hand.
 
 use super::list::Narrow;
+use super::whole_summary::GIVEN;
 use crate::tests::{assert_case, assert_same, assert_same_in};
 use std::alloc::Global;
 use std::test::Fail;
 use udfs_lattice::BlockTable;
-use udfs_page::write_page;
+use udfs_page::{Called, write_page};
 use udfs_reading::Writer;
 use udfs_salvage::{RunError, survey_volume, survey_volume_by};
 use udfs_samples::{Disc, LAST, NamedEntry};
 use udfs_volume::Profile;
 
+/// The page has no title.
+const CALLED: Called<'static> = Called {
+    title: None,
+    out: "p.html",
+};
+
 fn page_by(alloc: Global, table: &BlockTable, profile: Profile) -> Result<String, Fail> {
     let survey = survey_volume_by(alloc, table, LAST, profile)?;
     let mut text = Writer::new(Vec::new(alloc));
-    write_page(alloc, &survey, &mut text)?;
+    write_page(alloc, &GIVEN, &CALLED, &survey, &mut text)?;
     Ok(String::from_utf8(text.into_inner())?)
 }
 
@@ -191,7 +198,7 @@ fn a_sink_that_fails_is_told(rt: HostRuntime) -> Result<(), Fail> {
     for good in [0usize, 1, 50_000, whole.len().saturating_sub(1)] {
         let bytes = Vec::new(alloc);
         let mut sink = Writer::new(Narrow { bytes, good });
-        let outcome = write_page(alloc, &survey, &mut sink);
+        let outcome = write_page(alloc, &GIVEN, &CALLED, &survey, &mut sink);
         assert_case(&rt, outcome == Err(RunError::Write), good);
         let begun = whole.as_bytes().get(..good).unwrap_or(&[]);
         assert_same_in(&rt, sink.into_inner().bytes.as_slice(), begun, good);
