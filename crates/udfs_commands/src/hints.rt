@@ -308,7 +308,7 @@ fn inputs_of<'r, 'a>(request: &'r Request<'a>) -> &'r Inputs<'a> {
 }
 
 /// Where the disc ends, for a command that asks for it.
-fn last_of(request: &Request<'_>) -> Option<LastSource> {
+fn last_of<'a>(request: &Request<'a>) -> Option<LastSource<'a>> {
     match request {
         Request::Merge(_) | Request::Forget(_) => None,
         Request::Image(image) => Some(image.last),
@@ -391,10 +391,10 @@ fn of_lost_folder(
 /// What is said of a path of `--only` that is that of no node.
 fn of_no_node(
     alloc: Global,
-    request: &ExtractRequest<'_>,
+    only: &[&str],
     number: usize,
 ) -> Result<Option<String>, AllocError> {
-    match request.only.get(number.saturating_sub(1)) {
+    match only.get(number.saturating_sub(1)) {
         Some(path) if !path.starts_with('/') => Ok(Some(format!(in alloc;
             "{} does not begin with /: the paths are those that list --paths prints",
             Shown(path)
@@ -437,7 +437,7 @@ fn of_extract(
         Refusal::Folder => of_folder(alloc, request, reason),
         Refusal::LostSpared => of_lost_place(alloc, request),
         Refusal::LostFolder => of_lost_folder(alloc, request, reason),
-        Refusal::NoNode(number) => of_no_node(alloc, request, *number),
+        Refusal::NoNode(number) => of_no_node(alloc, request.only.as_slice(), *number),
         _ => Ok(None),
     }
 }
@@ -452,6 +452,11 @@ fn of_past_end(
         Some(LastSource::Block(last)) => {
             Ok(Some(format!(in alloc; "block {block} is known, so the last block is not {last}")?))
         }
+        Some(LastSource::OfMap(map)) => {
+            Ok(Some(format!(in alloc;
+                "block {block} is known, so the disc does not end where {map} does"
+            )?))
+        }
         Some(LastSource::OfMaps) => {
             Ok(Some(format!(in alloc;
                 "block {block} is known, so the disc does not end where the mapfiles do"
@@ -459,6 +464,22 @@ fn of_past_end(
         }
         None => Ok(None),
     }
+}
+
+/// What is said of a mapfile that gives no size.
+fn of_no_size(
+    alloc: Global,
+    request: &Request<'_>,
+    reason: Option<Error>,
+) -> Result<Option<String>, AllocError> {
+    let Some(LastSource::OfMap(map)) = last_of(request) else {
+        return Ok(None);
+    };
+    let line = match reason {
+        Some(error) => format!(in alloc; "{map}: {error}")?,
+        None => format!(in alloc; "{map} is no mapfile of GNU ddrescue, or has no run")?,
+    };
+    Ok(Some(line))
 }
 
 /// What is said of an error that names no input, if anything.
@@ -473,6 +494,7 @@ fn of_other<F: Files>(
         (Refusal::Output, _) => return of_output(alloc, request, reason),
         (Refusal::Spared, _) => return why_spared(alloc, request, files),
         (Refusal::PastEnd(block), _) => return of_past_end(alloc, request, *block),
+        (Refusal::NoSize, _) => return of_no_size(alloc, request, reason),
         (Refusal::ListOpen | Refusal::ListRead, Request::Forget(forget)) => {
             of_list(alloc, forget.lists.as_slice(), reason, files)?
         }
@@ -490,6 +512,9 @@ fn of_other<F: Files>(
             format!(in alloc;
                 "each known block is held in memory, 2048 bytes of it: free some, or take a larger machine"
             )?
+        }
+        (Refusal::NoNode(number), Request::Reread(reread)) => {
+            return of_no_node(alloc, reread.only.as_slice(), *number);
         }
         (_, Request::Extract(extract)) => return of_extract(alloc, refusal, extract, reason),
         _ => return Ok(None),

@@ -19,9 +19,11 @@ pub struct Inputs<'a> {
 
 /// Where a disc ends.
 #[derive(Clone, Copy, Debug, PartialEq, Eq)]
-pub enum LastSource {
+pub enum LastSource<'a> {
     /// With the block of this number.
     Block(u32),
+    /// Where the mapfile of this path ends.
+    OfMap(&'a str),
     /// Where the mapfiles of all inputs end.
     OfMaps,
 }
@@ -32,7 +34,7 @@ pub struct VolumeSource<'a> {
     /// What was read of its disc.
     pub inputs: Inputs<'a>,
     /// Where the disc ends.
-    pub last: LastSource,
+    pub last: LastSource<'a>,
     /// The rules by which the volume is read.
     pub profile: Profile,
     /// Images that are of another disc by their blocks are to be joined all the same.
@@ -47,7 +49,7 @@ pub struct MergeRequest<'a> {
     pub version: Version,
     /// The path of the table file.
     pub out: &'a str,
-    /// A reading that is no input may be written over, and images of another disc are to be joined all the same.
+    /// A file that is no table file and no input may be written over, and images of another disc are to be joined all the same.
     pub force: bool,
 }
 
@@ -61,7 +63,7 @@ pub struct ForgetRequest<'a> {
     pub lists: Vec<&'a str>,
     /// The path of the table file.
     pub out: &'a str,
-    /// A reading that is no input may be written over, and images of another disc are to be joined all the same.
+    /// A file that is no table file and no input may be written over, and images of another disc are to be joined all the same.
     pub force: bool,
 }
 
@@ -70,7 +72,7 @@ pub struct ForgetRequest<'a> {
 pub struct ImageRequest<'a> {
     pub inputs: Inputs<'a>,
     /// Where the disc ends.
-    pub last: LastSource,
+    pub last: LastSource<'a>,
     /// The path of the image.
     pub image: &'a str,
     /// The path of the mapfile.
@@ -90,6 +92,8 @@ pub struct ReportRequest<'a> {
 #[derive(Drop)]
 pub struct RereadRequest<'a> {
     pub volume: VolumeSource<'a>,
+    /// The paths, in the volume, of what they are wanted for, with all that is in it; where there are none, of all.
+    pub only: Vec<&'a str>,
     /// The path of the mapfile in which they are to be wanted; where there is none, their numbers are to be printed.
     pub mapfile: Option<&'a str>,
     /// Whole groups of this size are to be wanted in it.

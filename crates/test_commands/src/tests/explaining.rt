@@ -124,10 +124,10 @@ file p.img text x
 file p.map text # Mapfile. Created by GNU ddrescue\n0 + 1\n
 
 $ merge -v --out a.rd b.rd
-refused udfsalvage: cannot write output\n  a.rd is a reading, and none of the inputs: take another name, or give --force\n
+refused udfsalvage: cannot write output\n  a.rd is no table file, and none of the inputs: take another name, or give --force\n
 
 $ forget -v --conflicts --out a.rd b.rd
-refused udfsalvage: cannot write output\n  a.rd is a reading, and none of the inputs: take another name, or give --force\n
+refused udfsalvage: cannot write output\n  a.rd is no table file, and none of the inputs: take another name, or give --force\n
 
 $ merge -v --force --out p.img b.rd --ddrescue p.img p.map
 refused udfsalvage: cannot write output\n  p.img is an input, and never written over: take another name\n

@@ -5,4 +5,5 @@ mod memory;
 mod paths;
 mod rows;
 mod shared;
+mod stores;
 mod told;

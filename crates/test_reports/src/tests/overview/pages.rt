@@ -8,8 +8,9 @@ use std::test::Fail;
 use udfs_lattice::BlockTable;
 use udfs_page::{Called, write_page};
 use udfs_reading::Writer;
-use udfs_salvage::{RunError, survey_volume};
+use udfs_salvage::{RunError, survey_volume, survey_volume_by};
 use udfs_samples::{Disc, LAST, NamedEntry};
+use udfs_volume::Profile;
 
 /// The page has no title.
 const CALLED: Called<'static> = Called {
@@ -17,11 +18,15 @@ const CALLED: Called<'static> = Called {
     out: "p.html",
 };
 
-fn page_of(alloc: Global, table: &BlockTable) -> Result<String, Fail> {
-    let survey = survey_volume(alloc, table, LAST)?;
+fn page_by(alloc: Global, table: &BlockTable, profile: Profile) -> Result<String, Fail> {
+    let survey = survey_volume_by(alloc, table, LAST, profile)?;
     let mut text = Writer::new(Vec::new(alloc));
     write_page(alloc, &GIVEN, &CALLED, &survey, &mut text)?;
     Ok(String::from_utf8(text.into_inner())?)
+}
+
+fn page_of(alloc: Global, table: &BlockTable) -> Result<String, Fail> {
+    page_by(alloc, table, Profile::Strict)
 }
 
 /// The part of a page after the heading of all files; empty if the page has no such heading.
@@ -61,6 +66,29 @@ fn each_file_stands_inside_its_folders(rt: HostRuntime) -> Result<(), Fail> {
 </html>
 ",
     );
+    Ok(())
+}
+
+/// A file of 5,010 bytes with an extent of 5,000, which ends in its third block: the wide rules read it, and mark it. By the strict rules it is a fault.
+#[test]
+fn tails(rt: HostRuntime) -> Result<(), Fail> {
+    let alloc = rt.alloc();
+    let mut disc = Disc::type1(alloc)?;
+    disc.write(&[(275, 56, &[0x92, 0x13])])?;
+    let table = disc.known_but(alloc, &[])?;
+    assert_same(
+        &rt,
+        tree_of(&page_by(alloc, &table, Profile::Wide)?),
+        "<details open class=w><summary><bdi>/</bdi><small>folder</small></summary>
+<div class=w><bdi>A</bdi><small>5.0 kB, <abbr title='The last bytes are read behind its last extent, from the rest of the same block. If the disc was removed between two writes, they may be old.'>tail</abbr></small></div>
+<div class=w><bdi>B</bdi><small>2 B</small></div>
+</details>
+</body>
+</html>
+",
+    );
+    let strict = "<div class=f><bdi>A</bdi><small>5.0 kB, fault 9</small></div>\n";
+    assert_case(&rt, page_of(alloc, &table)?.contains(strict), strict);
     Ok(())
 }
 
