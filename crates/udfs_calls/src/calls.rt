@@ -176,10 +176,11 @@ pub trait Calls {
     ///
     /// # Errors
     ///
-    /// As the system says, where it names none: `OutOfMemory` where memory ran out, and nothing is known.
+    /// As the system says: `InvalidInput` where it names what is no link, and `NotFound` where it names nothing.
     fn link(&self, alloc: Global, path: &str) -> Result<String, Error>
         ensures text { IfOk result (λ text. tells → link_at self.now path.now ≡ Some (string_bytes text)) }
-        ensures none { IfErr result (λ error. error_kind error ≢ ErrorKind.OutOfMemory → link_at self.now path.now ≡ None) };
+        ensures other { IfErr result (λ error. error_kind error ≡ ErrorKind.InvalidInput → link_at self.now path.now ≡ None) }
+        ensures absent { IfErr result (λ error. error_kind error ≡ ErrorKind.NotFound → link_at self.now path.now ≡ None) };
 
     /// The path that a path leads to (`realpath`).
     ///

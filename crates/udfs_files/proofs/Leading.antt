@@ -33,9 +33,12 @@ module _ (log : Option Log) (real : List ℕ → List ℕ) (in_place : List ℕ 
   led_all told link (Err error) same none leads = tt
 
 -- no link is there where none was found
-pub none_found : {X : Type 0} (told : Type 0) (link : Option (List ℕ)) (found : Option X) → found ≡ None → (IsNone found → told → link ≡ None) → told → link ≡ None
-none_found told link found is none tells = subst (λ f. (IsNone f → told → link ≡ None)) is none refl tells
+pub none_found : {X : Type 0} (link : Option (List ℕ)) (found : Option X) → found ≡ None → (IsNone found → link ≡ None) → link ≡ None
+none_found link found is none = subst (λ f. (IsNone f → link ≡ None)) is none refl
 
 -- what is said of what was found holds of it
 pub some_found : {X : Type 0} (said : X → Type 0) (found : Option X) (x : X) → found ≡ Some x → IfSome found said → said x
 some_found said found x is holds = subst (λ f. IfSome f said) is holds
+
+pub ok_found : {X E : Type 0} (said : X → Type 0) (known : Result X E) (x : X) → known ≡ Ok x → IfOk known said → said x
+ok_found said known x is holds = subst (λ r. IfOk r said) is holds

@@ -30,7 +30,8 @@ use udfs_calls::Calls;
 use udfs_reading::DeviceFault;
 use udfs_times::{Times, Zone};
 
-/// The machine's files, over its system calls. The runtime gives the zone of its clock alone.
+/// The machine's files, over its system calls. What a file holds that was there when the run began is known where the calls tell it; of what is
+/// written nothing is told. A link is neither moved nor replaced nor removed. The runtime gives memory and the zone of its clock alone.
 #[derive(Drop)]
 pub struct Machine<'a, C: Calls, R: std::rt::Files + Env + AllocGlobal, N: Watch> {
     calls: C,

@@ -1,7 +1,7 @@
 //! What the machine's files ask of the system, call by call: what is opened holds what its path leads to, and what is written gets to its path.
 
 ghost use Rattle.std.specs.IoError.{error_kind};
-ghost use Rattle.std.specs.Prelude.{◌≡◌, ◌⊎◌, [], Some, None, IfOk, IfErr, IfSome, OnOk, OnErr, OnSome, IsNone};
+ghost use Rattle.std.specs.Prelude.{◌≡◌, ◌⊎◌, [], Some, None, IfOk, IfErr, IfSome, OnOk, OnErr, OnSome, IsNone, string_bytes};
 ghost use Rattle.udfs_calls.specs.Files.{bytes_of, rest_of};
 ghost use Rattle.udfs_calls.specs.Log.{Names, NamesSome, after, after_sync, holds, moment_of};
 ghost use Rattle.udfs_calls.specs.Log.Call.{created, opened, renamed, removed, failed, folder_synced};
@@ -152,18 +152,34 @@ pub(crate) fn sync_folder<C: Calls>(calls: &mut C, folder: &str) -> Result<(), E
     }
 }
 
+/// What the link says that a path names; `None` where it names none.
+pub(crate) fn link_at<C: Calls>(
+    calls: &C,
+    alloc: Global,
+    path: &str,
+) -> Result<Option<String>, Error>
+    ensures text { IfOk result (λ found. IfSome found (λ text. C.tells → C.link_at calls.now path.now ≡ Some (string_bytes text))) }
+    ensures none { IfOk result (λ found. IsNone found → C.link_at calls.now path.now ≡ None) }
+{
+    match calls.link(alloc, path) {
+        Ok(text) => Ok(Some(text)),
+        Err(error) if error.kind() == ErrorKind::InvalidInput => Ok(None),
+        Err(error) if error.kind() == ErrorKind::NotFound => Ok(None),
+        Err(error) => Err(error),
+    }
+}
+
 /// Sees that a path names no link.
 ///
 /// # Errors
 ///
-/// Where it names one, and where memory runs out.
+/// Where it names one, and where that is not known.
 fn refuse_link<C: Calls>(calls: &C, alloc: Global, path: &str) -> Result<(), Error>
     ensures { OnOk result (C.link_at calls.now path.now ≡ None) }
 {
-    match calls.link(alloc, path) {
-        Ok(_) => Err(Error::from(ErrorKind::InvalidInput)),
-        Err(error) if error.kind() == ErrorKind::OutOfMemory => Err(error),
-        Err(_) => Ok(()),
+    match link_at(calls, alloc, path)? {
+        Some(_) => Err(Error::from(ErrorKind::InvalidInput)),
+        None => Ok(()),
     }
 }
 

@@ -7,6 +7,7 @@ ghost use Rattle.udfs_files.specs.declared.files.Kind.{Kind};
 
 use crate::files::{Kind, Target};
 use crate::places::{is_device, name_in, split};
+use crate::reaching::link_at;
 use crate::watch::{Watch, heeded};
 use std::alloc::{AllocError, Global};
 use std::io::ErrorKind;
@@ -96,14 +97,23 @@ fn settled<C: Calls, N: Watch>(
 }
 
 /// The path that a link leads on to; `None` where the path is no link.
-fn next<C: Calls>(calls: &C, alloc: Global, path: &str) -> Result<Option<String>, AllocError>
-    ensures leads { IfOk result (λ found. IfSome found (λ next. C.tells → C.real calls.now (string_bytes next) ≡ C.real calls.now path.now)) }
-    ensures none { IfOk result (λ found. IsNone found → C.tells → C.link_at calls.now path.now ≡ None) }
+fn next<C: Calls, N: Watch>(
+    calls: &C,
+    watch: &N,
+    alloc: Global,
+    path: &str,
+) -> Result<Result<Option<String>, DeviceFault>, AllocError>
+    ensures leads { IfOk result (λ known. IfOk known (λ found. IfSome found (λ next. C.tells → C.real calls.now (string_bytes next) ≡ C.real calls.now path.now))) }
+    ensures none { IfOk result (λ known. IfOk known (λ found. IsNone found → C.link_at calls.now path.now ≡ None)) }
 {
-    match calls.link(alloc, path) {
-        Ok(link) => Ok(Some(name_in(alloc, split(path).0, link.as_str())?)),
+    match link_at(calls, alloc, path) {
+        Ok(Some(link)) => Ok(Ok(Some(name_in(alloc, split(path).0, link.as_str())?))),
+        Ok(None) => Ok(Ok(None)),
         Err(error) if error.kind() == ErrorKind::OutOfMemory => Err(AllocError),
-        Err(_) => Ok(None),
+        Err(error) => {
+            watch.failed(error);
+            Ok(Err(DeviceFault))
+        }
     }
 }
 
@@ -128,9 +138,10 @@ pub(crate) fn resolve<C: Calls, N: Watch>(
                 kind: Kind::Other,
             }));
         }
-        match next(calls, alloc, at.as_str())? {
-            Some(next) => at = next,
-            None => return settled(calls, watch, alloc, at.as_str()),
+        match next(calls, watch, alloc, at.as_str())? {
+            Ok(Some(next)) => at = next,
+            Ok(None) => return settled(calls, watch, alloc, at.as_str()),
+            Err(fault) => return Ok(Err(fault)),
         }
     }
     Ok(Err(DeviceFault))
