@@ -1,0 +1,4 @@
+pub mod Reading
+pub mod TagTables
+pub mod ExtentTables
+pub mod PublicLaws

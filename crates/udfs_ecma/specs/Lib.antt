@@ -1,0 +1,4 @@
+pub mod Tables
+pub mod Tags
+pub mod Extents
+pub mod Laws
