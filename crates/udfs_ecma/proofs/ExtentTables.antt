@@ -7,8 +7,8 @@ use Rattle.udfs_tag.specs.declared.layouts.LongAd.{LongAd}
 use Rattle.udfs_tag.specs.declared.layouts.ShortAd.{ShortAd}
 use Rattle.udfs_ecma.specs.Extents.{IsExtentAd, IsLbAddr, IsLongAd, IsShortAd, IsTypedLength}
 use Rattle.udfs_ecma.specs.Laws.{AreBytes, ExtentAdLaw, LongAdLaw, ShortAdLaw}
-use Rattle.udfs_ecma.specs.Tables.{row, HasBits}
-use Rattle.udfs_ecma.proofs.Reading.{field_of, holds_by, holds_is, holds_of, inner_is, inner_of, number_below}
+use Rattle.udfs_ecma.specs.Tables.{row, HasBits, IsField}
+use Rattle.udfs_ecma.proofs.Reading.{field_is, front_number, field_bytes, field_of, holds_by, holds_is, holds_of, inner_is, inner_of, number_below}
 
 -- the low 30 bits of a number, and those above them
 low_bits : (n bits : ℕ) → HasBits 0 30 n bits → n % 2 ^ 30 ≡ bits
@@ -68,3 +68,23 @@ long_of_bytes bytes b l = record {
 
 pub long_ad_law : LongAdLaw
 long_ad_law bytes b l d = (λ e. subst (IsLongAd bytes) (sym e) (long_of_bytes bytes b (omega (arith, l))), λ h. long_is bytes d b h)
+
+-- a long descriptor in a row of sixteen bytes, both ways
+long_same : (bytes : List ℕ) (p c : ℕ) → 10 ≤ c → long_ad_of (part bytes p c) ≡ long_ad_of (drop p bytes)
+long_same bytes p c l = λ i. record { kind = n i / 2 ^ 30; length = n i % 2 ^ 30; block = b i; reference = r i }
+  where
+    n : uint32_at (part bytes p c) 0 ≡ uint32_at (drop p bytes) 0
+    n = front_number bytes p c 0 4 (omega arith)
+
+    b : uint32_at (part bytes p c) 4 ≡ uint32_at (drop p bytes) 4
+    b = front_number bytes p c 4 4 (omega arith)
+
+    r : uint16_at (part bytes p c) 8 ≡ uint16_at (drop p bytes) 8
+    r = front_number bytes p c 8 2 (omega arith)
+
+pub long_in_row : (bytes : List ℕ) (p : ℕ) (d : LongAd) → AreBytes bytes → p + 16 ≤ length bytes → long_ad_of (drop p bytes) ≡ d → IsLongAd (part bytes p 16) d
+long_in_row bytes p d b l e = subst (IsLongAd (part bytes p 16)) (long_same bytes p 16 (omega arith) ∙ e)
+    (long_of_bytes (part bytes p 16) (field_bytes bytes p 16 (part bytes p 16) b (field_of bytes p 16 l)) (omega (arith, (field_of bytes p 16 l).size)))
+
+pub long_from_row : (bytes : List ℕ) (p : ℕ) (field : List ℕ) (d : LongAd) → AreBytes bytes → IsField bytes (row p 16) field → IsLongAd field d → long_ad_of (drop p bytes) ≡ d
+long_from_row bytes p field d b f h = sym (long_same bytes p 16 (omega arith)) ∙ ap long_ad_of (field_is bytes p 16 field f) ∙ sym (long_is field d (field_bytes bytes p 16 field b f) h)

@@ -1,4 +1,6 @@
 pub mod Reading
 pub mod TagTables
 pub mod ExtentTables
+pub mod MapTables
+pub mod VolumeTables
 pub mod PublicLaws

@@ -127,3 +127,7 @@ number_below bytes h p c = little_from-lt 0 c (drop p bytes) (bytes_below (drop 
 -- a part of bytes is bytes
 pub field_bytes : (bytes : List ℕ) (p c : ℕ) (field : List ℕ) → AreBytes bytes → IsField bytes (row p c) field → AreBytes field
 field_bytes bytes p c field h f = All-same (λ x. x < 256) field (part bytes p c) (sym (field_is bytes p c field f)) (All-take (λ x. x < 256) c (drop p bytes) (All-drop (λ x. x < 256) p bytes h))
+
+-- a number at a position of a part is that number in what is left from there
+pub front_number : (bytes : List ℕ) (p c q w : ℕ) → q + w ≤ c → little_number w (drop q (part bytes p c)) ≡ little_number w (drop q (drop p bytes))
+front_number bytes p c q w l = in_part bytes p c q w l ∙ sym (ap (little_number w) (drop-drop q p bytes))

@@ -1,13 +1,19 @@
 -- What is read of the bytes of a descriptor is what its table gives, and nothing else: both ways, for whatever bytes.
-use Rattle.std.specs.Prelude.{◌≡◌, ◌<◌, ◌≤◌, ◌↔◌, ℕ, true, List, length, All}
+use Rattle.std.specs.Prelude.{◌≡◌, ◌<◌, ◌≤◌, ◌↔◌, ℕ, true, List, length, drop, All, Some, None}
 use Rattle.udfs_lattice.specs.States.{IsBlock}
-use Rattle.udfs_tag.specs.Fields.{extent_ad_of, short_ad_of, long_ad_of}
-use Rattle.udfs_tag.specs.Tags.{is_valid}
+use Rattle.udfs_tag.specs.Fields.{uint16_at, extent_ad_of, short_ad_of, long_ad_at, long_ad_of, part}
+use Rattle.udfs_tag.specs.Tags.{identifier, is_valid}
 use Rattle.udfs_tag.specs.declared.layouts.ExtentAd.{ExtentAd}
 use Rattle.udfs_tag.specs.declared.layouts.ShortAd.{ShortAd}
 use Rattle.udfs_tag.specs.declared.layouts.LongAd.{LongAd}
+use Rattle.udfs_osta.specs.Labels.{label_of}
+use Rattle.udfs_volume.specs.declared.anchors.AnchorExtents.{AnchorExtents}
+use Rattle.udfs_volume.specs.declared.profiles.Profile.{Profile}
+use Rattle.udfs_volume.specs.Layout.{PartitionMap, bp, has_contents, partition_number, partition_of, sequence_number, the_maps, volume_fault}
+use Rattle.udfs_volume.specs.Sequence.{Descriptor, extents_of}
 use Rattle.udfs_ecma.specs.Extents.{IsExtentAd, IsShortAd, IsLongAd}
 use Rattle.udfs_ecma.specs.Tags.{IsTagged}
+use Rattle.udfs_ecma.specs.Volumes.{PartitionFields, VolumeFields, IsAnchorAt, IsPartitionAt, IsVolumeAt}
 
 -- these are bytes
 abbrev pub AreBytes : List ℕ → Type 0
@@ -28,3 +34,40 @@ ShortAdLaw = (bytes : List ℕ) → AreBytes bytes → 8 ≤ length bytes → (d
 -- and a long one
 abbrev pub LongAdLaw : Type 0
 LongAdLaw = (bytes : List ℕ) → AreBytes bytes → 16 ≤ length bytes → (d : LongAd) → (d ≡ long_ad_of bytes) ↔ IsLongAd bytes d
+
+-- an anchor is valid and names its extents exactly as its table gives them
+abbrev pub AnchorLaw : Type 0
+AnchorLaw = (bytes : List ℕ) → IsBlock bytes → (place : ℕ) (e : AnchorExtents)
+    → ((is_valid bytes place 2 ≡ true) × (e ≡ extents_of bytes)) ↔ IsAnchorAt bytes place e
+
+-- the descriptor in a block, as a sequence has it
+abbrev pub descriptor_in : List ℕ → Descriptor
+descriptor_in bytes = record { identifier = identifier bytes; content = drop 16 bytes }
+
+-- a partition descriptor is read with these fields, in a logical volume that names its partition in a map of this kind
+pub record IsReadPartition (bytes : List ℕ) (place : ℕ) (kind : PartitionMap) (f : PartitionFields) : Type 0 where
+  pub valid : is_valid bytes place 5 ≡ true
+  pub sequence : sequence_number (descriptor_in bytes) ≡ f.sequence
+  pub number : partition_number (descriptor_in bytes) ≡ f.number
+  pub contents : has_contents (kind, descriptor_in bytes) ≡ true
+  pub is : partition_of (kind, descriptor_in bytes) ≡ record { kind = kind; start = f.start; size = f.size }
+
+-- so it is exactly if its table gives them
+abbrev pub PartitionLaw : Type 0
+PartitionLaw = (bytes : List ℕ) → IsBlock bytes → (place : ℕ) (kind : PartitionMap) (f : PartitionFields)
+    → IsReadPartition bytes place kind f ↔ IsPartitionAt bytes place f
+
+-- a logical volume descriptor is read without a fault, with these fields
+pub record IsReadVolume (profile : Profile) (last : ℕ) (bytes : List ℕ) (place : ℕ) (v : VolumeFields) : Type 0 where
+  pub valid : is_valid bytes place 6 ≡ true
+  pub sequence : sequence_number (descriptor_in bytes) ≡ v.sequence
+  pub sound : volume_fault profile last (descriptor_in bytes) ≡ None
+  pub maps : the_maps profile last (descriptor_in bytes) ≡ Some v.maps
+  pub label : label_of (part (descriptor_in bytes).content (bp 84) 128) ≡ v.label
+  pub revision : uint16_at (descriptor_in bytes).content (bp 240) ≡ v.revision
+  pub file_set : long_ad_at (descriptor_in bytes).content (bp 248) ≡ v.file_set
+
+-- so it is exactly if its table and those of partition maps give them
+abbrev pub VolumeLaw : Type 0
+VolumeLaw = (profile : Profile) (last : ℕ) (bytes : List ℕ) → IsBlock bytes → (place : ℕ) (v : VolumeFields)
+    → IsReadVolume profile last bytes place v ↔ IsVolumeAt profile last bytes place v

@@ -1,4 +1,5 @@
 pub mod Tables
 pub mod Tags
 pub mod Extents
+pub mod Volumes
 pub mod Laws
