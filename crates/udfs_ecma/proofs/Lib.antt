@@ -3,4 +3,5 @@ pub mod TagTables
 pub mod ExtentTables
 pub mod MapTables
 pub mod VolumeTables
+pub mod EntryTables
 pub mod PublicLaws

@@ -164,15 +164,15 @@ pub partition_law : PartitionLaw
 partition_law bytes block place kind f = (λ h. partition_from bytes block place kind f h, λ h. partition_to bytes block place kind f h)
 
 -- ---- the logical volume descriptor
-no_first : {F : Type 0} (t : Bool) (f : F) (rest : Option F) → cond t (Some f) rest ≡ None → (t ≡ false) × (rest ≡ None)
+pub no_first : {F : Type 0} (t : Bool) (f : F) (rest : Option F) → cond t (Some f) rest ≡ None → (t ≡ false) × (rest ≡ None)
 no_first true f rest e = absurd (let z : ⊥ = cc in z)
 no_first false f rest e = (refl, e)
 
-neither : (a b : Bool) → (a || b) ≡ false → (a ≡ false) × (b ≡ false)
+pub neither : (a b : Bool) → (a || b) ≡ false → (a ≡ false) × (b ≡ false)
 neither true b e = absurd (let z : ⊥ = cc in z)
 neither false b e = (refl, e)
 
-not_not : (a : Bool) → not a ≡ false → a ≡ true
+pub not_not : (a : Bool) → not a ≡ false → a ≡ true
 not_not true e = refl
 not_not false e = absurd (let z : ⊥ = cc in z)
 

@@ -1,7 +1,7 @@
 -- What is read of the bytes of a descriptor is what its table gives, and nothing else: both ways, for whatever bytes.
-use Rattle.std.specs.Prelude.{◌≡◌, ◌<◌, ◌≤◌, ◌↔◌, ℕ, true, List, length, drop, All, Some, None}
+use Rattle.std.specs.Prelude.{◌≡◌, ◌<◌, ◌≤◌, ◌↔◌, ◌⊎◌, ℕ, true, List, length, drop, map, All, Some, None, Ok}
 use Rattle.udfs_lattice.specs.States.{IsBlock}
-use Rattle.udfs_tag.specs.Fields.{uint16_at, extent_ad_of, short_ad_of, long_ad_at, long_ad_of, part}
+use Rattle.udfs_tag.specs.Fields.{uint16_at, uint32_at, extent_ad_of, short_ad_of, long_ad_at, long_ad_of, part}
 use Rattle.udfs_tag.specs.Tags.{identifier, is_valid}
 use Rattle.udfs_tag.specs.declared.layouts.ExtentAd.{ExtentAd}
 use Rattle.udfs_tag.specs.declared.layouts.ShortAd.{ShortAd}
@@ -11,9 +11,16 @@ use Rattle.udfs_volume.specs.declared.anchors.AnchorExtents.{AnchorExtents}
 use Rattle.udfs_volume.specs.declared.profiles.Profile.{Profile}
 use Rattle.udfs_volume.specs.Layout.{PartitionMap, bp, has_contents, partition_number, partition_of, sequence_number, the_maps, volume_fault}
 use Rattle.udfs_volume.specs.Sequence.{Descriptor, extents_of}
-use Rattle.udfs_ecma.specs.Extents.{IsExtentAd, IsShortAd, IsLongAd}
-use Rattle.udfs_ecma.specs.Tags.{IsTagged}
-use Rattle.udfs_ecma.specs.Volumes.{PartitionFields, VolumeFields, IsAnchorAt, IsPartitionAt, IsVolumeAt}
+use Rattle.udfs_osta.specs.Names.{units_of}
+use Rattle.udfs_file.specs.Entries.{EntryFields, entry_fault, entry_of}
+use Rattle.udfs_file.specs.Identifiers.{Identifier}
+use Rattle.udfs_file.specs.Standard.{IsExtentAt, IsIdentifierIn, Located, MayName, recorded_in}
+use Rattle.udfs_ecma.specs.Entries.{IsEntryAt, extended_rows, file_entry_rows, first_rows, icb_table}
+use Rattle.udfs_ecma.specs.Extents.{AreRecorded, AreWhole, IsAllocationExtent, IsExtentAd, IsShortAd, IsLongAd}
+use Rattle.udfs_ecma.specs.Identifiers.{AreCharacters, IsFileSet, IsIdentifierAt, identifier_table}
+use Rattle.udfs_ecma.specs.Tables.{FollowOn}
+use Rattle.udfs_ecma.specs.Tags.{IsTagged, tag_table}
+use Rattle.udfs_ecma.specs.Volumes.{PartitionFields, VolumeFields, IsAnchorAt, IsPartitionAt, IsVolumeAt, anchor_table, partition_table, sparable_table, type1_table, volume_table}
 
 -- these are bytes
 abbrev pub AreBytes : List ℕ → Type 0
@@ -71,3 +78,50 @@ pub record IsReadVolume (profile : Profile) (last : ℕ) (bytes : List ℕ) (pla
 abbrev pub VolumeLaw : Type 0
 VolumeLaw = (profile : Profile) (last : ℕ) (bytes : List ℕ) → IsBlock bytes → (place : ℕ) (v : VolumeFields)
     → IsReadVolume profile last bytes place v ↔ IsVolumeAt profile last bytes place v
+
+-- whole descriptors of an area are read exactly as their tables give them, one after the other
+abbrev pub AreaLaw : Type 0
+AreaLaw = (form r : ℕ) (area : List ℕ) → AreBytes area → AreWhole form (length area) → (ds : List LongAd)
+    → (recorded_in form r area ≡ ds) ↔ AreRecorded form r area ds
+
+-- an allocation extent descriptor, of short or long ones, is valid and has this area exactly if its table says so
+abbrev pub AllocationExtentLaw : Type 0
+AllocationExtentLaw = (form : ℕ) → (form ≡ 0) ⊎ (form ≡ 1) → (bytes : List ℕ) → IsBlock bytes → (place : ℕ) (area : List ℕ)
+    → (IsExtentAt form place bytes × (area ≡ part bytes 24 (uint32_at bytes 20))) ↔ IsAllocationExtent form bytes place area
+
+-- an entry has no fault and these fields exactly if its table says so
+abbrev pub EntryLaw : Type 0
+EntryLaw = (bytes : List ℕ) → IsBlock bytes → (place : ℕ) (e : EntryFields)
+    → ((entry_fault bytes place ≡ None) × (e ≡ entry_of bytes)) ↔ IsEntryAt bytes place e
+
+-- the units of a name are those that compressed Unicode gives
+abbrev pub NameLaw : Type 0
+NameLaw = (name units : List ℕ) → (units_of name ≡ Ok units) ↔ AreCharacters name units
+
+-- the bytes of a piece of a body, without the blocks that hold them
+abbrev pub bytes_in : List Located → List ℕ
+bytes_in piece = map (λ x. x.0) piece
+
+-- a piece of a directory is one descriptor exactly if its table says so, of a tag that names a place that it may name
+abbrev pub IdentifierLaw : Type 0
+IdentifierLaw = (profile : Profile) (piece : List Located) → AreBytes (bytes_in piece) → (id : Identifier)
+    → IsIdentifierIn profile piece id ↔ ((place : ℕ) × MayName profile piece place × IsIdentifierAt (bytes_in piece) place id)
+
+-- a file set descriptor is valid and names this ICB of the root exactly if its table says so
+abbrev pub FileSetLaw : Type 0
+FileSetLaw = (bytes : List ℕ) → IsBlock bytes → (place : ℕ) (root : LongAd)
+    → ((is_valid bytes place 256 ≡ true) × (root ≡ long_ad_at bytes 400)) ↔ IsFileSet bytes place root
+
+-- the rows of each table leave out no byte, and no byte is in two of them
+pub record TablesFollowOn : Type 0 where
+  pub tags : FollowOn 0 tag_table 16
+  pub icb : FollowOn 0 icb_table 20
+  pub entries : FollowOn 0 first_rows 64
+  pub file_entries : FollowOn 64 file_entry_rows 176
+  pub extended : FollowOn 64 extended_rows 216
+  pub identifiers : FollowOn 0 identifier_table 38
+  pub anchors : FollowOn 0 anchor_table 512
+  pub partitions : FollowOn 0 partition_table 512
+  pub volumes : FollowOn 0 volume_table 440
+  pub type1_maps : FollowOn 0 type1_table 6
+  pub sparable_maps : FollowOn 0 sparable_table 64

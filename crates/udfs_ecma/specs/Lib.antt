@@ -1,5 +1,7 @@
 pub mod Tables
 pub mod Tags
 pub mod Extents
+pub mod Entries
+pub mod Identifiers
 pub mod Volumes
 pub mod Laws
