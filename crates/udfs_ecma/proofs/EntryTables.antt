@@ -1,8 +1,6 @@
 -- Entries are read as their tables give them.
-use Rattle.std.proofs.Common.{◌≡◌, ◌≢◌, refl, sym, ◌∙◌, ap, subst, inl, inr, ◌⊎◌, ℕ, ◌+◌, ◌-◌, ◌*◌, ◌/◌, ◌%◌, ◌<◌, ◌≤◌, Bool, true, false, not, List, [], ◌∷◌, length, take, drop, get_or, cond, ◌&&◌, ◌||◌, arith, Option, Some, None, nat_eq, nat_le, nat_lt, eqb-true}
-use Rattle.std.specs.Prelude.{suc}
+use Rattle.std.proofs.Common.{◌≡◌, ◌≢◌, refl, sym, ◌∙◌, ap, subst, inl, inr, ◌⊎◌, ℕ, ◌+◌, ◌-◌, ◌/◌, ◌%◌, ◌<◌, ◌≤◌, Bool, true, false, not, List, [], ◌∷◌, length, cond, ◌&&◌, ◌||◌, arith, None, nat_eq, nat_le, eqb-true}
 use Rattle.std.proofs.lemmas.Bool.{eq-eqb, leb-false, cases_lt, lt-leb}
-use Rattle.byteorder.specs.Endian.{little_number}
 use Rattle.udfs_lattice.specs.States.{IsBlock}
 use Rattle.udfs_tag.specs.Faults.{first_fault}
 use Rattle.udfs_tag.specs.Fields.{part, uint8_at, uint16_at, uint32_at, uint64_at}
@@ -11,12 +9,10 @@ use Rattle.udfs_osta.specs.Stamps.{stamp_of}
 use Rattle.udfs_file.specs.Entries.{EntryFields, area_start, descriptor_form, descriptor_size, descriptors_length, entry_fault, entry_of, fixed_part, has_bad_lengths, is_cut_form, is_entry, is_strange_form, is_too_long, kind_of}
 use Rattle.udfs_file.specs.declared.faults.Kind.{Kind}
 use Rattle.udfs_file.specs.declared.faults.Kind.TheVariants.{Directory, File, Link, Other, Unread}
-use Rattle.udfs_file.specs.declared.faults.NodeFault.{NodeFault}
 use Rattle.udfs_file.specs.declared.faults.NodeFault.TheVariants.{Tag, Strategy, Descriptors, Lengths}
-use Rattle.udfs_ecma.specs.Entries.{EntryTable, IsAreaOf, IsEntryAt, IsEntryBy, IsKind, extended_file_entry, file_entry}
-use Rattle.udfs_ecma.specs.Extents.{AreWhole}
+use Rattle.udfs_ecma.specs.Entries.{EntryTable, IsAreaOf, IsEntryAt, IsEntryBy, IsKind}
 use Rattle.udfs_ecma.specs.Laws.{EntryLaw}
-use Rattle.udfs_ecma.specs.Tables.{HasBits, Holds, row}
+use Rattle.udfs_ecma.specs.Tables.{HasBits, row}
 use Rattle.udfs_ecma.proofs.Reading.{byte_by, byte_is, field_by, field_fits, field_is, field_of, holds_by, holds_is, holds_of, inner_by, inner_is}
 use Rattle.udfs_ecma.proofs.TagTables.{tag_law}
 use Rattle.udfs_ecma.proofs.VolumeTables.{neither, no_first, not_not}
@@ -40,7 +36,7 @@ is_kind t = by_4 (nat_eq t 4) refl
     by_4 true e = eqb-true t 4 e
     by_4 false e = by_5 e (nat_eq t 5) refl
 
-unequal : (t n : ℕ) → t ≢ n → nat_eq t n ≡ false
+pub unequal : (t n : ℕ) → t ≢ n → nat_eq t n ≡ false
 unequal t n h = go (nat_eq t n) refl
   where
     go : (b : Bool) → nat_eq t n ≡ b → b ≡ false

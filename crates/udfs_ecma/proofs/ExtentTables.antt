@@ -1,14 +1,12 @@
 -- Allocation descriptors are read as their tables give them.
-use Rattle.std.proofs.Common.{◌≡◌, ◌≢◌, refl, sym, ◌∙◌, ap, subst, inl, inr, ◌⊎◌, ℕ, ◌+◌, ◌*◌, ◌/◌, ◌%◌, ◌^◌, ◌<◌, ◌≤◌, List, [], ◌∷◌, ◌++◌, length, take, drop, arith}
-use Rattle.byteorder.specs.Endian.{little_number}
-use Rattle.udfs_tag.specs.Fields.{part, uint16_at, uint32_at, extent_ad_of, long_ad_of, short_ad_of}
-use Rattle.udfs_tag.specs.declared.layouts.ExtentAd.{ExtentAd}
+use Rattle.std.proofs.Common.{◌≡◌, sym, ◌∙◌, ap, subst, ℕ, ◌+◌, ◌/◌, ◌%◌, ◌^◌, ◌<◌, ◌≤◌, List, length, drop, arith}
+use Rattle.udfs_tag.specs.Fields.{part, uint16_at, uint32_at, long_ad_of, short_ad_of}
 use Rattle.udfs_tag.specs.declared.layouts.LongAd.{LongAd}
 use Rattle.udfs_tag.specs.declared.layouts.ShortAd.{ShortAd}
-use Rattle.udfs_ecma.specs.Extents.{IsExtentAd, IsLbAddr, IsLongAd, IsShortAd, IsTypedLength}
+use Rattle.udfs_ecma.specs.Extents.{IsExtentAd, IsLongAd, IsShortAd, IsTypedLength}
 use Rattle.udfs_ecma.specs.Laws.{AreBytes, ExtentAdLaw, LongAdLaw, ShortAdLaw}
 use Rattle.udfs_ecma.specs.Tables.{row, HasBits, IsField}
-use Rattle.udfs_ecma.proofs.Reading.{field_is, front_number, field_bytes, field_of, holds_by, holds_is, holds_of, inner_is, inner_of, number_below}
+use Rattle.udfs_ecma.proofs.Reading.{field_is, front_number, field_bytes, field_of, holds_is, holds_of, inner_is, inner_of, number_below}
 
 -- the low 30 bits of a number, and those above them
 low_bits : (n bits : ℕ) → HasBits 0 30 n bits → n % 2 ^ 30 ≡ bits
@@ -36,7 +34,7 @@ pub extent_ad_law : ExtentAdLaw
 extent_ad_law bytes l d = (
   λ e. subst (IsExtentAd bytes) (sym e) (record { length_is = holds_of bytes 0 4 (omega (arith, l)); block_is = holds_of bytes 4 4 (omega (arith, l)) }),
   λ h. let n : uint32_at bytes 0 ≡ d.length = holds_is bytes 0 4 d.length h.length_is in let b : uint32_at bytes 4 ≡ d.block = holds_is bytes 4 4 d.block h.block_is in
-    λ i. record { length = sym n i; block = sym b i },
+      λ i. record { length = sym n i; block = sym b i },
 )
 
 -- a short descriptor, both ways

@@ -4,4 +4,7 @@ pub mod ExtentTables
 pub mod MapTables
 pub mod VolumeTables
 pub mod EntryTables
+pub mod AreaTables
+pub mod IdentifierTables
+pub mod Rows
 pub mod PublicLaws

@@ -1,13 +1,12 @@
 -- Partition maps are read as their tables give them.
-use Rattle.std.proofs.Common.{◌≡◌, ◌≢◌, refl, sym, ◌∙◌, ap, subst, inl, inr, ◌⊎◌, ℕ, ◌+◌, ◌-◌, ◌*◌, ◌<◌, ◌≤◌, Bool, true, false, not, List, [], ◌∷◌, ◌++◌, length, map, take, drop, get_or, cond, ◌&&◌, ◌||◌, arith, Option, Some, None, nat_eq, nat_le, eqb-true, replicate}
-use Rattle.std.specs.Prelude.{zero, suc, codes, option_map, Contains}
+use Rattle.std.proofs.Common.{◌≡◌, refl, sym, ◌∙◌, ap, subst, inl, inr, ◌⊎◌, ℕ, ◌+◌, ◌-◌, ◌*◌, ◌≤◌, Bool, true, false, List, [], ◌∷◌, ◌++◌, length, map, take, drop, cond, ◌&&◌, ◌||◌, arith, Option, Some, None, nat_eq, nat_le, eqb-true, replicate}
+use Rattle.std.specs.Prelude.{zero, suc, codes, option_map}
 use Rattle.std.specs.List.{list_all, list_any, range_with_len}
 use Rattle.std.specs.Str.{bytes_eq}
 use Rattle.std.proofs.lemmas.Bool.{eq-eqb, leb-true, le-leb}
-use Rattle.std.proofs.lemmas.List.{append_assoc, length-replicate, drop-drop, length-drop, take_at, drop_at, take-append-drop, length-map, length-take-le, length-append}
+use Rattle.std.proofs.lemmas.List.{append_assoc, length-replicate, drop-drop, length-drop, drop_at, take-append-drop, length-take-le, length-append}
 use Rattle.std.proofs.lemmas.List.FromFn.{length-map-range_with_len}
 use Rattle.std.proofs.lemmas.Slice.Eq.{bytes_eq-Decides}
-use Rattle.byteorder.specs.Endian.{little_number}
 use Rattle.udfs_lattice.proofs.Inclusion.{Includes, included, contained}
 use Rattle.udfs_tag.specs.Faults.{is_within}
 use Rattle.udfs_tag.specs.Fields.{part, regid_at, uint8_at, uint16_at, uint32_at, zero_filled}
@@ -17,8 +16,8 @@ use Rattle.udfs_volume.specs.Profiles.{accepts_packet, packet_lengths}
 use Rattle.udfs_volume.proofs.Bounds.{each_passes}
 use Rattle.udfs_volume.proofs.Known.{both}
 use Rattle.udfs_ecma.specs.Tables.{row, IsField, Holds}
-use Rattle.udfs_ecma.specs.Volumes.{AllDiffer, AreMaps, AreTables, Differ, DiffersFrom, IsEntity, IsMap, IsSparable, IsType1}
-use Rattle.udfs_ecma.proofs.Reading.{field_is, field_of, field_by, field_fits, holds_is, holds_by, holds_fits, holds_of, byte_is, byte_by, inner_is, inner_by, inner_part}
+use Rattle.udfs_ecma.specs.Volumes.{AllDiffer, AreMaps, AreTables, Differ, DiffersFrom, IsEntity, IsMap}
+use Rattle.udfs_ecma.proofs.Reading.{field_is, field_of, field_by, holds_is, holds_of, byte_is, byte_by, inner_is, inner_by, inner_part}
 
 -- ---- tests
 pub all_of : (a b : Bool) → a ≡ true → b ≡ true → (a && b) ≡ true
@@ -125,7 +124,7 @@ module _ (profile : Profile) (last : ℕ) where
       → IsMap profile last piece kind number → (read_map profile last left bytes ≡ Some (kind, number)) × (map_size kind ≡ length piece)
   map_is bytes piece more left later type1 number e l h = (
     ap (λ b. cond b (Some (type1, uint16_at bytes 4)) (cond (is_sparable bytes && nat_le 64 left && are_tables profile last bytes) (Some (sparable (uint16_at bytes 40) (uint32_at bytes 44) (table_places bytes), uint16_at bytes 38)) None)) test
-    ∙ ap (λ n. Some (type1, n)) (holds_is bytes 4 2 number (holds_front bytes piece more 4 2 number e h.number_is)),
+        ∙ ap (λ n. Some (type1, n)) (holds_is bytes 4 2 number (holds_front bytes piece more 4 2 number e h.number_is)),
     sym h.long,
   )
     where
@@ -137,8 +136,8 @@ module _ (profile : Profile) (last : ℕ) where
           (le-leb 6 left (omega (arith, l, h.long)))
   map_is bytes piece more left later (sparable packet size tables) number e l h = (
     ap (λ b. cond b (Some (type1, uint16_at bytes 4)) (cond (is_sparable bytes && nat_le 64 left && are_tables profile last bytes) (Some (sparable (uint16_at bytes 40) (uint32_at bytes 44) (table_places bytes), uint16_at bytes 38)) None)) not_type1
-    ∙ ap (λ b. cond b (Some (sparable (uint16_at bytes 40) (uint32_at bytes 44) (table_places bytes), uint16_at bytes 38)) None) test
-    ∙ (λ i. Some (sparable (packet_is i) (size_is i) (places_are i), number_is i)),
+        ∙ ap (λ b. cond b (Some (sparable (uint16_at bytes 40) (uint32_at bytes 44) (table_places bytes), uint16_at bytes 38)) None) test
+        ∙ (λ i. Some (sparable (packet_is i) (size_is i) (places_are i), number_is i)),
     sym h.long,
   )
     where
@@ -193,39 +192,47 @@ module _ (profile : Profile) (last : ℕ) where
   IsMapAt left bytes m = (map_size m.0 ≤ left) × (map_size m.0 ≤ 64) × IsMap profile last (take (map_size m.0) bytes) m.0 m.1
 
   type1_at : (left : ℕ) (bytes : List ℕ) → 64 ≤ length bytes → (is_type1 bytes && nat_le 6 left) ≡ true → IsMapAt left bytes (type1, uint16_at bytes 4)
-  type1_at left bytes l h = (leb-true 6 left (both (is_type1 bytes) (nat_le 6 left) h).1, omega arith, record {
-    long = length-take-le 6 bytes (omega (arith, l));
-    kind = inner_by bytes 0 6 0 1 1 (omega (arith, l)) (omega arith) (holds_is bytes 0 1 1 (byte_by bytes 0 1 (omega (arith, l)) (eqb-true (uint8_at bytes 0) 1 t.0)));
-    size = inner_by bytes 0 6 1 1 6 (omega (arith, l)) (omega arith) (holds_is bytes 1 1 6 (byte_by bytes 1 6 (omega (arith, l)) (eqb-true (uint8_at bytes 1) 6 t.1)));
-    number_is = inner_by bytes 0 6 4 2 (uint16_at bytes 4) (omega (arith, l)) (omega arith) refl;
-  })
+  type1_at left bytes l h = (
+    leb-true 6 left (both (is_type1 bytes) (nat_le 6 left) h).1,
+    omega arith,
+    record {
+      long = length-take-le 6 bytes (omega (arith, l));
+      kind = inner_by bytes 0 6 0 1 1 (omega (arith, l)) (omega arith) (holds_is bytes 0 1 1 (byte_by bytes 0 1 (omega (arith, l)) (eqb-true (uint8_at bytes 0) 1 t.0)));
+      size = inner_by bytes 0 6 1 1 6 (omega (arith, l)) (omega arith) (holds_is bytes 1 1 6 (byte_by bytes 1 6 (omega (arith, l)) (eqb-true (uint8_at bytes 1) 6 t.1)));
+      number_is = inner_by bytes 0 6 4 2 (uint16_at bytes 4) (omega (arith, l)) (omega arith) refl;
+    },
+  )
     where
       t : (nat_eq (uint8_at bytes 0) 1 ≡ true) × (nat_eq (uint8_at bytes 1) 6 ≡ true)
       t = both (nat_eq (uint8_at bytes 0) 1) (nat_eq (uint8_at bytes 1) 6) (both (is_type1 bytes) (nat_le 6 left) h).0
 
   sparable_at : (left : ℕ) (bytes : List ℕ) → 64 ≤ length bytes → (is_sparable bytes && nat_le 64 left && are_tables profile last bytes) ≡ true
       → IsMapAt left bytes (sparable (uint16_at bytes 40) (uint32_at bytes 44) (table_places bytes), uint16_at bytes 38)
-  sparable_at left bytes l h = (leb-true 64 left a.1, omega arith, record {
-    long = long;
-    kind = inner_by bytes 0 64 0 1 2 (omega (arith, l)) (omega arith) (holds_is bytes 0 1 2 (byte_by bytes 0 2 (omega (arith, l)) (eqb-true (uint8_at bytes 0) 2 s2.0)));
-    size = inner_by bytes 0 64 1 1 64 (omega (arith, l)) (omega arith) (holds_is bytes 1 1 64 (byte_by bytes 1 64 (omega (arith, l)) (eqb-true (uint8_at bytes 1) 64 s2.1)));
-    name = part (take 64 bytes) 4 32;
-    name_field = field_of (take 64 bytes) 4 32 (omega (arith, long));
-    name_is = entity_of (part (take 64 bytes) 4 32) (codes "*UDF Sparable Partition") (omega (arith, (field_of (take 64 bytes) 4 32 (omega (arith, long))).size))
-        (inner_part (take 64 bytes) 4 32 1 23 (omega arith) ∙ inner_part bytes 0 64 5 23 (omega arith) ∙ sym (ap (take 23) (drop-drop 1 4 bytes))
-        ∙ (bytes_eq-Decides (regid_at bytes 4).name (zero_filled 23 (codes "*UDF Sparable Partition"))).0 s1.1);
-    number_is = inner_by bytes 0 64 38 2 (uint16_at bytes 38) (omega (arith, l)) (omega arith) refl;
-    packet_is = inner_by bytes 0 64 40 2 (uint16_at bytes 40) (omega (arith, l)) (omega arith) refl;
-    packet_taken = contained (packet_lengths profile) (uint16_at bytes 40) (among_if (packet_lengths profile) (uint16_at bytes 40) n2.1);
-    count_is = inner_by bytes 0 64 42 1 (length (table_places bytes)) (omega (arith, l)) (omega arith) (holds_is bytes 42 1 (length (table_places bytes)) (byte_by bytes 42 (length (table_places bytes)) (omega (arith, l)) (sym count)));
-    one = omega (arith, count, within.0);
-    four = omega (arith, count, within.1);
-    bytes_are = inner_by bytes 0 64 44 4 (uint32_at bytes 44) (omega (arith, l)) (omega arith) refl;
-    from = sizes.0;
-    to = sizes.1;
-    tables_are = subst (AreTables (take 64 bytes) 48) (alike (uint8_at bytes 42) within.1) (tables_of (take 64 bytes) 48 (uint8_at bytes 42) (omega (arith, long, within.1)));
-    inside = λ place i. leb-true (place + blocks_in (uint32_at bytes 44)) (last + 1) (each_passes (λ place. nat_le (place + blocks_in (uint32_at bytes 44)) (last + 1)) (table_places bytes) n.1 place (included (table_places bytes) place i));
-  })
+  sparable_at left bytes l h = (
+    leb-true 64 left a.1,
+    omega arith,
+    record {
+      long = long;
+      kind = inner_by bytes 0 64 0 1 2 (omega (arith, l)) (omega arith) (holds_is bytes 0 1 2 (byte_by bytes 0 2 (omega (arith, l)) (eqb-true (uint8_at bytes 0) 2 s2.0)));
+      size = inner_by bytes 0 64 1 1 64 (omega (arith, l)) (omega arith) (holds_is bytes 1 1 64 (byte_by bytes 1 64 (omega (arith, l)) (eqb-true (uint8_at bytes 1) 64 s2.1)));
+      name = part (take 64 bytes) 4 32;
+      name_field = field_of (take 64 bytes) 4 32 (omega (arith, long));
+      name_is = entity_of (part (take 64 bytes) 4 32) (codes "*UDF Sparable Partition") (omega (arith, (field_of (take 64 bytes) 4 32 (omega (arith, long))).size))
+          (inner_part (take 64 bytes) 4 32 1 23 (omega arith) ∙ inner_part bytes 0 64 5 23 (omega arith) ∙ sym (ap (take 23) (drop-drop 1 4 bytes))
+          ∙ (bytes_eq-Decides (regid_at bytes 4).name (zero_filled 23 (codes "*UDF Sparable Partition"))).0 s1.1);
+      number_is = inner_by bytes 0 64 38 2 (uint16_at bytes 38) (omega (arith, l)) (omega arith) refl;
+      packet_is = inner_by bytes 0 64 40 2 (uint16_at bytes 40) (omega (arith, l)) (omega arith) refl;
+      packet_taken = contained (packet_lengths profile) (uint16_at bytes 40) (among_if (packet_lengths profile) (uint16_at bytes 40) n2.1);
+      count_is = inner_by bytes 0 64 42 1 (length (table_places bytes)) (omega (arith, l)) (omega arith) (holds_is bytes 42 1 (length (table_places bytes)) (byte_by bytes 42 (length (table_places bytes)) (omega (arith, l)) (sym count)));
+      one = omega (arith, count, within.0);
+      four = omega (arith, count, within.1);
+      bytes_are = inner_by bytes 0 64 44 4 (uint32_at bytes 44) (omega (arith, l)) (omega arith) refl;
+      from = sizes.0;
+      to = sizes.1;
+      tables_are = subst (AreTables (take 64 bytes) 48) (alike (uint8_at bytes 42) within.1) (tables_of (take 64 bytes) 48 (uint8_at bytes 42) (omega (arith, long, within.1)));
+      inside = λ place i. leb-true (place + blocks_in (uint32_at bytes 44)) (last + 1) (each_passes (λ place. nat_le (place + blocks_in (uint32_at bytes 44)) (last + 1)) (table_places bytes) n.1 place (included (table_places bytes) place i));
+    },
+  )
     where
       a : (is_sparable bytes ≡ true) × (nat_le 64 left ≡ true)
       a = both (is_sparable bytes) (nat_le 64 left) (both (is_sparable bytes && nat_le 64 left) (are_tables profile last bytes) h).0

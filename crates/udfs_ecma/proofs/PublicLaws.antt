@@ -1,11 +1,33 @@
 -- The laws of this crate, each with the statement that the function of its name in src/laws.rt ensures.
-use Rattle.udfs_ecma.specs.Laws.{AnchorLaw, ExtentAdLaw, LongAdLaw, PartitionLaw, ShortAdLaw, TagLaw, VolumeLaw}
+use Rattle.udfs_ecma.specs.Laws.{AllocationExtentLaw, AnchorLaw, AreaLaw, EntryLaw, ExtentAdLaw, FileSetLaw, IdentifierLaw, LongAdLaw, NameLaw, PartitionLaw, ShortAdLaw, TablesFollowOn, TagLaw, VolumeLaw}
+use Rattle.udfs_ecma.proofs.AreaTables as areas
+use Rattle.udfs_ecma.proofs.EntryTables as entries
 use Rattle.udfs_ecma.proofs.ExtentTables as extents
+use Rattle.udfs_ecma.proofs.IdentifierTables as identifiers
+use Rattle.udfs_ecma.proofs.Rows as rows
 use Rattle.udfs_ecma.proofs.TagTables as tags
 use Rattle.udfs_ecma.proofs.VolumeTables as volumes
 
+pub tables_leave_out_no_byte : TablesFollowOn
+tables_leave_out_no_byte = rows.tables_follow_on
+
 pub tags_are_by_the_table : TagLaw
 tags_are_by_the_table = tags.tag_law
+
+pub anchors_are_by_the_table : AnchorLaw
+anchors_are_by_the_table = volumes.anchor_law
+
+pub partitions_are_by_the_table : PartitionLaw
+partitions_are_by_the_table = volumes.partition_law
+
+pub logical_volumes_are_by_the_table : VolumeLaw
+logical_volumes_are_by_the_table = volumes.volume_law
+
+pub file_sets_are_by_the_table : FileSetLaw
+file_sets_are_by_the_table = identifiers.file_set_law
+
+pub entries_are_by_the_table : EntryLaw
+entries_are_by_the_table = entries.entry_law
 
 pub extents_of_the_volume_are_by_the_table : ExtentAdLaw
 extents_of_the_volume_are_by_the_table = extents.extent_ad_law
@@ -16,11 +38,14 @@ short_descriptors_are_by_the_table = extents.short_ad_law
 pub long_descriptors_are_by_the_table : LongAdLaw
 long_descriptors_are_by_the_table = extents.long_ad_law
 
-pub anchors_are_by_the_table : AnchorLaw
-anchors_are_by_the_table = volumes.anchor_law
+pub areas_are_by_the_table : AreaLaw
+areas_are_by_the_table = areas.area_law
 
-pub partitions_are_by_the_table : PartitionLaw
-partitions_are_by_the_table = volumes.partition_law
+pub continuations_are_by_the_table : AllocationExtentLaw
+continuations_are_by_the_table = areas.allocation_extent_law
 
-pub logical_volumes_are_by_the_table : VolumeLaw
-logical_volumes_are_by_the_table = volumes.volume_law
+pub identifiers_are_by_the_table : IdentifierLaw
+identifiers_are_by_the_table = identifiers.identifier_law
+
+pub names_are_by_the_table : NameLaw
+names_are_by_the_table = identifiers.name_law

@@ -4,11 +4,11 @@ use Rattle.std.specs.Prelude.{zero, suc}
 use Rattle.std.proofs.lemmas.Bool.{cases_lt}
 use Rattle.std.proofs.lemmas.List.Elements.{All-take, All-drop, All-same}
 use Rattle.std.proofs.lemmas.List.{get_or_past, take_at, drop_at, take-append-drop, length-append, length-take-le, length-drop, drop-take, drop-drop, get_or-drop}
-use Rattle.byteorder.specs.Endian.{little_from, little_number}
+use Rattle.byteorder.specs.Endian.{little_number}
 use Rattle.byteorder.specs.Numbers.{little_from-cons, little_from-lt, little_from-take}
 use Rattle.udfs_tag.specs.Fields.{part}
 use Rattle.udfs_ecma.specs.Laws.{AreBytes}
-use Rattle.udfs_ecma.specs.Tables.{Row, row, IsField, IsNumber, Holds}
+use Rattle.udfs_ecma.specs.Tables.{row, IsField, IsNumber, Holds}
 
 -- a field lies in the bytes
 pub field_fits : (bytes : List ℕ) (p c : ℕ) (field : List ℕ) → IsField bytes (row p c) field → p + c ≤ length bytes

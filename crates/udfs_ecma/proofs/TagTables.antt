@@ -1,19 +1,18 @@
 -- A tag is valid exactly if it is one by the table.
-use Rattle.std.proofs.Common.{◌≡◌, ◌≢◌, refl, sym, ◌∙◌, ap, subst, inl, inr, ◌⊎◌, ℕ, ◌+◌, ◌%◌, ◌<◌, ◌≤◌, true, false, List, length, take, drop, get_or, sum, arith, eqb-true}
-use Rattle.std.specs.Prelude.{Result, Ok, Err, All}
+use Rattle.std.proofs.Common.{◌≡◌, refl, sym, ◌∙◌, ap, subst, inl, inr, ◌⊎◌, ℕ, ◌+◌, ◌%◌, ◌≤◌, true, List, length, take, sum, arith, eqb-true}
+use Rattle.std.specs.Prelude.{Result, Ok, Err}
 use Rattle.std.proofs.lemmas.Bool.{eq-eqb}
-use Rattle.byteorder.specs.Endian.{little_number}
 use Rattle.udfs_tag.specs.Crc.{message, IsRemainder}
-use Rattle.udfs_tag.specs.Fields.{part, uint8_at, uint16_at, uint32_at}
-use Rattle.udfs_tag.specs.Tags.{HasTagFault, IsAccepted, IsFirstFault, checksum_of, covered, covered_len, has_identifier, identifier, is_valid, tag_of}
+use Rattle.udfs_tag.specs.Fields.{part, uint16_at}
+use Rattle.udfs_tag.specs.Tags.{HasTagFault, IsAccepted, checksum_of, covered, covered_len, has_identifier, tag_of}
 use Rattle.udfs_tag.specs.declared.tags.Tag.{Tag}
 use Rattle.udfs_tag.specs.declared.tags.TagFault.{TagFault}
 use Rattle.udfs_tag.specs.declared.tags.TagFault.TheVariants.{Checksum, Version, CrcLength, Crc, Location}
 use Rattle.udfs_tag.proofs.FaultLemmas.{Judges, judges}
-use Rattle.udfs_ecma.specs.Laws.{AreBytes, TagLaw}
-use Rattle.udfs_ecma.specs.Tables.{Row, row, IsField, Holds}
+use Rattle.udfs_ecma.specs.Laws.{TagLaw}
+use Rattle.udfs_ecma.specs.Tables.{row, Holds}
 use Rattle.udfs_ecma.specs.Tags.{IsChecksum, IsTagged}
-use Rattle.udfs_ecma.proofs.Reading.{bytes_below, field_fits, field_is, field_of, holds_fits, holds_is, holds_of, holds_by, byte_is, byte_by}
+use Rattle.udfs_ecma.proofs.Reading.{bytes_below, field_fits, field_is, field_of, holds_is, holds_of, holds_by, byte_is, byte_by}
 
 sums : (bytes : List ℕ) (c : ℕ) → IsChecksum bytes c → c ≡ checksum_of bytes
 sums bytes c h = h.is ∙ ap (λ x. (sum x + sum h.back) % 256) (sym (field_is bytes 0 4 h.front h.front_is)) ∙ ap (λ x. (sum (take 4 bytes) + sum x) % 256) (sym (field_is bytes 5 11 h.back h.back_is))

@@ -1,6 +1,6 @@
 -- Anchors, partition descriptors and logical volume descriptors are read as their tables give them.
-use Rattle.std.proofs.Common.{◌≡◌, ◌≢◌, refl, sym, ◌∙◌, ap, subst, inl, inr, ◌⊎◌, ℕ, ◌+◌, ◌-◌, ◌*◌, ◌<◌, ◌≤◌, Bool, true, false, not, List, [], ◌∷◌, ◌++◌, length, map, take, drop, cond, ◌&&◌, ◌||◌, arith, Option, Some, None, nat_eq, nat_le, eqb-true}
-use Rattle.std.specs.Prelude.{codes, is_none, Contains}
+use Rattle.std.proofs.Common.{◌≡◌, refl, sym, ◌∙◌, ap, subst, inl, inr, ◌⊎◌, ℕ, ◌+◌, ◌*◌, ◌≤◌, Bool, true, false, not, List, [], ◌∷◌, length, take, drop, cond, ◌||◌, arith, Option, Some, None, nat_eq, eqb-true}
+use Rattle.std.specs.Prelude.{codes, is_none}
 use Rattle.std.specs.Str.{bytes_eq}
 use Rattle.std.proofs.lemmas.Bool.{eq-eqb}
 use Rattle.std.proofs.lemmas.List.{drop-drop, length-drop}
@@ -10,25 +10,23 @@ use Rattle.byteorder.specs.Endian.{little_number}
 use Rattle.udfs_lattice.specs.States.{IsBlock}
 use Rattle.udfs_lattice.proofs.Inclusion.{Includes, included, contained}
 use Rattle.udfs_tag.specs.declared.layouts.ExtentAd.{ExtentAd}
-use Rattle.udfs_tag.specs.declared.layouts.LongAd.{LongAd}
 use Rattle.udfs_tag.specs.Faults.{first_fault}
-use Rattle.udfs_tag.specs.Fields.{extent_ad_at, extent_ad_of, long_ad_at, long_ad_of, part, regid_at, uint8_at, uint16_at, uint32_at, zero_filled}
-use Rattle.udfs_tag.specs.Tags.{identifier, is_valid}
+use Rattle.udfs_tag.specs.Fields.{extent_ad_at, extent_ad_of, long_ad_of, part, regid_at, uint16_at, uint32_at, zero_filled}
+use Rattle.udfs_tag.specs.Tags.{is_valid}
 use Rattle.udfs_osta.specs.Labels.{label_of}
 use Rattle.udfs_volume.specs.declared.anchors.AnchorExtents.{AnchorExtents}
-use Rattle.udfs_volume.specs.declared.faults.VolumeFault.{VolumeFault}
 use Rattle.udfs_volume.specs.declared.faults.VolumeFault.TheVariants.{Domain, BlockSize, MapCount, MapKind}
 use Rattle.udfs_volume.specs.declared.profiles.Profile.{Profile}
-use Rattle.udfs_volume.specs.Layout.{NumberedMap, Partition, PartitionMap, bp, has_contents, has_domain, has_revision, map_count, partition_number, partition_of, read_maps, sequence_number, the_maps, unless_repeated, volume_fault}
-use Rattle.udfs_volume.specs.Profiles.{accepts_revision, revisions}
+use Rattle.udfs_volume.specs.Layout.{PartitionMap, has_contents, has_domain, has_revision, map_count, read_maps, the_maps, unless_repeated, volume_fault}
+use Rattle.udfs_volume.specs.Profiles.{revisions}
 use Rattle.udfs_volume.specs.Sequence.{Descriptor, extents_of}
-use Rattle.udfs_ecma.specs.Extents.{IsExtentAd, IsLongAd}
-use Rattle.udfs_ecma.specs.Laws.{AnchorLaw, AreBytes, IsReadPartition, IsReadVolume, PartitionLaw, VolumeLaw, descriptor_in}
-use Rattle.udfs_ecma.specs.Tables.{row, IsField, Holds}
+use Rattle.udfs_ecma.specs.Extents.{IsExtentAd}
+use Rattle.udfs_ecma.specs.Laws.{AnchorLaw, IsReadPartition, IsReadVolume, PartitionLaw, VolumeLaw, descriptor_in}
+use Rattle.udfs_ecma.specs.Tables.{row, IsField}
 use Rattle.udfs_ecma.specs.Volumes.{AllDiffer, AreMaps, IsAnchorAt, IsEntity, IsPartitionAt, IsVolumeAt, PartitionFields, VolumeFields}
 use Rattle.udfs_ecma.proofs.ExtentTables.{long_from_row, long_in_row}
-use Rattle.udfs_ecma.proofs.MapTables.{all_of, among_if, among_of, entity_is, entity_of, maps_are, maps_of, some-unless_repeated, unless_repeated-some}
-use Rattle.udfs_ecma.proofs.Reading.{field_bytes, field_by, field_fits, field_is, field_of, holds_by, holds_is, holds_of, inner_is, inner_of, inner_part, inner_by}
+use Rattle.udfs_ecma.proofs.MapTables.{among_if, among_of, entity_is, entity_of, maps_are, maps_of, some-unless_repeated, unless_repeated-some}
+use Rattle.udfs_ecma.proofs.Reading.{field_by, field_fits, field_is, field_of, holds_by, holds_is, holds_of, inner_is, inner_part, inner_by}
 use Rattle.udfs_ecma.proofs.TagTables.{tag_law}
 
 -- ---- the anchor

@@ -2,7 +2,7 @@
 --     IsExtentAd, IsShortAd, IsLongAd bytes d     the fields of one descriptor
 --     AreRecorded form r area ds                  an area of an entry in partition r is these, one after the other
 --     IsAllocationExtent form bytes place area    an allocation extent descriptor with this area
-use Rattle.std.specs.Prelude.{◌≡◌, ℕ, ◌+◌, ◌*◌, ◌⊎◌, List, [], ◌∷◌, ◌++◌, length}
+use Rattle.std.specs.Prelude.{◌≡◌, ℕ, ◌*◌, ◌⊎◌, List, [], ◌∷◌, ◌++◌, length}
 use Rattle.udfs_tag.specs.declared.layouts.ExtentAd.{ExtentAd}
 use Rattle.udfs_tag.specs.declared.layouts.ShortAd.{ShortAd}
 use Rattle.udfs_tag.specs.declared.layouts.LongAd.{LongAd}

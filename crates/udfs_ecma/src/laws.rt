@@ -1,10 +1,45 @@
 //! Laws of decoders, each the contract of a function that does nothing.
-ghost use Rattle.udfs_ecma.specs.Laws.{AnchorLaw, ExtentAdLaw, LongAdLaw, PartitionLaw, ShortAdLaw, TagLaw, VolumeLaw};
+//!
+//! Each says "if and only if": what is read of the bytes is what the table gives, the table gives nothing else, and what is refused has no such
+//! fields by the table.
+ghost use Rattle.udfs_ecma.specs.Laws.{AllocationExtentLaw, AnchorLaw, AreaLaw, EntryLaw, ExtentAdLaw, FileSetLaw, IdentifierLaw, LongAdLaw, NameLaw, PartitionLaw, ShortAdLaw, TablesFollowOn, TagLaw, VolumeLaw};
 
-/// The tag of bytes is valid at a place, with an identifier, if and only if it is so by the table of tags: the identifier, the version, the
-/// checksum, the CRC and the location at their byte positions.
+/// The rows of each table follow one another: they leave out no byte, and no byte is in two of them.
+pub fn tables_leave_out_no_byte()
+    ensures { TablesFollowOn }
+{}
+
+/// A tag is valid at a place, with an identifier, if and only if it is so by its table: identifier, version, checksum, CRC and location at
+/// their byte positions (ECMA-167 3/7.2, 4/7.2).
 pub fn tags_are_by_the_table()
     ensures { TagLaw }
+{}
+
+/// An anchor is valid and names two extents if and only if it does so by its table (ECMA-167 3/10.2).
+pub fn anchors_are_by_the_table()
+    ensures { AnchorLaw }
+{}
+
+/// A partition descriptor is valid, with good contents and these fields, if and only if it is so by its table (ECMA-167 3/10.5).
+pub fn partitions_are_by_the_table()
+    ensures { PartitionLaw }
+{}
+
+/// A logical volume descriptor is valid and without a fault, with these maps and fields, if and only if it is so by its table and those of
+/// the partition maps (ECMA-167 3/10.6, 3/10.7; UDF 2.2.4, 2.2.9).
+pub fn logical_volumes_are_by_the_table()
+    ensures { VolumeLaw }
+{}
+
+/// A file set descriptor is valid and names this ICB of the root if and only if it does so by its table (ECMA-167 4/14.1).
+pub fn file_sets_are_by_the_table()
+    ensures { FileSetLaw }
+{}
+
+/// An entry has no fault and these fields if and only if it is so by the table of file entries or that of extended ones: the tag's
+/// identifier, strategy 4, a form that is read, and attributes and descriptors that lie in the block (ECMA-167 4/14.6, 4/14.9, 4/14.17).
+pub fn entries_are_by_the_table()
+    ensures { EntryLaw }
 {}
 
 /// An extent of the volume is read as its table gives it, and in no other way (ECMA-167 3/7.1).
@@ -22,18 +57,24 @@ pub fn long_descriptors_are_by_the_table()
     ensures { LongAdLaw }
 {}
 
-/// In a block, an anchor is valid and names two extents if and only if it does by its table (ECMA-167 3/10.2).
-pub fn anchors_are_by_the_table()
-    ensures { AnchorLaw }
+/// The descriptors of an area are those that stand in it, one after the other, each as its table gives it.
+pub fn areas_are_by_the_table()
+    ensures { AreaLaw }
 {}
 
-/// In a block, a partition descriptor is valid, with good contents and these fields, if and only if it is so by its table (ECMA-167 3/10.5).
-pub fn partitions_are_by_the_table()
-    ensures { PartitionLaw }
+/// An allocation extent descriptor is valid and has this area if and only if it is so by its table: the area lies in the block and its
+/// descriptors are whole (ECMA-167 4/14.5).
+pub fn continuations_are_by_the_table()
+    ensures { AllocationExtentLaw }
 {}
 
-/// In a block, a logical volume descriptor is valid and has no fault, and has these maps and fields, if and only if it is so by its table and
-/// those of the partition maps (ECMA-167 3/10.6, 3/10.7; UDF 2.2.4, 2.2.9).
-pub fn logical_volumes_are_by_the_table()
-    ensures { VolumeLaw }
+/// A piece of a directory's body is one file identifier descriptor if and only if it is so by its table: the tag's identifier, the length
+/// with its padding, and the entry unless it is deleted or the parent's (ECMA-167 4/14.4).
+pub fn identifiers_are_by_the_table()
+    ensures { IdentifierLaw }
+{}
+
+/// The units of a name are those that compressed Unicode gives, of 8 bits or of 16 (UDF 2.1.1).
+pub fn names_are_by_the_table()
+    ensures { NameLaw }
 {}
