@@ -1,0 +1,4 @@
+pub mod TwoFiles
+pub mod Layouts
+pub mod Nodes
+pub mod Lawful

@@ -1,0 +1,9 @@
+//! The law, the contract of a function that does nothing.
+ghost use Rattle.udfs_lawful.specs.Laws.{SomeManyForms};
+
+/// There is a lawful volume, by the strict rules, of UDF 2.01, with a spared packet, in which entries, descriptors, directories and names have
+/// forms that the volumes of `some_volume_is_lawful` have not: an extended entry, long descriptors, a continuation, an extent that is not
+/// recorded, a directory over two blocks, a name of a 16-bit unit, and a CRC of 208 bytes.
+pub fn some_lawful_volume_has_many_forms()
+    ensures { SomeManyForms }
+{}
