@@ -6,5 +6,6 @@ pub mod VolumeTables
 pub mod EntryTables
 pub mod AreaTables
 pub mod IdentifierTables
+pub mod SparingTables
 pub mod Rows
 pub mod PublicLaws

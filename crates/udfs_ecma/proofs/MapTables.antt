@@ -25,14 +25,14 @@ all_of true true p q = refl
 all_of true false p q = absurd (let z : ⊥ = cc in z)
 all_of false b p q = absurd (let z : ⊥ = cc in z)
 
-within_if : (low high n : ℕ) → is_within low high n ≡ true → (low ≤ n) × (n ≤ high)
+pub within_if : (low high n : ℕ) → is_within low high n ≡ true → (low ≤ n) × (n ≤ high)
 within_if low high n h = go (nat_le low n) refl h
   where
     go : (b : Bool) → nat_le low n ≡ b → cond b (nat_le n high) false ≡ true → (low ≤ n) × (n ≤ high)
     go true e h = (leb-true low n e, leb-true n high h)
     go false e h = absurd (let z : ⊥ = cc in z)
 
-within_of : (low high n : ℕ) → low ≤ n → n ≤ high → is_within low high n ≡ true
+pub within_of : (low high n : ℕ) → low ≤ n → n ≤ high → is_within low high n ≡ true
 within_of low high n p q = ap (λ b. cond b (nat_le n high) false) (le-leb low n p) ∙ le-leb n high q
 
 -- a number among some, by the test

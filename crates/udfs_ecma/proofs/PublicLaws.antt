@@ -1,10 +1,11 @@
 -- The laws of this crate, each with the statement that the function of its name in src/laws.rt ensures.
-use Rattle.udfs_ecma.specs.Laws.{AllocationExtentLaw, AnchorLaw, AreaLaw, EntryLaw, ExtentAdLaw, FileSetLaw, IdentifierLaw, LongAdLaw, NameLaw, PartitionLaw, ShortAdLaw, TablesFollowOn, TagLaw, VolumeLaw}
+use Rattle.udfs_ecma.specs.Laws.{AllocationExtentLaw, AnchorLaw, AreaLaw, EntryLaw, ExtentAdLaw, FileSetLaw, IdentifierLaw, LongAdLaw, NameLaw, PartitionLaw, ShortAdLaw, SoundTagLaw, SparingLaw, TablesFollowOn, TagLaw, VolumeLaw}
 use Rattle.udfs_ecma.proofs.AreaTables as areas
 use Rattle.udfs_ecma.proofs.EntryTables as entries
 use Rattle.udfs_ecma.proofs.ExtentTables as extents
 use Rattle.udfs_ecma.proofs.IdentifierTables as identifiers
 use Rattle.udfs_ecma.proofs.Rows as rows
+use Rattle.udfs_ecma.proofs.SparingTables as sparing
 use Rattle.udfs_ecma.proofs.TagTables as tags
 use Rattle.udfs_ecma.proofs.VolumeTables as volumes
 
@@ -14,6 +15,9 @@ tables_leave_out_no_byte = rows.tables_follow_on
 pub tags_are_by_the_table : TagLaw
 tags_are_by_the_table = tags.tag_law
 
+pub sound_tags_are_by_the_table : SoundTagLaw
+sound_tags_are_by_the_table = tags.sound_tag_law
+
 pub anchors_are_by_the_table : AnchorLaw
 anchors_are_by_the_table = volumes.anchor_law
 
@@ -22,6 +26,9 @@ partitions_are_by_the_table = volumes.partition_law
 
 pub logical_volumes_are_by_the_table : VolumeLaw
 logical_volumes_are_by_the_table = volumes.volume_law
+
+pub sparing_tables_are_by_the_table : SparingLaw
+sparing_tables_are_by_the_table = sparing.sparing_law
 
 pub file_sets_are_by_the_table : FileSetLaw
 file_sets_are_by_the_table = identifiers.file_set_law

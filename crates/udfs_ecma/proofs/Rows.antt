@@ -15,4 +15,5 @@ tables_follow_on = record {
   volumes = (refl, (refl, (refl, (refl, (refl, (refl, (refl, (refl, (refl, (refl, (refl, (refl, refl))))))))))));
   type1_maps = (refl, (refl, (refl, (refl, refl))));
   sparable_maps = (refl, (refl, (refl, (refl, (refl, (refl, (refl, (refl, (refl, (refl, (refl, refl)))))))))));
+  sparing = (refl, (refl, (refl, (refl, (refl, refl)))));
 }

@@ -1,15 +1,15 @@
 -- A tag is valid exactly if it is one by the table.
 use Rattle.std.proofs.Common.{◌≡◌, refl, sym, ◌∙◌, ap, subst, inl, inr, ◌⊎◌, ℕ, ◌+◌, ◌%◌, ◌≤◌, true, List, length, take, sum, arith, eqb-true}
-use Rattle.std.specs.Prelude.{Result, Ok, Err}
+use Rattle.std.specs.Prelude.{Result, Ok, Err, is_ok}
 use Rattle.std.proofs.lemmas.Bool.{eq-eqb}
 use Rattle.udfs_tag.specs.Crc.{message, IsRemainder}
 use Rattle.udfs_tag.specs.Fields.{part, uint16_at}
-use Rattle.udfs_tag.specs.Tags.{HasTagFault, IsAccepted, checksum_of, covered, covered_len, has_identifier, tag_of}
+use Rattle.udfs_tag.specs.Tags.{HasTagFault, IsAccepted, checksum_of, covered, covered_len, has_identifier, tag_of, identifier}
 use Rattle.udfs_tag.specs.declared.tags.Tag.{Tag}
 use Rattle.udfs_tag.specs.declared.tags.TagFault.{TagFault}
 use Rattle.udfs_tag.specs.declared.tags.TagFault.TheVariants.{Checksum, Version, CrcLength, Crc, Location}
 use Rattle.udfs_tag.proofs.FaultLemmas.{Judges, judges}
-use Rattle.udfs_ecma.specs.Laws.{TagLaw}
+use Rattle.udfs_ecma.specs.Laws.{AreBytes, SoundTagLaw, TagLaw}
 use Rattle.udfs_ecma.specs.Tables.{row, Holds}
 use Rattle.udfs_ecma.specs.Tags.{IsChecksum, IsTagged}
 use Rattle.udfs_ecma.proofs.Reading.{bytes_below, field_fits, field_is, field_of, holds_is, holds_of, holds_by, byte_is, byte_by}
@@ -77,4 +77,19 @@ pub tag_law : TagLaw
 tag_law bytes b place id = (
   λ e. tagged_by bytes place id (tag_of bytes place) (judges bytes place (bytes_below bytes b)) e,
   λ h. valid_by bytes place id h (tag_of bytes place) (judges bytes place (bytes_below bytes b)),
+)
+
+-- ---- whatever the identifier
+sound_by : (bytes : List ℕ) (place id : ℕ) (r : Result Tag TagFault) → Judges bytes place r → is_ok r ≡ true → identifier bytes ≡ id → IsTagged bytes id place
+sound_by bytes place id (Ok tag) a e q = subst (λ n. IsTagged bytes n place) (a.identified ∙ q) (tagged bytes place tag a)
+sound_by bytes place id (Err f) a e q = absurd (let z : ⊥ = cc in z)
+
+is_ok_by : (r : Result Tag TagFault) (id : ℕ) → has_identifier r id ≡ true → is_ok r ≡ true
+is_ok_by (Ok tag) id e = refl
+is_ok_by (Err f) id e = absurd (let z : ⊥ = cc in z)
+
+pub sound_tag_law : SoundTagLaw
+sound_tag_law bytes b place id = (
+  λ h. sound_by bytes place id (tag_of bytes place) (judges bytes place (bytes_below bytes b)) h.0 h.1,
+  λ h. (is_ok_by (tag_of bytes place) id (valid_by bytes place id h (tag_of bytes place) (judges bytes place (bytes_below bytes b))), holds_is bytes 0 2 id h.identifier),
 )

@@ -87,11 +87,11 @@ pub anchor_law : AnchorLaw
 anchor_law bytes block place e = (λ h. anchor_from bytes block place e h, λ h. anchor_to bytes block place e h)
 
 -- ---- what is read after the tag
-after_tag : (bytes : List ℕ) (w q : ℕ) → little_number w (drop q (drop 16 bytes)) ≡ little_number w (drop (16 + q) bytes)
+pub after_tag : (bytes : List ℕ) (w q : ℕ) → little_number w (drop q (drop 16 bytes)) ≡ little_number w (drop (16 + q) bytes)
 after_tag bytes w q = ap (little_number w) (drop-drop q 16 bytes)
 
 -- the identifier of an entity there
-name_after : (bytes : List ℕ) (q : ℕ) → (regid_at (drop 16 bytes) q).name ≡ part bytes (16 + q + 1) 23
+pub name_after : (bytes : List ℕ) (q : ℕ) → (regid_at (drop 16 bytes) q).name ≡ part bytes (16 + q + 1) 23
 name_after bytes q = ap (λ x. take 23 (drop 1 x)) (drop-drop q 16 bytes) ∙ ap (take 23) (drop-drop 1 (16 + q) bytes)
 
 either_if : (a b : Bool) → (a || b) ≡ true → (a ≡ true) ⊎ (b ≡ true)

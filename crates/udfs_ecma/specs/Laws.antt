@@ -2,7 +2,7 @@
 use Rattle.std.specs.Prelude.{◌≡◌, ◌<◌, ◌≤◌, ◌↔◌, ◌⊎◌, ℕ, true, List, length, drop, map, All, Some, None, Ok}
 use Rattle.udfs_lattice.specs.States.{IsBlock}
 use Rattle.udfs_tag.specs.Fields.{uint16_at, uint32_at, extent_ad_of, short_ad_of, long_ad_at, long_ad_of, part}
-use Rattle.udfs_tag.specs.Tags.{identifier, is_valid}
+use Rattle.udfs_tag.specs.Tags.{identifier, is_sound, is_valid}
 use Rattle.udfs_tag.specs.declared.layouts.ExtentAd.{ExtentAd}
 use Rattle.udfs_tag.specs.declared.layouts.ShortAd.{ShortAd}
 use Rattle.udfs_tag.specs.declared.layouts.LongAd.{LongAd}
@@ -12,12 +12,16 @@ use Rattle.udfs_volume.specs.declared.profiles.Profile.{Profile}
 use Rattle.udfs_volume.specs.Layout.{PartitionMap, bp, has_contents, partition_number, partition_of, sequence_number, the_maps, volume_fault}
 use Rattle.udfs_volume.specs.Sequence.{Descriptor, extents_of}
 use Rattle.udfs_osta.specs.Names.{units_of}
+use Rattle.udfs_volume.specs.Answers.{found}
+use Rattle.udfs_space.specs.declared.entries.SparingEntry.{SparingEntry}
+use Rattle.udfs_space.specs.Sparing.{spared_from}
 use Rattle.udfs_file.specs.Entries.{EntryFields, entry_fault, entry_of}
 use Rattle.udfs_file.specs.Identifiers.{Identifier}
 use Rattle.udfs_file.specs.Standard.{IsExtentAt, IsIdentifierIn, Located, MayName, recorded_in}
 use Rattle.udfs_ecma.specs.Entries.{IsEntryAt, extended_rows, file_entry_rows, first_rows, icb_table}
 use Rattle.udfs_ecma.specs.Extents.{AreRecorded, AreWhole, IsAllocationExtent, IsExtentAd, IsShortAd, IsLongAd}
 use Rattle.udfs_ecma.specs.Identifiers.{AreCharacters, IsFileSet, IsIdentifierAt, identifier_table}
+use Rattle.udfs_ecma.specs.Sparing.{IsSparingTable, sparing_rows}
 use Rattle.udfs_ecma.specs.Tables.{FollowOn}
 use Rattle.udfs_ecma.specs.Tags.{IsTagged, tag_table}
 use Rattle.udfs_ecma.specs.Volumes.{PartitionFields, VolumeFields, IsAnchorAt, IsPartitionAt, IsVolumeAt, anchor_table, partition_table, sparable_table, type1_table, volume_table}
@@ -29,6 +33,10 @@ AreBytes bytes = All (λ x. x < 256) bytes
 -- a tag is valid exactly if it is one by the table
 abbrev pub TagLaw : Type 0
 TagLaw = (bytes : List ℕ) → AreBytes bytes → (place id : ℕ) → (is_valid bytes place id ≡ true) ↔ IsTagged bytes id place
+
+-- a tag is sound, whatever its identifier, exactly if it is one by the table
+abbrev pub SoundTagLaw : Type 0
+SoundTagLaw = (bytes : List ℕ) → AreBytes bytes → (place id : ℕ) → ((is_sound bytes place ≡ true) × (identifier bytes ≡ id)) ↔ IsTagged bytes id place
 
 -- an extent of the volume is read exactly as its table gives it
 abbrev pub ExtentAdLaw : Type 0
@@ -79,6 +87,11 @@ abbrev pub VolumeLaw : Type 0
 VolumeLaw = (profile : Profile) (last : ℕ) (bytes : List ℕ) → IsBlock bytes → (place : ℕ) (v : VolumeFields)
     → IsReadVolume profile last bytes place v ↔ IsVolumeAt profile last bytes place v
 
+-- the bytes of a sparing table have no fault and these used entries exactly if its table says so
+abbrev pub SparingLaw : Type 0
+SparingLaw = (last packet : ℕ) (bytes : List ℕ) → AreBytes bytes → 56 ≤ length bytes → (place : ℕ) (es : List SparingEntry)
+    → (spared_from last packet (length bytes) (is_valid bytes place 0) (drop 16 bytes) ≡ found es) ↔ IsSparingTable last packet bytes place es
+
 -- whole descriptors of an area are read exactly as their tables give them, one after the other
 abbrev pub AreaLaw : Type 0
 AreaLaw = (form r : ℕ) (area : List ℕ) → AreBytes area → AreWhole form (length area) → (ds : List LongAd)
@@ -125,3 +138,4 @@ pub record TablesFollowOn : Type 0 where
   pub volumes : FollowOn 0 volume_table 440
   pub type1_maps : FollowOn 0 type1_table 6
   pub sparable_maps : FollowOn 0 sparable_table 64
+  pub sparing : FollowOn 0 sparing_rows 56

@@ -4,4 +4,5 @@ pub mod Extents
 pub mod Entries
 pub mod Identifiers
 pub mod Volumes
+pub mod Sparing
 pub mod Laws

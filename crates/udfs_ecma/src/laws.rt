@@ -2,7 +2,7 @@
 //!
 //! Each says "if and only if": what is read of the bytes is what the table gives, the table gives nothing else, and what is refused has no such
 //! fields by the table.
-ghost use Rattle.udfs_ecma.specs.Laws.{AllocationExtentLaw, AnchorLaw, AreaLaw, EntryLaw, ExtentAdLaw, FileSetLaw, IdentifierLaw, LongAdLaw, NameLaw, PartitionLaw, ShortAdLaw, TablesFollowOn, TagLaw, VolumeLaw};
+ghost use Rattle.udfs_ecma.specs.Laws.{AllocationExtentLaw, AnchorLaw, AreaLaw, EntryLaw, ExtentAdLaw, FileSetLaw, IdentifierLaw, LongAdLaw, NameLaw, PartitionLaw, ShortAdLaw, SoundTagLaw, SparingLaw, TablesFollowOn, TagLaw, VolumeLaw};
 
 /// The rows of each table follow one another: they leave out no byte, and no byte is in two of them.
 pub fn tables_leave_out_no_byte()
@@ -13,6 +13,11 @@ pub fn tables_leave_out_no_byte()
 /// their byte positions (ECMA-167 3/7.2, 4/7.2).
 pub fn tags_are_by_the_table()
     ensures { TagLaw }
+{}
+
+/// A tag is sound at a place, whatever its identifier, if and only if it is so by its table, with that identifier.
+pub fn sound_tags_are_by_the_table()
+    ensures { SoundTagLaw }
 {}
 
 /// An anchor is valid and names two extents if and only if it does so by its table (ECMA-167 3/10.2).
@@ -29,6 +34,12 @@ pub fn partitions_are_by_the_table()
 /// the partition maps (ECMA-167 3/10.6, 3/10.7; UDF 2.2.4, 2.2.9).
 pub fn logical_volumes_are_by_the_table()
     ensures { VolumeLaw }
+{}
+
+/// The bytes of a sparing table have no fault and these used entries if and only if it is so by its table: its tag and identifier, as many
+/// entries as it says, in order, of whole packets, and mapped to blocks of the volume (UDF 2.2.11).
+pub fn sparing_tables_are_by_the_table()
+    ensures { SparingLaw }
 {}
 
 /// A file set descriptor is valid and names this ICB of the root if and only if it does so by its table (ECMA-167 4/14.1).
