@@ -7,5 +7,6 @@ pub mod EntryTables
 pub mod AreaTables
 pub mod IdentifierTables
 pub mod SparingTables
+pub mod TextTables
 pub mod Rows
 pub mod PublicLaws

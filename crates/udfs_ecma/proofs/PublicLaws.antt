@@ -1,5 +1,5 @@
 -- The laws of this crate, each with the statement that the function of its name in src/laws.rt ensures.
-use Rattle.udfs_ecma.specs.Laws.{AllocationExtentLaw, AnchorLaw, AreaLaw, EntryLaw, ExtentAdLaw, FileSetLaw, IdentifierLaw, LongAdLaw, NameLaw, PartitionLaw, ShortAdLaw, SoundTagLaw, SparingLaw, TablesFollowOn, TagLaw, VolumeLaw}
+use Rattle.udfs_ecma.specs.Laws.{AllocationExtentLaw, AnchorLaw, AreaLaw, EntryLaw, ExtentAdLaw, FileSetLaw, IdentifierLaw, LabelLaw, LongAdLaw, NameLaw, PartitionLaw, ShortAdLaw, SoundTagLaw, SparingLaw, StampLaw, TablesFollowOn, TagLaw, VolumeLaw}
 use Rattle.udfs_ecma.proofs.AreaTables as areas
 use Rattle.udfs_ecma.proofs.EntryTables as entries
 use Rattle.udfs_ecma.proofs.ExtentTables as extents
@@ -7,6 +7,7 @@ use Rattle.udfs_ecma.proofs.IdentifierTables as identifiers
 use Rattle.udfs_ecma.proofs.Rows as rows
 use Rattle.udfs_ecma.proofs.SparingTables as sparing
 use Rattle.udfs_ecma.proofs.TagTables as tags
+use Rattle.udfs_ecma.proofs.TextTables as texts
 use Rattle.udfs_ecma.proofs.VolumeTables as volumes
 
 pub tables_leave_out_no_byte : TablesFollowOn
@@ -56,3 +57,9 @@ identifiers_are_by_the_table = identifiers.identifier_law
 
 pub names_are_by_the_table : NameLaw
 names_are_by_the_table = identifiers.name_law
+
+pub labels_are_by_the_table : LabelLaw
+labels_are_by_the_table = texts.label_law
+
+pub stamps_are_by_the_table : StampLaw
+stamps_are_by_the_table = texts.stamp_law

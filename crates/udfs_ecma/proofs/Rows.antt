@@ -16,4 +16,5 @@ tables_follow_on = record {
   type1_maps = (refl, (refl, (refl, (refl, refl))));
   sparable_maps = (refl, (refl, (refl, (refl, (refl, (refl, (refl, (refl, (refl, (refl, (refl, refl)))))))))));
   sparing = (refl, (refl, (refl, (refl, (refl, refl)))));
+  stamps = (refl, (refl, (refl, (refl, (refl, (refl, (refl, (refl, (refl, (refl, refl))))))))));
 }

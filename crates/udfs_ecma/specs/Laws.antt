@@ -1,5 +1,5 @@
 -- What is read of the bytes of a descriptor is what its table gives, and nothing else: both ways, for whatever bytes.
-use Rattle.std.specs.Prelude.{◌≡◌, ◌<◌, ◌≤◌, ◌↔◌, ◌⊎◌, ℕ, true, List, length, drop, map, All, Some, None, Ok}
+use Rattle.std.specs.Prelude.{◌≡◌, ◌<◌, ◌≤◌, ◌↔◌, ◌⊎◌, ℕ, true, List, length, drop, map, slice_index, All, Some, None, Ok}
 use Rattle.udfs_lattice.specs.States.{IsBlock}
 use Rattle.udfs_tag.specs.Fields.{uint16_at, uint32_at, extent_ad_of, short_ad_of, long_ad_at, long_ad_of, part}
 use Rattle.udfs_tag.specs.Tags.{identifier, is_sound, is_valid}
@@ -11,6 +11,8 @@ use Rattle.udfs_volume.specs.declared.anchors.AnchorExtents.{AnchorExtents}
 use Rattle.udfs_volume.specs.declared.profiles.Profile.{Profile}
 use Rattle.udfs_volume.specs.Layout.{PartitionMap, bp, has_contents, partition_number, partition_of, sequence_number, the_maps, volume_fault}
 use Rattle.udfs_volume.specs.Sequence.{Descriptor, extents_of}
+use Rattle.udfs_osta.specs.declared.labels.Label.{Label}
+use Rattle.udfs_osta.specs.Stamps.{offset_bits, stamp_kind, year_of}
 use Rattle.udfs_osta.specs.Names.{units_of}
 use Rattle.udfs_volume.specs.Answers.{found}
 use Rattle.udfs_space.specs.declared.entries.SparingEntry.{SparingEntry}
@@ -24,6 +26,7 @@ use Rattle.udfs_ecma.specs.Identifiers.{AreCharacters, IsFileSet, IsIdentifierAt
 use Rattle.udfs_ecma.specs.Sparing.{IsSparingTable, sparing_rows}
 use Rattle.udfs_ecma.specs.Tables.{FollowOn}
 use Rattle.udfs_ecma.specs.Tags.{IsTagged, tag_table}
+use Rattle.udfs_ecma.specs.Texts.{HasStampFields, IsDstring, StampFields, stamp_rows}
 use Rattle.udfs_ecma.specs.Volumes.{PartitionFields, VolumeFields, IsAnchorAt, IsPartitionAt, IsVolumeAt, anchor_table, partition_table, sparable_table, type1_table, volume_table}
 
 -- these are bytes
@@ -111,6 +114,28 @@ EntryLaw = (bytes : List ℕ) → IsBlock bytes → (place : ℕ) (e : EntryFiel
 abbrev pub NameLaw : Type 0
 NameLaw = (name units : List ℕ) → (units_of name ≡ Ok units) ↔ AreCharacters name units
 
+-- a timestamp is read with these fields, of which its moment is computed
+pub record IsReadStamp (bytes : List ℕ) (f : StampFields) : Type 0 where
+  pub kind : stamp_kind bytes ≡ f.kind
+  pub zone : offset_bits bytes ≡ f.zone
+  pub year : year_of bytes ≡ f.year
+  pub month : slice_index bytes 4 ≡ f.month
+  pub day : slice_index bytes 5 ≡ f.day
+  pub hour : slice_index bytes 6 ≡ f.hour
+  pub minute : slice_index bytes 7 ≡ f.minute
+  pub second : slice_index bytes 8 ≡ f.second
+  pub centiseconds : slice_index bytes 9 ≡ f.centiseconds
+  pub hundreds : slice_index bytes 10 ≡ f.hundreds
+  pub microseconds : slice_index bytes 11 ≡ f.microseconds
+
+-- so it is exactly if its table gives them
+abbrev pub StampLaw : Type 0
+StampLaw = (bytes : List ℕ) → AreBytes bytes → length bytes ≡ 12 → (f : StampFields) → IsReadStamp bytes f ↔ HasStampFields bytes f
+
+-- a label is read exactly as a dstring says it
+abbrev pub LabelLaw : Type 0
+LabelLaw = (bytes : List ℕ) → length bytes ≡ 128 → (label : Label) → (label_of bytes ≡ label) ↔ IsDstring bytes label
+
 -- the bytes of a piece of a body, without the blocks that hold them
 abbrev pub bytes_in : List Located → List ℕ
 bytes_in piece = map (λ x. x.0) piece
@@ -139,3 +164,4 @@ pub record TablesFollowOn : Type 0 where
   pub type1_maps : FollowOn 0 type1_table 6
   pub sparable_maps : FollowOn 0 sparable_table 64
   pub sparing : FollowOn 0 sparing_rows 56
+  pub stamps : FollowOn 0 stamp_rows 12

@@ -5,4 +5,5 @@ pub mod Entries
 pub mod Identifiers
 pub mod Volumes
 pub mod Sparing
+pub mod Texts
 pub mod Laws

@@ -2,7 +2,7 @@
 //!
 //! Each says "if and only if": what is read of the bytes is what the table gives, the table gives nothing else, and what is refused has no such
 //! fields by the table.
-ghost use Rattle.udfs_ecma.specs.Laws.{AllocationExtentLaw, AnchorLaw, AreaLaw, EntryLaw, ExtentAdLaw, FileSetLaw, IdentifierLaw, LongAdLaw, NameLaw, PartitionLaw, ShortAdLaw, SoundTagLaw, SparingLaw, TablesFollowOn, TagLaw, VolumeLaw};
+ghost use Rattle.udfs_ecma.specs.Laws.{AllocationExtentLaw, AnchorLaw, AreaLaw, EntryLaw, ExtentAdLaw, FileSetLaw, IdentifierLaw, LabelLaw, LongAdLaw, NameLaw, PartitionLaw, ShortAdLaw, SoundTagLaw, SparingLaw, StampLaw, TablesFollowOn, TagLaw, VolumeLaw};
 
 /// The rows of each table follow one another: they leave out no byte, and no byte is in two of them.
 pub fn tables_leave_out_no_byte()
@@ -88,4 +88,14 @@ pub fn identifiers_are_by_the_table()
 /// The units of a name are those that compressed Unicode gives, of 8 bits or of 16 (UDF 2.1.1).
 pub fn names_are_by_the_table()
     ensures { NameLaw }
+{}
+
+/// A label of 128 bytes is empty, a name or not valid exactly as a dstring is (ECMA-167 1/7.2.12, UDF 2.1.3).
+pub fn labels_are_by_the_table()
+    ensures { LabelLaw }
+{}
+
+/// The fields of a timestamp, of which its moment is computed, are those of its table (ECMA-167 1/7.3).
+pub fn stamps_are_by_the_table()
+    ensures { StampLaw }
 {}
