@@ -101,7 +101,7 @@ module _ (size : ℕ) (one : List ℕ → LongAd) (fronts : (xs ys : List ℕ) �
 
 -- ---- the two forms
 -- the pieces of bytes are bytes
-split : (area piece rest : List ℕ) → AreBytes area → area ≡ piece ++ rest → AreBytes piece × AreBytes rest
+pub split : (area piece rest : List ℕ) → AreBytes area → area ≡ piece ++ rest → AreBytes piece × AreBytes rest
 split area piece rest b e = (
   All-same (λ x. x < 256) piece (take (length piece) area) (sym (ap (take (length piece)) e ∙ take_at piece rest (length piece) refl)) (All-take (λ x. x < 256) (length piece) area b),
   All-same (λ x. x < 256) rest (drop (length piece) area) (sym (ap (drop (length piece)) e ∙ drop_at piece rest (length piece) refl)) (All-drop (λ x. x < 256) (length piece) area b),

@@ -12,8 +12,9 @@ use Rattle.udfs_file.specs.Fronts.{entry_with, identifier_in, identifier_size, i
 use Rattle.udfs_file.specs.Identifiers.{Identifier, One}
 use Rattle.udfs_file.specs.Standard.{IsIdentifierIn, Located, MayName}
 use Rattle.udfs_file.specs.declared.directories.DirEntry.{DirEntry}
+use Rattle.udfs_ecma.specs.Files.{bytes_in}
 use Rattle.udfs_ecma.specs.Identifiers.{AreCharacters, ArePairs, IsIdentifierAt, Lists}
-use Rattle.udfs_ecma.specs.Laws.{AreBytes, FileSetLaw, IdentifierLaw, NameLaw, bytes_in}
+use Rattle.udfs_ecma.specs.Laws.{AreBytes, FileSetLaw, IdentifierLaw, NameLaw}
 use Rattle.udfs_ecma.specs.Tables.{HasBits}
 use Rattle.udfs_ecma.proofs.EntryTables.{unequal}
 use Rattle.udfs_ecma.proofs.ExtentTables.{long_from_row, long_in_row}

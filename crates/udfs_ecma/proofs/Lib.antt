@@ -6,6 +6,7 @@ pub mod VolumeTables
 pub mod EntryTables
 pub mod AreaTables
 pub mod IdentifierTables
+pub mod FileTables
 pub mod SparingTables
 pub mod TextTables
 pub mod Rows

@@ -1,8 +1,9 @@
 -- The laws of this crate, each with the statement that the function of its name in src/laws.rt ensures.
-use Rattle.udfs_ecma.specs.Laws.{AllocationExtentLaw, AnchorLaw, AreaLaw, EntryLaw, ExtentAdLaw, FileSetLaw, IdentifierLaw, LabelLaw, LongAdLaw, NameLaw, PartitionLaw, ShortAdLaw, SoundTagLaw, SparingLaw, StampLaw, TablesFollowOn, TagLaw, VolumeLaw}
+use Rattle.udfs_ecma.specs.Laws.{AllocationExtentLaw, AnchorLaw, AreaLaw, DirectoryLaw, EntryLaw, ExtentAdLaw, FileLaw, FileSetLaw, IdentifierLaw, LabelLaw, LongAdLaw, NameLaw, PartitionLaw, ShortAdLaw, SoundTagLaw, SparingLaw, StampLaw, TablesFollowOn, TagLaw, VolumeLaw}
 use Rattle.udfs_ecma.proofs.AreaTables as areas
 use Rattle.udfs_ecma.proofs.EntryTables as entries
 use Rattle.udfs_ecma.proofs.ExtentTables as extents
+use Rattle.udfs_ecma.proofs.FileTables as files
 use Rattle.udfs_ecma.proofs.IdentifierTables as identifiers
 use Rattle.udfs_ecma.proofs.Rows as rows
 use Rattle.udfs_ecma.proofs.SparingTables as sparing
@@ -63,3 +64,9 @@ labels_are_by_the_table = texts.label_law
 
 pub stamps_are_by_the_table : StampLaw
 stamps_are_by_the_table = texts.stamp_law
+
+pub files_are_by_the_tables : FileLaw
+files_are_by_the_tables = files.file_law
+
+pub directories_are_by_the_tables : DirectoryLaw
+directories_are_by_the_tables = files.directory_law

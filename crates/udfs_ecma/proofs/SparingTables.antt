@@ -1,5 +1,5 @@
 -- Sparing tables are read as their table gives them.
-use Rattle.std.proofs.Common.{◌≡◌, ◌≢◌, refl, sym, ◌∙◌, ap, subst, inl, inr, ◌⊎◌, ℕ, ◌+◌, ◌-◌, ◌*◌, ◌%◌, ◌^◌, ◌<◌, ◌≤◌, Bool, true, false, not, List, [], ◌∷◌, length, map, take, drop, cond, ◌&&◌, ◌||◌, arith, Option, Some, None, nat_eq, nat_lt, eqb-true}
+use Rattle.std.proofs.Common.{◌≡◌, ◌≢◌, refl, sym, ◌∙◌, ap, subst, inl, inr, ◌⊎◌, ℕ, ◌+◌, ◌-◌, ◌*◌, ◌%◌, ◌^◌, ◌<◌, ◌≤◌, Bool, true, false, not, List, [], ◌∷◌, length, map, drop, cond, ◌&&◌, ◌||◌, arith, None, nat_eq, nat_lt, eqb-true}
 use Rattle.std.specs.Prelude.{zero, suc, codes, filter}
 use Rattle.std.specs.List.{list_any, range_with_len}
 use Rattle.std.specs.Str.{bytes_eq}
@@ -11,8 +11,7 @@ use Rattle.byteorder.specs.Endian.{little_number}
 use Rattle.udfs_tag.specs.Faults.{first_fault, is_within}
 use Rattle.udfs_tag.specs.Fields.{part, regid_at, uint16_at, uint32_at, zero_filled}
 use Rattle.udfs_tag.specs.Tags.{is_valid}
-use Rattle.udfs_volume.specs.Answers.{Answer, found, unless_fault}
-use Rattle.udfs_volume.specs.declared.faults.VolumeFault.{VolumeFault}
+use Rattle.udfs_volume.specs.Answers.{found, unless_fault}
 use Rattle.udfs_volume.specs.declared.faults.VolumeFault.TheVariants.{SparingTag, SparingShape, SparingOrder, MappedRange}
 use Rattle.udfs_volume.proofs.Bounds.{unless_fault-found}
 use Rattle.udfs_volume.proofs.Known.{both}
@@ -20,8 +19,6 @@ use Rattle.udfs_space.specs.declared.entries.SparingEntry.{SparingEntry}
 use Rattle.udfs_space.specs.Sparing.{breaks_order, entries, entry_count, is_bad_original, is_misshapen, is_out_of_order, is_sparing_table, is_used, passes_end, spared_from, spared_in, sparing_entry_of, sparing_fault}
 use Rattle.udfs_ecma.specs.Laws.{AreBytes, SparingLaw}
 use Rattle.udfs_ecma.specs.Sparing.{AreEntries, AreInOrder, AreUsedOf, Each, IsGood, IsInside, IsSparingTable, IsUsed}
-use Rattle.udfs_ecma.specs.Tables.{IsField, Holds, row}
-use Rattle.udfs_ecma.specs.Volumes.{IsEntity}
 use Rattle.udfs_ecma.proofs.MapTables.{all_of, entity_is, entity_of, range_shift, within_if, within_of}
 use Rattle.udfs_ecma.proofs.Reading.{field_is, field_of, holds_by, holds_fits, holds_is, holds_of, inner_part, number_below}
 use Rattle.udfs_ecma.proofs.TagTables.{tag_law}
@@ -160,10 +157,11 @@ order_if : (es : List SparingEntry) → is_out_of_order es ≡ false → AreInOr
 order_if [] h = tt
 order_if (e ∷ []) h = tt
 order_if (e ∷ f ∷ es) h = let n : (breaks_order e f ≡ false) × (is_out_of_order (f ∷ es) ≡ false) = neither (breaks_order e f) (is_out_of_order (f ∷ es)) h in
-    let m : (nat_lt f.original e.original ≡ false) × ((is_used e && nat_eq f.original e.original) ≡ false) = neither (nat_lt f.original e.original) (is_used e && nat_eq f.original e.original) n.0 in
-    (ltb-false f.original e.original m.0,
-    λ u q. let z : true ≡ false = sym (λ i. use_of e u i && eq-eqb f.original e.original q i) ∙ m.1 in let no : ⊥ = cc in no,
-    order_if (f ∷ es) n.1)
+    let m : (nat_lt f.original e.original ≡ false) × ((is_used e && nat_eq f.original e.original) ≡ false) = neither (nat_lt f.original e.original) (is_used e && nat_eq f.original e.original) n.0 in (
+      ltb-false f.original e.original m.0,
+      λ u q. let z : true ≡ false = sym (λ i. use_of e u i && eq-eqb f.original e.original q i) ∙ m.1 in let no : ⊥ = cc in no,
+      order_if (f ∷ es) n.1,
+    )
 
 order_of : (es : List SparingEntry) → AreInOrder es → is_out_of_order es ≡ false
 order_of [] h = refl

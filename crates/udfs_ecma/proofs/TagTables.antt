@@ -9,7 +9,7 @@ use Rattle.udfs_tag.specs.declared.tags.Tag.{Tag}
 use Rattle.udfs_tag.specs.declared.tags.TagFault.{TagFault}
 use Rattle.udfs_tag.specs.declared.tags.TagFault.TheVariants.{Checksum, Version, CrcLength, Crc, Location}
 use Rattle.udfs_tag.proofs.FaultLemmas.{Judges, judges}
-use Rattle.udfs_ecma.specs.Laws.{AreBytes, SoundTagLaw, TagLaw}
+use Rattle.udfs_ecma.specs.Laws.{SoundTagLaw, TagLaw}
 use Rattle.udfs_ecma.specs.Tables.{row, Holds}
 use Rattle.udfs_ecma.specs.Tags.{IsChecksum, IsTagged}
 use Rattle.udfs_ecma.proofs.Reading.{bytes_below, field_fits, field_is, field_of, holds_is, holds_of, holds_by, byte_is, byte_by}

@@ -1,24 +1,22 @@
 -- Timestamps and dstrings are read as their tables give them.
-use Rattle.std.proofs.Common.{◌≡◌, ◌≢◌, refl, sym, ◌∙◌, ap, subst, inl, inr, ◌⊎◌, ℕ, ◌+◌, ◌*◌, ◌/◌, ◌%◌, ◌^◌, ◌<◌, ◌≤◌, Bool, true, false, List, [], ◌∷◌, length, take, drop, get_or, cond, arith, nat_eq, nat_lt, eqb-true}
+use Rattle.std.proofs.Common.{◌≡◌, ◌≢◌, refl, sym, ◌∙◌, ap, subst, inl, inr, ℕ, ◌+◌, ◌*◌, ◌/◌, ◌%◌, ◌^◌, ◌<◌, ◌≤◌, Bool, true, false, List, [], ◌∷◌, length, take, drop, get_or, cond, arith, nat_eq, nat_lt, eqb-true}
 use Rattle.std.specs.Int.{from_le_bytes, w16}
 use Rattle.std.specs.Prelude.{Result, Ok, Err, slice_index}
 use Rattle.std.proofs.lemmas.Bool.{eq-eqb, le-ltb, lt-ltb, ltb-false, ltb-true}
 use Rattle.std.proofs.lemmas.List.{get_or-drop}
 use Rattle.byteorder.specs.Endian.{little_number}
-use Rattle.udfs_tag.specs.Fields.{part}
 use Rattle.udfs_osta.specs.Labels.{label_of, label_of_name}
 use Rattle.udfs_osta.specs.Names.{units_of}
-use Rattle.udfs_osta.specs.Stamps.{first_word, offset_bits, stamp_kind, year_of}
+use Rattle.udfs_osta.specs.Stamps.{first_word}
 use Rattle.udfs_osta.specs.declared.labels.Label.{Label}
 use Rattle.udfs_osta.specs.declared.labels.Label.TheVariants.{Empty, Name, Invalid}
 use Rattle.udfs_osta.specs.declared.names.NameFault.{NameFault}
-use Rattle.udfs_ecma.specs.Identifiers.{AreCharacters}
 use Rattle.udfs_ecma.specs.Laws.{AreBytes, IsReadStamp, LabelLaw, StampLaw}
 use Rattle.udfs_ecma.specs.Tables.{HasBits, Holds, IsField, row}
-use Rattle.udfs_ecma.specs.Texts.{HasStampFields, HasText, IsDstring, StampFields}
+use Rattle.udfs_ecma.specs.Texts.{HasStampFields, IsDstring, StampFields}
 use Rattle.udfs_ecma.proofs.EntryTables.{unequal}
 use Rattle.udfs_ecma.proofs.IdentifierTables.{name_law}
-use Rattle.udfs_ecma.proofs.Reading.{byte_by, byte_is, field_is, field_of, holds_by, holds_is, holds_of, number_below}
+use Rattle.udfs_ecma.proofs.Reading.{byte_by, byte_is, field_is, field_of, holds_by, holds_is, number_below}
 
 -- ---- timestamps
 two_bytes : (a b : ℕ) → from_le_bytes w16 (a ∷ b ∷ []) ≡ a + 256 * b
@@ -104,8 +102,19 @@ module _ (bytes : List ℕ) (long : length bytes ≡ 128) where
 
   by_name : used ≢ 0 → used ≤ 127 → (o : Result (List ℕ) NameFault) → units_of (take used bytes) ≡ o → IsDstring bytes (label_of_name o)
   by_name n l (Ok units) e = (used, held, n, (l, (take used bytes, text_is l, (name_law (take used bytes) units).0 e)))
-  by_name n l (Err fault) e = (used, held, n, inr (l, (take used bytes, text_is l,
-      λ units c. let z : Err fault ≡ Ok units = sym e ∙ (name_law (take used bytes) units).1 c in let no : ⊥ = cc in no)))
+  by_name n l (Err fault) e = (
+    used,
+    held,
+    n,
+    inr (
+      l,
+      (
+        take used bytes,
+        text_is l,
+        λ units c. let z : Err fault ≡ Ok units = sym e ∙ (name_law (take used bytes) units).1 c in let no : ⊥ = cc in no,
+      ),
+    ),
+  )
 
   label_is : IsDstring bytes (label_of bytes)
   label_is = by_none (nat_eq used 0) refl

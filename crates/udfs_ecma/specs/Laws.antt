@@ -1,5 +1,5 @@
 -- What is read of the bytes of a descriptor is what its table gives, and nothing else: both ways, for whatever bytes.
-use Rattle.std.specs.Prelude.{◌≡◌, ◌<◌, ◌≤◌, ◌↔◌, ◌⊎◌, ℕ, true, List, length, drop, map, slice_index, All, Some, None, Ok}
+use Rattle.std.specs.Prelude.{◌≡◌, ◌<◌, ◌≤◌, ◌↔◌, ◌⊎◌, ℕ, true, List, length, drop, slice_index, All, Some, None, Ok}
 use Rattle.udfs_lattice.specs.States.{IsBlock}
 use Rattle.udfs_tag.specs.Fields.{uint16_at, uint32_at, extent_ad_of, short_ad_of, long_ad_at, long_ad_of, part}
 use Rattle.udfs_tag.specs.Tags.{identifier, is_sound, is_valid}
@@ -19,9 +19,10 @@ use Rattle.udfs_space.specs.declared.entries.SparingEntry.{SparingEntry}
 use Rattle.udfs_space.specs.Sparing.{spared_from}
 use Rattle.udfs_file.specs.Entries.{EntryFields, entry_fault, entry_of}
 use Rattle.udfs_file.specs.Identifiers.{Identifier}
-use Rattle.udfs_file.specs.Standard.{IsExtentAt, IsIdentifierIn, Located, MayName, recorded_in}
+use Rattle.udfs_file.specs.Standard.{IsBodyOf, IsDirectoryBody, IsExtentAt, IsIdentifierIn, Located, MayName, PartitionBlocks, recorded_in}
 use Rattle.udfs_ecma.specs.Entries.{IsEntryAt, extended_rows, file_entry_rows, first_rows, icb_table}
 use Rattle.udfs_ecma.specs.Extents.{AreRecorded, AreWhole, IsAllocationExtent, IsExtentAd, IsShortAd, IsLongAd}
+use Rattle.udfs_ecma.specs.Files.{AreIdentifiers, IsBodyAt, bytes_in}
 use Rattle.udfs_ecma.specs.Identifiers.{AreCharacters, IsFileSet, IsIdentifierAt, identifier_table}
 use Rattle.udfs_ecma.specs.Sparing.{IsSparingTable, sparing_rows}
 use Rattle.udfs_ecma.specs.Tables.{FollowOn}
@@ -136,14 +137,25 @@ StampLaw = (bytes : List ℕ) → AreBytes bytes → length bytes ≡ 12 → (f 
 abbrev pub LabelLaw : Type 0
 LabelLaw = (bytes : List ℕ) → length bytes ≡ 128 → (label : Label) → (label_of bytes ≡ label) ↔ IsDstring bytes label
 
--- the bytes of a piece of a body, without the blocks that hold them
-abbrev pub bytes_in : List Located → List ℕ
-bytes_in piece = map (λ x. x.0) piece
-
 -- a piece of a directory is one descriptor exactly if its table says so, of a tag that names a place that it may name
 abbrev pub IdentifierLaw : Type 0
 IdentifierLaw = (profile : Profile) (piece : List Located) → AreBytes (bytes_in piece) → (id : Identifier)
     → IsIdentifierIn profile piece id ↔ ((place : ℕ) × MayName profile piece place × IsIdentifierAt (bytes_in piece) place id)
+
+-- a directory's body is read as these descriptors exactly if the tables say so
+abbrev pub DirectoryLaw : Type 0
+DirectoryLaw = (profile : Profile) (body : List Located) → AreBytes (bytes_in body) → (ids : List Identifier)
+    → IsDirectoryBody profile body ids ↔ AreIdentifiers profile body ids
+
+-- each block of the partitions is 2048 bytes
+abbrev pub AreWholeBlocks : PartitionBlocks → Type 0
+AreWholeBlocks blocks = (r b : ℕ) (bytes : List ℕ) → blocks.at r b ≡ Some bytes → IsBlock bytes
+
+-- an entry without a fault is read with these fields and this body exactly if the tables give them, of the entry and of all that continues
+-- its descriptors
+abbrev pub FileLaw : Type 0
+FileLaw = (blocks : PartitionBlocks) → AreWholeBlocks blocks → (r b : ℕ) (bytes : List ℕ) → blocks.at r b ≡ Some bytes → (e : EntryFields) (body : List Located)
+    → ((entry_fault bytes b ≡ None) × (e ≡ entry_of bytes) × IsBodyOf blocks r b e body) ↔ (IsEntryAt bytes b e × IsBodyAt blocks r b e body)
 
 -- a file set descriptor is valid and names this ICB of the root exactly if its table says so
 abbrev pub FileSetLaw : Type 0

@@ -3,6 +3,7 @@ pub mod Tags
 pub mod Extents
 pub mod Entries
 pub mod Identifiers
+pub mod Files
 pub mod Volumes
 pub mod Sparing
 pub mod Texts

@@ -1,7 +1,7 @@
 -- Timestamps and dstrings, by their tables (ECMA-167 1/7.2.12, 1/7.3).
 --     HasStampFields bytes f      the fields of a timestamp
 --     IsDstring bytes label       what a dstring of 128 bytes says
-use Rattle.std.specs.Prelude.{◌≡◌, ◌≢◌, ℕ, ◌<◌, ◌≤◌, ◌⊎◌, List, [], ◌∷◌}
+use Rattle.std.specs.Prelude.{◌≢◌, ℕ, ◌<◌, ◌≤◌, ◌⊎◌, List, [], ◌∷◌}
 use Rattle.udfs_osta.specs.declared.labels.Label.{Label}
 use Rattle.udfs_osta.specs.declared.labels.Label.TheVariants.{Empty, Name, Invalid}
 use Rattle.udfs_ecma.specs.Identifiers.{AreCharacters}

@@ -2,7 +2,7 @@
 //!
 //! Each says "if and only if": what is read of the bytes is what the table gives, the table gives nothing else, and what is refused has no such
 //! fields by the table.
-ghost use Rattle.udfs_ecma.specs.Laws.{AllocationExtentLaw, AnchorLaw, AreaLaw, EntryLaw, ExtentAdLaw, FileSetLaw, IdentifierLaw, LabelLaw, LongAdLaw, NameLaw, PartitionLaw, ShortAdLaw, SoundTagLaw, SparingLaw, StampLaw, TablesFollowOn, TagLaw, VolumeLaw};
+ghost use Rattle.udfs_ecma.specs.Laws.{AllocationExtentLaw, AnchorLaw, AreaLaw, DirectoryLaw, EntryLaw, ExtentAdLaw, FileLaw, FileSetLaw, IdentifierLaw, LabelLaw, LongAdLaw, NameLaw, PartitionLaw, ShortAdLaw, SoundTagLaw, SparingLaw, StampLaw, TablesFollowOn, TagLaw, VolumeLaw};
 
 /// The rows of each table follow one another: they leave out no byte, and no byte is in two of them.
 pub fn tables_leave_out_no_byte()
@@ -98,4 +98,15 @@ pub fn labels_are_by_the_table()
 /// The fields of a timestamp, of which its moment is computed, are those of its table (ECMA-167 1/7.3).
 pub fn stamps_are_by_the_table()
     ensures { StampLaw }
+{}
+
+/// Whatever blocks of 2048 bytes there are, an entry is read with these fields and this body if and only if the tables give them, of the entry
+/// and of all allocation extents that continue its descriptors.
+pub fn files_are_by_the_tables()
+    ensures { FileLaw }
+{}
+
+/// A directory's body is read as these descriptors if and only if it is those, one after the other, by their table.
+pub fn directories_are_by_the_tables()
+    ensures { DirectoryLaw }
 {}
