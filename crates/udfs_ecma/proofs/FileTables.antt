@@ -1,5 +1,6 @@
 -- Files and directories are read as the tables give them.
 use Rattle.std.proofs.Common.{◌≡◌, ◌≢◌, refl, sym, ◌∙◌, ap, subst, inl, inr, ◌⊎◌, ℕ, ◌+◌, Bool, true, false, List, [], ◌∷◌, ◌++◌, length, cond, None, nat_eq, eqb-true}
+use Rattle.std.specs.Prelude.{not, Option, Some}
 use Rattle.std.proofs.lemmas.Bool.{eq-eqb}
 use Rattle.udfs_lattice.specs.States.{IsBlock}
 use Rattle.udfs_tag.specs.Fields.{part, uint32_at}
@@ -10,9 +11,10 @@ use Rattle.udfs_file.specs.Bodies.{next_descriptor, up_to_next}
 use Rattle.udfs_file.specs.Entries.{EntryFields, entry_fault, entry_of}
 use Rattle.udfs_file.specs.Identifiers.{Identifier}
 use Rattle.udfs_file.specs.Standard.{IsBodyOf, IsDirectoryBody, IsEmbeddedBody, IsExtentAt, IsExtentsBody, IsListed, Located, MayName, PartitionBlocks, recorded_in}
+use Rattle.udfs_file.proofs.ChainFits.{next-cons, up-cons}
 use Rattle.udfs_ecma.specs.Entries.{IsAreaOf, IsEntryAt}
 use Rattle.udfs_ecma.specs.Extents.{AreWhole, IsAllocationExtent}
-use Rattle.udfs_ecma.specs.Files.{AreIdentifiers, AreListed, IsBodyAt, bytes_in}
+use Rattle.udfs_ecma.specs.Files.{AreIdentifiers, AreListed, IsBodyAt, IsCutAt, bytes_in}
 use Rattle.udfs_ecma.specs.Identifiers.{IsIdentifierAt}
 use Rattle.udfs_ecma.specs.Laws.{AreBytes, AreWholeBlocks, DirectoryLaw, FileLaw}
 use Rattle.udfs_ecma.proofs.AreaTables.{allocation_extent_law, area_law, split}
@@ -29,18 +31,48 @@ form_of form count (inr h) = inr h.0
 next_whole : (form place : ℕ) (bytes area : Bytes) → IsAllocationExtent form bytes place area → AreWhole form (length area)
 next_whole form place bytes area h = subst (AreWhole form) (sym h.area_is.size) h.whole
 
+-- ---- up to the first of type 3
+cut_of : (here : List LongAd) → IsCutAt here (up_to_next here) (next_descriptor here)
+cut_of [] = (refl, refl)
+cut_of (d ∷ here) = by (nat_eq d.kind 3) refl (cut_of here)
+  where
+    by : (t : Bool) → nat_eq d.kind 3 ≡ t → IsCutAt here (up_to_next here) (next_descriptor here) → IsCutAt (d ∷ here) (up_to_next (d ∷ here)) (next_descriptor (d ∷ here))
+    by true e c = inl (eqb-true d.kind 3 e, up-cons d here ∙ ap (λ b. cond (not b) (d ∷ up_to_next here) (d ∷ [])) e, next-cons d here ∙ ap (λ b. cond (not b) (next_descriptor here) (Some d)) e)
+    by false e c = inr (
+      λ s. let z : true ≡ false = sym (eq-eqb d.kind 3 s) ∙ e in let no : ⊥ = cc in no,
+      (
+        up_to_next here,
+        up-cons d here ∙ ap (λ b. cond (not b) (d ∷ up_to_next here) (d ∷ [])) e,
+        subst (IsCutAt here (up_to_next here)) (sym (next-cons d here ∙ ap (λ b. cond (not b) (next_descriptor here) (Some d)) e)) c,
+      ),
+    )
+
+-- and there is one way to cut
+one_cut : (here ds es : List LongAd) (m n : Option LongAd) → IsCutAt here ds m → IsCutAt here es n → (ds ≡ es) × (m ≡ n)
+one_cut [] ds es m n (p, q) (r, s) = (p ∙ sym r, q ∙ sym s)
+one_cut (d ∷ here) ds es m n (inl (k, p, q)) (inl (l, r, s)) = (p ∙ sym r, q ∙ sym s)
+one_cut (d ∷ here) ds es m n (inl (k, p, q)) (inr (l, x)) = absurd (l k)
+one_cut (d ∷ here) ds es m n (inr (k, x)) (inl (l, r, s)) = absurd (k l)
+one_cut (d ∷ here) ds es m n (inr (k, (rest, p, c))) (inr (l, (other, r, x))) = let t : (rest ≡ other) × (m ≡ n) = one_cut here rest other m n c x in (p ∙ ap (λ y. d ∷ y) t.0 ∙ sym r, t.1)
+
 module _ (blocks : PartitionBlocks) (whole : AreWholeBlocks blocks) (form r : ℕ) where
   list_to : (followed : List Bytes) (area : Bytes) (ds : List LongAd) → AreBytes area → AreWhole form (length area) → IsListed blocks form r area followed ds → AreListed blocks form r area followed ds
-  list_to [] area ds b w h = (recorded_in form r area, (area_law form r area b w (recorded_in form r area)).0 refl, h)
+  list_to [] area ds b w h = (
+    recorded_in form r area,
+    next_descriptor (recorded_in form r area),
+    (area_law form r area b w (recorded_in form r area)).0 refl,
+    subst (λ x. IsCutAt (recorded_in form r area) x (next_descriptor (recorded_in form r area))) (sym h) (cut_of (recorded_in form r area)),
+  )
   list_to (bytes ∷ more) area ds b w (d, later, n, one, at, ext, listed, e) =
       let block : IsBlock bytes = whole d.reference d.block bytes at in
       let next : IsAllocationExtent form bytes d.block (part bytes 24 (uint32_at bytes 20)) = (allocation_extent_law form (form_of form (length area) w) bytes block d.block (part bytes 24 (uint32_at bytes 20))).0 (ext, refl) in (
         recorded_in form r area,
+        up_to_next (recorded_in form r area),
         d,
         part bytes 24 (uint32_at bytes 20),
         later,
         (area_law form r area b w (recorded_in form r area)).0 refl,
-        n,
+        subst (IsCutAt (recorded_in form r area) (up_to_next (recorded_in form r area))) n (cut_of (recorded_in form r area)),
         one,
         at,
         next,
@@ -49,13 +81,14 @@ module _ (blocks : PartitionBlocks) (whole : AreWholeBlocks blocks) (form r : �
       )
 
   list_from : (followed : List Bytes) (area : Bytes) (ds : List LongAd) → AreBytes area → AreWhole form (length area) → AreListed blocks form r area followed ds → IsListed blocks form r area followed ds
-  list_from [] area ds b w (here, a, e) = e ∙ ap up_to_next (sym ((area_law form r area b w here).1 a))
-  list_from (bytes ∷ more) area ds b w (here, d, next, later, a, n, one, at, ext, listed, e) =
+  list_from [] area ds b w (here, next, a, c) = (one_cut here ds (up_to_next here) next (next_descriptor here) c (cut_of here)).0 ∙ ap up_to_next (sym ((area_law form r area b w here).1 a))
+  list_from (bytes ∷ more) area ds b w (here, front, d, next, later, a, c, one, at, ext, listed, e) =
       let block : IsBlock bytes = whole d.reference d.block bytes at in
       let read : recorded_in form r area ≡ here = (area_law form r area b w here).1 a in
+      let cut : (front ≡ up_to_next here) × (Some d ≡ next_descriptor here) = one_cut here front (up_to_next here) (Some d) (next_descriptor here) c (cut_of here) in
       let x : IsExtentAt form d.block bytes × (next ≡ part bytes 24 (uint32_at bytes 20)) = (allocation_extent_law form (form_of form (length area) w) bytes block d.block next).1 ext in
       let all : IsListed blocks form r next more later = list_from more next later (field_bytes bytes 24 ext.size next block.bytes ext.area_is) (next_whole form d.block bytes next ext) listed in
-      (d, later, ap next_descriptor read ∙ n, one, at, x.0, subst (λ y. IsListed blocks form r y more later) x.1 all, e ∙ ap (λ y. up_to_next y ++ later) (sym read))
+      (d, later, ap next_descriptor read ∙ sym cut.1, one, at, x.0, subst (λ y. IsListed blocks form r y more later) x.1 all, e ∙ ap (λ y. y ++ later) (cut.0 ∙ ap up_to_next (sym read)))
 
 -- ---- the body
 module _ (blocks : PartitionBlocks) (whole : AreWholeBlocks blocks) (r b : ℕ) (bytes : Bytes) (block : IsBlock bytes) (e : EntryFields) (body : List Located) where

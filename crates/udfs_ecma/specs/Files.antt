@@ -2,11 +2,10 @@
 --     AreListed blocks form r area followed ds     the descriptors from an area on, as far as the blocks that are followed continue it
 --     IsBodyAt blocks r b e body                   the body of an entry
 --     AreIdentifiers profile body ids              a directory's body is these descriptors, one after the other
-use Rattle.std.specs.Prelude.{◌≡◌, ◌≢◌, ℕ, ◌≤◌, ◌⊎◌, List, [], ◌∷◌, ◌++◌, length, map, flat_map, take, Some}
+use Rattle.std.specs.Prelude.{◌≡◌, ◌≢◌, ℕ, ◌≤◌, ◌⊎◌, List, [], ◌∷◌, ◌++◌, length, map, flat_map, take, Option, Some, None}
 use Rattle.udfs_tag.specs.declared.layouts.LongAd.{LongAd}
 use Rattle.udfs_volume.specs.declared.profiles.Profile.{Profile}
 use Rattle.udfs_volume.specs.Sequence.{Bytes}
-use Rattle.udfs_file.specs.Bodies.{next_descriptor, up_to_next}
 use Rattle.udfs_file.specs.Entries.{EntryFields}
 use Rattle.udfs_file.specs.Identifiers.{Identifier}
 use Rattle.udfs_file.specs.Standard.{AreExtentsOf, IsEmbeddedBody, IsOneBlock, Located, MayName, PartitionBlocks, extent_bytes, extents_of, tail_by, up_to_end}
@@ -17,12 +16,17 @@ use Rattle.udfs_ecma.specs.Identifiers.{IsIdentifierAt}
 abbrev pub bytes_in : List Located → List ℕ
 bytes_in piece = map (λ x. x.0) piece
 
+-- the first descriptors of a list, up to one of type 3 and with it, and that one; or all of them, where none is of that type (4/14.14.1.1)
+abbrev pub IsCutAt : List LongAd → List LongAd → Option LongAd → Type 0
+IsCutAt [] ds next = (ds ≡ []) × (next ≡ None)
+IsCutAt (d ∷ here) ds next = ((d.kind ≡ 3) × (ds ≡ d ∷ []) × (next ≡ Some d)) ⊎ ((d.kind ≢ 3) × ((rest : List LongAd) × (ds ≡ d ∷ rest) × IsCutAt here rest next))
+
 -- the descriptors in an area up to the first of type 3, and those of the allocation extents that are followed (4/12.1)
 abbrev pub AreListed : PartitionBlocks → ℕ → ℕ → Bytes → List Bytes → List LongAd → Type 0
-AreListed blocks form r area [] ds = (here : List LongAd) × AreRecorded form r area here × (ds ≡ up_to_next here)
-AreListed blocks form r area (bytes ∷ more) ds = (here : List LongAd) × (d : LongAd) × (next : Bytes) × (later : List LongAd) × AreRecorded form r area here
-    × (next_descriptor here ≡ Some d) × IsOneBlock d × (blocks.at d.reference d.block ≡ Some bytes) × IsAllocationExtent form bytes d.block next
-    × AreListed blocks form r next more later × (ds ≡ up_to_next here ++ later)
+AreListed blocks form r area [] ds = (here : List LongAd) × (next : Option LongAd) × AreRecorded form r area here × IsCutAt here ds next
+AreListed blocks form r area (bytes ∷ more) ds = (here : List LongAd) × (front : List LongAd) × (d : LongAd) × (next : Bytes) × (later : List LongAd)
+    × AreRecorded form r area here × IsCutAt here front (Some d) × IsOneBlock d × (blocks.at d.reference d.block ≡ Some bytes)
+    × IsAllocationExtent form bytes d.block next × AreListed blocks form r next more later × (ds ≡ front ++ later)
 
 -- a body in extents: the first bytes of its concatenated extents and their tail (at most 256 continuations: own choice)
 pub record IsInExtents (blocks : PartitionBlocks) (r : ℕ) (e : EntryFields) (body : List Located) : Type 0 where
