@@ -92,7 +92,7 @@ module _ (blocks : PartitionBlocks) (whole : AreWholeBlocks blocks) (form r : �
 
 -- ---- the body
 module _ (blocks : PartitionBlocks) (whole : AreWholeBlocks blocks) (r b : ℕ) (bytes : Bytes) (block : IsBlock bytes) (e : EntryFields) (body : List Located) where
-  area_bytes : IsEntryAt bytes b e → AreBytes e.area
+  pub area_bytes : IsEntryAt bytes b e → AreBytes e.area
   area_bytes (inl h) = field_bytes bytes (176 + h.attributes) h.descriptors e.area block.bytes h.area
   area_bytes (inr h) = field_bytes bytes (216 + h.attributes) h.descriptors e.area block.bytes h.area
 

@@ -7,6 +7,7 @@ pub mod EntryTables
 pub mod AreaTables
 pub mod IdentifierTables
 pub mod FileTables
+pub mod BodyBytes
 pub mod SparingTables
 pub mod TextTables
 pub mod Rows

@@ -1,6 +1,7 @@
 -- The laws of this crate, each with the statement that the function of its name in src/laws.rt ensures.
-use Rattle.udfs_ecma.specs.Laws.{AllocationExtentLaw, AnchorLaw, AreaLaw, DirectoryLaw, EntryLaw, ExtentAdLaw, FileLaw, FileSetLaw, IdentifierLaw, LabelLaw, LongAdLaw, NameLaw, PartitionLaw, ShortAdLaw, SoundTagLaw, SparingLaw, StampLaw, TablesFollowOn, TagLaw, VolumeLaw}
+use Rattle.udfs_ecma.specs.Laws.{AllocationExtentLaw, AnchorLaw, AreaLaw, BodyBytesLaw, DirectoryLaw, EntryLaw, ExtentAdLaw, FileLaw, FileSetLaw, IdentifierLaw, LabelLaw, LongAdLaw, NameLaw, PartitionLaw, ShortAdLaw, SoundTagLaw, SparingLaw, StampLaw, TablesFollowOn, TagLaw, VolumeLaw}
 use Rattle.udfs_ecma.proofs.AreaTables as areas
+use Rattle.udfs_ecma.proofs.BodyBytes as bodies
 use Rattle.udfs_ecma.proofs.EntryTables as entries
 use Rattle.udfs_ecma.proofs.ExtentTables as extents
 use Rattle.udfs_ecma.proofs.FileTables as files
@@ -70,3 +71,6 @@ files_are_by_the_tables = files.file_law
 
 pub directories_are_by_the_tables : DirectoryLaw
 directories_are_by_the_tables = files.directory_law
+
+pub bodies_are_bytes : BodyBytesLaw
+bodies_are_bytes = bodies.body_bytes_law

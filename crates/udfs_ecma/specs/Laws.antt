@@ -157,6 +157,11 @@ abbrev pub FileLaw : Type 0
 FileLaw = (blocks : PartitionBlocks) → AreWholeBlocks blocks → (r b : ℕ) (bytes : List ℕ) → blocks.at r b ≡ Some bytes → (e : EntryFields) (body : List Located)
     → ((entry_fault bytes b ≡ None) × (e ≡ entry_of bytes) × IsBodyOf blocks r b e body) ↔ (IsEntryAt bytes b e × IsBodyAt blocks r b e body)
 
+-- the bytes of a body that the tables give are bytes
+abbrev pub BodyBytesLaw : Type 0
+BodyBytesLaw = (blocks : PartitionBlocks) → AreWholeBlocks blocks → (r b : ℕ) (bytes : List ℕ) → blocks.at r b ≡ Some bytes → (e : EntryFields) (body : List Located)
+    → IsEntryAt bytes b e → IsBodyAt blocks r b e body → AreBytes (bytes_in body)
+
 -- a file set descriptor is valid and names this ICB of the root exactly if its table says so
 abbrev pub FileSetLaw : Type 0
 FileSetLaw = (bytes : List ℕ) → IsBlock bytes → (place : ℕ) (root : LongAd)

@@ -2,7 +2,7 @@
 //!
 //! Each says "if and only if": what is read of the bytes is what the table gives, the table gives nothing else, and what is refused has no such
 //! fields by the table.
-ghost use Rattle.udfs_ecma.specs.Laws.{AllocationExtentLaw, AnchorLaw, AreaLaw, DirectoryLaw, EntryLaw, ExtentAdLaw, FileLaw, FileSetLaw, IdentifierLaw, LabelLaw, LongAdLaw, NameLaw, PartitionLaw, ShortAdLaw, SoundTagLaw, SparingLaw, StampLaw, TablesFollowOn, TagLaw, VolumeLaw};
+ghost use Rattle.udfs_ecma.specs.Laws.{AllocationExtentLaw, AnchorLaw, AreaLaw, BodyBytesLaw, DirectoryLaw, EntryLaw, ExtentAdLaw, FileLaw, FileSetLaw, IdentifierLaw, LabelLaw, LongAdLaw, NameLaw, PartitionLaw, ShortAdLaw, SoundTagLaw, SparingLaw, StampLaw, TablesFollowOn, TagLaw, VolumeLaw};
 
 /// The rows of each table follow one another: they leave out no byte, and no byte is in two of them.
 pub fn tables_leave_out_no_byte()
@@ -109,4 +109,9 @@ pub fn files_are_by_the_tables()
 /// A directory's body is read as these descriptors if and only if it is those, one after the other, by their table.
 pub fn directories_are_by_the_tables()
     ensures { DirectoryLaw }
+{}
+
+/// The bytes of a body that the tables give are bytes, so that a directory's can be read by its table.
+pub fn bodies_are_bytes()
+    ensures { BodyBytesLaw }
 {}
