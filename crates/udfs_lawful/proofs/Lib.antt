@@ -2,3 +2,4 @@ pub mod TwoFiles
 pub mod Layouts
 pub mod Nodes
 pub mod Lawful
+pub mod ByTables

@@ -1,4 +1,5 @@
-//! The law, the contract of a function that does nothing.
+//! Laws of lawful volumes, each the contract of a function that does nothing.
+ghost use Rattle.udfs_lawful.specs.ByTables.{TreeByTables};
 ghost use Rattle.udfs_lawful.specs.Laws.{SomeManyForms};
 
 /// There is a lawful volume, by the strict rules, of UDF 2.01, with a spared packet, in which entries, descriptors, directories and names have
@@ -6,4 +7,10 @@ ghost use Rattle.udfs_lawful.specs.Laws.{SomeManyForms};
 /// recorded, a directory over two blocks, a name of a 16-bit unit, and a CRC of 208 bytes.
 pub fn some_lawful_volume_has_many_forms()
     ensures { SomeManyForms }
+{}
+
+/// The tree of a lawful volume, by the rules of any profile, is the one that the standard's tables give: the root by the table of the file
+/// set, and each path with its file by those of entries, allocation descriptors, allocation extents and identifiers.
+pub fn trees_are_by_the_tables()
+    ensures { TreeByTables }
 {}

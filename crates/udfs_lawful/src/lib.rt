@@ -1,5 +1,5 @@
 // SPDX-License-Identifier: MIT OR Apache-2.0
-//! A lawful volume in which descriptors have every form that is read, so that what is said of lawful volumes is said of such ones.
+//! What lawful volumes are: their trees are those that the standard's tables give, and there is one with descriptors of many forms.
 //!
 //! Nothing here runs.
 #![tactic(auto)]
