@@ -3,6 +3,8 @@ pub mod TagTables
 pub mod ExtentTables
 pub mod MapTables
 pub mod VolumeTables
+pub mod Prevailing
+pub mod LayoutTables
 pub mod EntryTables
 pub mod AreaTables
 pub mod IdentifierTables

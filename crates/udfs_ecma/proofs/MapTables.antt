@@ -53,7 +53,7 @@ among_of (x ∷ xs) n (inr i) = go (nat_eq x n) (among_of xs n i)
     go true h = refl
     go false h = h
 
-all_pass : {A : Type 0} (test : A → Bool) (xs : List A) → ((x : A) → Includes xs x → test x ≡ true) → list_all test xs ≡ true
+pub all_pass : {A : Type 0} (test : A → Bool) (xs : List A) → ((x : A) → Includes xs x → test x ≡ true) → list_all test xs ≡ true
 all_pass test [] h = refl
 all_pass test (x ∷ xs) h = all_of (test x) (list_all test xs) (h x (inl refl)) (all_pass test xs (λ y i. h y (inr i)))
 

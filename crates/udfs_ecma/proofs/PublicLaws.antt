@@ -1,11 +1,12 @@
 -- The laws of this crate, each with the statement that the function of its name in src/laws.rt ensures.
-use Rattle.udfs_ecma.specs.Laws.{AllocationExtentLaw, AnchorLaw, AreaLaw, BodyBytesLaw, DirectoryLaw, EntryLaw, ExtentAdLaw, FileLaw, FileSetLaw, IdentifierLaw, LabelLaw, LongAdLaw, NameLaw, PartitionLaw, ShortAdLaw, SoundTagLaw, SparingLaw, StampLaw, TablesFollowOn, TagLaw, VolumeLaw}
+use Rattle.udfs_ecma.specs.Laws.{AllocationExtentLaw, AnchorLaw, AreaLaw, BodyBytesLaw, DirectoryLaw, EntryLaw, ExtentAdLaw, FileLaw, FileSetLaw, IdentifierLaw, LabelLaw, LayoutLaw, LongAdLaw, NameLaw, PartitionLaw, ShortAdLaw, SoundTagLaw, SparingLaw, StampLaw, TablesFollowOn, TagLaw, VolumeLaw}
 use Rattle.udfs_ecma.proofs.AreaTables as areas
 use Rattle.udfs_ecma.proofs.BodyBytes as bodies
 use Rattle.udfs_ecma.proofs.EntryTables as entries
 use Rattle.udfs_ecma.proofs.ExtentTables as extents
 use Rattle.udfs_ecma.proofs.FileTables as files
 use Rattle.udfs_ecma.proofs.IdentifierTables as identifiers
+use Rattle.udfs_ecma.proofs.LayoutTables as layouts
 use Rattle.udfs_ecma.proofs.Rows as rows
 use Rattle.udfs_ecma.proofs.SparingTables as sparing
 use Rattle.udfs_ecma.proofs.TagTables as tags
@@ -74,3 +75,6 @@ directories_are_by_the_tables = files.directory_law
 
 pub bodies_are_bytes : BodyBytesLaw
 bodies_are_bytes = bodies.body_bytes_law
+
+pub layouts_are_by_the_tables : LayoutLaw
+layouts_are_by_the_tables = layouts.layout_law

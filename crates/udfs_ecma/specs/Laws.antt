@@ -1,5 +1,5 @@
 -- What is read of the bytes of a descriptor is what its table gives, and nothing else: both ways, for whatever bytes.
-use Rattle.std.specs.Prelude.{◌≡◌, ◌<◌, ◌≤◌, ◌↔◌, ◌⊎◌, ℕ, true, List, length, drop, slice_index, All, Some, None, Ok}
+use Rattle.std.specs.Prelude.{◌≡◌, ◌<◌, ◌≤◌, ◌↔◌, ◌⊎◌, ℕ, true, List, length, drop, map, slice_index, Contains, All, Some, None, Ok}
 use Rattle.udfs_lattice.specs.States.{IsBlock}
 use Rattle.udfs_tag.specs.Fields.{uint16_at, uint32_at, extent_ad_of, short_ad_of, long_ad_at, long_ad_of, part}
 use Rattle.udfs_tag.specs.Tags.{identifier, is_sound, is_valid}
@@ -9,7 +9,7 @@ use Rattle.udfs_tag.specs.declared.layouts.LongAd.{LongAd}
 use Rattle.udfs_osta.specs.Labels.{label_of}
 use Rattle.udfs_volume.specs.declared.anchors.AnchorExtents.{AnchorExtents}
 use Rattle.udfs_volume.specs.declared.profiles.Profile.{Profile}
-use Rattle.udfs_volume.specs.Layout.{PartitionMap, bp, has_contents, partition_number, partition_of, sequence_number, the_maps, volume_fault}
+use Rattle.udfs_volume.specs.Layout.{Layout, PartitionMap, bp, has_contents, layout_of, partition_number, partition_of, sequence_number, the_maps, volume_fault}
 use Rattle.udfs_volume.specs.Sequence.{Descriptor, extents_of}
 use Rattle.udfs_osta.specs.declared.labels.Label.{Label}
 use Rattle.udfs_osta.specs.Stamps.{offset_bits, stamp_kind, year_of}
@@ -24,6 +24,7 @@ use Rattle.udfs_ecma.specs.Entries.{IsEntryAt, extended_rows, file_entry_rows, f
 use Rattle.udfs_ecma.specs.Extents.{AreRecorded, AreWhole, IsAllocationExtent, IsExtentAd, IsShortAd, IsLongAd}
 use Rattle.udfs_ecma.specs.Files.{AreIdentifiers, IsBodyAt, bytes_in}
 use Rattle.udfs_ecma.specs.Identifiers.{AreCharacters, IsFileSet, IsIdentifierAt, identifier_table}
+use Rattle.udfs_ecma.specs.Layouts.{IsLayout, Placed}
 use Rattle.udfs_ecma.specs.Sparing.{IsSparingTable, sparing_rows}
 use Rattle.udfs_ecma.specs.Tables.{FollowOn}
 use Rattle.udfs_ecma.specs.Tags.{IsTagged, tag_table}
@@ -182,3 +183,12 @@ pub record TablesFollowOn : Type 0 where
   pub sparable_maps : FollowOn 0 sparable_table 64
   pub sparing : FollowOn 0 sparing_rows 56
   pub stamps : FollowOn 0 stamp_rows 12
+
+-- each of these blocks has 2048 bytes and a sound tag at its place
+abbrev pub AreSound : List Placed → Type 0
+AreSound blocks = (w : Placed) → Contains blocks w → IsBlock w.1 × (is_sound w.1 w.0 ≡ true)
+
+-- a descriptor sequence gives a layout exactly if the tables of its descriptors do
+abbrev pub LayoutLaw : Type 0
+LayoutLaw = (profile : Profile) (last : ℕ) (blocks : List Placed) → AreSound blocks → (l : Layout)
+    → (layout_of profile last (map (λ w. descriptor_in w.1) blocks) ≡ found l) ↔ IsLayout profile last blocks l

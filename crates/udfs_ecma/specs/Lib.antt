@@ -5,6 +5,7 @@ pub mod Entries
 pub mod Identifiers
 pub mod Files
 pub mod Volumes
+pub mod Layouts
 pub mod Sparing
 pub mod Texts
 pub mod Laws

@@ -2,7 +2,7 @@
 //!
 //! Each says "if and only if": what is read of the bytes is what the table gives, the table gives nothing else, and what is refused has no such
 //! fields by the table.
-ghost use Rattle.udfs_ecma.specs.Laws.{AllocationExtentLaw, AnchorLaw, AreaLaw, BodyBytesLaw, DirectoryLaw, EntryLaw, ExtentAdLaw, FileLaw, FileSetLaw, IdentifierLaw, LabelLaw, LongAdLaw, NameLaw, PartitionLaw, ShortAdLaw, SoundTagLaw, SparingLaw, StampLaw, TablesFollowOn, TagLaw, VolumeLaw};
+ghost use Rattle.udfs_ecma.specs.Laws.{AllocationExtentLaw, AnchorLaw, AreaLaw, BodyBytesLaw, DirectoryLaw, EntryLaw, ExtentAdLaw, FileLaw, FileSetLaw, IdentifierLaw, LabelLaw, LayoutLaw, LongAdLaw, NameLaw, PartitionLaw, ShortAdLaw, SoundTagLaw, SparingLaw, StampLaw, TablesFollowOn, TagLaw, VolumeLaw};
 
 /// The rows of each table follow one another: they leave out no byte, and no byte is in two of them.
 pub fn tables_leave_out_no_byte()
@@ -114,4 +114,10 @@ pub fn directories_are_by_the_tables()
 /// The bytes of a body that the tables give are bytes, so that a directory's can be read by its table.
 pub fn bodies_are_bytes()
     ensures { BodyBytesLaw }
+{}
+
+/// A sequence of sound descriptors gives a layout if and only if the tables of its descriptors do: the logical volume descriptor that
+/// prevails, and for each of its maps the partition descriptor that prevails of those of its number (ECMA-167 3/8.4.3).
+pub fn layouts_are_by_the_tables()
+    ensures { LayoutLaw }
 {}
