@@ -3,3 +3,4 @@ pub mod Layouts
 pub mod Nodes
 pub mod Lawful
 pub mod ByTables
+pub mod LayoutByTables

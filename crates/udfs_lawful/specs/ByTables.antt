@@ -3,11 +3,14 @@
 --     IsDirectoryByTables blocks a ids      the descriptors of the directory at an address
 --     InTreeByTables blocks root path file  the path leads from the root to this file
 --     TreeByTables                          in a lawful volume these are the files of its tree
-use Rattle.std.specs.Prelude.{◌≡◌, ◌≢◌, ◌↔◌, ℕ, List, [], ◌∷◌, Some, Contains}
+--     LayoutByTables                        and its layout is the one that the tables give
+use Rattle.std.specs.Prelude.{◌≡◌, ◌≢◌, ◌↔◌, ℕ, List, [], ◌∷◌, map, Some, Contains}
 use Rattle.udfs_lattice.specs.Volumes.{Volume}
 use Rattle.udfs_tag.specs.declared.layouts.LongAd.{LongAd}
 use Rattle.udfs_volume.specs.declared.profiles.Profile.{Profile}
+use Rattle.udfs_volume.specs.declared.anchors.AnchorExtents.{AnchorExtents}
 use Rattle.udfs_volume.specs.Sequence.{Bytes}
+use Rattle.udfs_volume.specs.Standard.{main_blocks, standard_anchor}
 use Rattle.udfs_file.specs.Fronts.{listed_entries}
 use Rattle.udfs_file.specs.Identifiers.{Identifier}
 use Rattle.udfs_file.specs.declared.directories.DirEntry.{DirEntry}
@@ -15,6 +18,8 @@ use Rattle.udfs_file.specs.declared.faults.Kind.TheVariants.{Directory}
 use Rattle.udfs_ecma.specs.Entries.{IsEntryAt}
 use Rattle.udfs_ecma.specs.Files.{AreIdentifiers, IsBodyAt}
 use Rattle.udfs_ecma.specs.Identifiers.{IsFileSet}
+use Rattle.udfs_ecma.specs.Layouts.{IsLayout}
+use Rattle.udfs_ecma.specs.Volumes.{IsAnchorAt}
 use Rattle.udfs_tree.specs.Trees.{InTree, PartitionBlocks, TreeFile}
 use Rattle.udfs_salvage.specs.VolumeTrees.{IsLawfulBy, IsOpenedBy, Opened}
 
@@ -64,3 +69,17 @@ pub record HasTreeByTables (opened : Opened) : Type 0 where
 abbrev pub TreeByTables : Type 0
 TreeByTables = (profile : Profile) (volume : Volume) (last : ℕ) → IsLawfulBy profile volume last
     → (opened : Opened) → IsOpenedBy profile volume last opened → HasTreeByTables opened
+
+-- The layout of what the standard opens is the one that the tables give: of the first valid anchor, and of the descriptors in the blocks
+-- of the main sequence that it names.
+pub record HasLayoutByTables (profile : Profile) (volume : Volume) (last : ℕ) (opened : Opened) : Type 0 where
+  pub place : ℕ
+  pub first : standard_anchor volume last ≡ Some place
+  pub extents : AnchorExtents
+  pub anchor : IsAnchorAt (volume place) place extents
+  pub layout : IsLayout profile last (map (λ n. (n, volume n)) (main_blocks volume extents)) opened.layout
+
+-- so it is in every lawful volume
+abbrev pub LayoutByTables : Type 0
+LayoutByTables = (profile : Profile) (volume : Volume) (last : ℕ) → IsLawfulBy profile volume last
+    → (opened : Opened) → IsOpenedBy profile volume last opened → HasLayoutByTables profile volume last opened

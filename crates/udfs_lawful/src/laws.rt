@@ -1,5 +1,5 @@
 //! Laws of lawful volumes, each the contract of a function that does nothing.
-ghost use Rattle.udfs_lawful.specs.ByTables.{TreeByTables};
+ghost use Rattle.udfs_lawful.specs.ByTables.{LayoutByTables, TreeByTables};
 ghost use Rattle.udfs_lawful.specs.Laws.{SomeManyForms};
 
 /// There is a lawful volume, by the strict rules, of UDF 2.01, with a spared packet, in which entries, descriptors, directories and names have
@@ -11,6 +11,12 @@ pub fn some_lawful_volume_has_many_forms()
 
 /// The tree of a lawful volume, by the rules of any profile, is the one that the standard's tables give: the root by the table of the file
 /// set, and each path with its file by those of entries, allocation descriptors, allocation extents and identifiers.
-pub fn trees_are_by_the_tables()
+pub fn lawful_trees_are_by_the_tables()
     ensures { TreeByTables }
+{}
+
+/// The layout of a lawful volume, by the rules of any profile, is the one that the standard's tables give: of its first valid anchor, and of
+/// the descriptors in the blocks of the main sequence that this names.
+pub fn lawful_layouts_are_by_the_tables()
+    ensures { LayoutByTables }
 {}
