@@ -17,4 +17,6 @@ tables_follow_on = record {
   sparable_maps = (refl, (refl, (refl, (refl, (refl, (refl, (refl, (refl, (refl, (refl, (refl, refl)))))))))));
   sparing = (refl, (refl, (refl, (refl, (refl, refl)))));
   stamps = (refl, (refl, (refl, (refl, (refl, (refl, (refl, (refl, (refl, (refl, refl))))))))));
+  file_sets = (refl, (refl, (refl, (refl, (refl, (refl, (refl, (refl, (refl, (refl, (refl, (refl, (refl, (refl, (refl, (refl, (refl, (refl, (refl, refl)))))))))))))))))));
+  continuations = (refl, (refl, (refl, refl)));
 }

@@ -64,6 +64,10 @@ AreWhole form count = ((form ≡ 0) × ((k : ℕ) × (count ≡ 8 * k))) ⊎ ((f
 abbrev pub extent_length : Row
 extent_length = row 20 4
 
+-- an allocation extent descriptor before its area: tag, previous allocation extent location, length of allocation descriptors
+abbrev pub extent_table : List Row
+extent_table = row 0 16 ∷ row 16 4 ∷ extent_length ∷ []
+
 -- allocation extent descriptor (4/14.5): a tag of identifier 258, and the area, which lies in the block
 pub record IsAllocationExtent (form : ℕ) (bytes : List ℕ) (place : ℕ) (area : List ℕ) : Type 0 where
   pub tagged : IsTagged bytes 258 place

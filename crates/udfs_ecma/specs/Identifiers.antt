@@ -85,6 +85,13 @@ pub record IsIdentifierAt (bytes : List ℕ) (place : ℕ) (id : Identifier) : T
 abbrev pub root_icb : Row
 root_icb = row 400 16
 
+-- a file set descriptor: tag, recording date and time, interchange level and the maximum one, character set list and the maximum one, file set
+-- number, file set descriptor number, character set and text of the logical volume identifier, character set of the file set identifier,
+-- file set, copyright and abstract file identifier, root directory ICB, domain identifier, next extent, system stream directory ICB, reserved
+abbrev pub file_set_table : List Row
+file_set_table = row 0 16 ∷ row 16 12 ∷ row 28 2 ∷ row 30 2 ∷ row 32 4 ∷ row 36 4 ∷ row 40 4 ∷ row 44 4 ∷ row 48 64 ∷ row 112 128 ∷ row 240 64
+    ∷ row 304 32 ∷ row 336 32 ∷ row 368 32 ∷ root_icb ∷ row 416 32 ∷ row 448 16 ∷ row 464 16 ∷ row 480 32 ∷ []
+
 -- a file set descriptor (4/14.1): a tag of identifier 256, and the root's ICB
 pub record IsFileSet (bytes : List ℕ) (place : ℕ) (root : LongAd) : Type 0 where
   pub tagged : IsTagged bytes 256 place

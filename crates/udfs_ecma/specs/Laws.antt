@@ -21,9 +21,9 @@ use Rattle.udfs_file.specs.Entries.{EntryFields, entry_fault, entry_of}
 use Rattle.udfs_file.specs.Identifiers.{Identifier}
 use Rattle.udfs_file.specs.Standard.{IsBodyOf, IsDirectoryBody, IsExtentAt, IsIdentifierIn, Located, MayName, PartitionBlocks, recorded_in}
 use Rattle.udfs_ecma.specs.Entries.{IsEntryAt, extended_rows, file_entry_rows, first_rows, icb_table}
-use Rattle.udfs_ecma.specs.Extents.{AreRecorded, AreWhole, IsAllocationExtent, IsExtentAd, IsShortAd, IsLongAd}
+use Rattle.udfs_ecma.specs.Extents.{AreRecorded, AreWhole, IsAllocationExtent, IsExtentAd, IsShortAd, IsLongAd, extent_table}
 use Rattle.udfs_ecma.specs.Files.{AreIdentifiers, IsBodyAt, bytes_in}
-use Rattle.udfs_ecma.specs.Identifiers.{AreCharacters, IsFileSet, IsIdentifierAt, identifier_table}
+use Rattle.udfs_ecma.specs.Identifiers.{AreCharacters, IsFileSet, IsIdentifierAt, file_set_table, identifier_table}
 use Rattle.udfs_ecma.specs.Layouts.{IsLayout, Placed}
 use Rattle.udfs_ecma.specs.Sparing.{IsSparingTable, sparing_rows}
 use Rattle.udfs_ecma.specs.Tables.{FollowOn}
@@ -182,6 +182,8 @@ pub record TablesFollowOn : Type 0 where
   pub type1_maps : FollowOn 0 type1_table 6
   pub sparable_maps : FollowOn 0 sparable_table 64
   pub sparing : FollowOn 0 sparing_rows 56
+  pub file_sets : FollowOn 0 file_set_table 512
+  pub continuations : FollowOn 0 extent_table 24
   pub stamps : FollowOn 0 stamp_rows 12
 
 -- each of these blocks has 2048 bytes and a sound tag at its place
