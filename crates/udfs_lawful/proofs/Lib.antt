@@ -4,3 +4,4 @@ pub mod Nodes
 pub mod Lawful
 pub mod ByTables
 pub mod LayoutByTables
+pub mod SparingByTables

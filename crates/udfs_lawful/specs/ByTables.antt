@@ -4,13 +4,16 @@
 --     InTreeByTables blocks root path file  the path leads from the root to this file
 --     TreeByTables                          in a lawful volume these are the files of its tree
 --     LayoutByTables                        and its layout is the one that the tables give
-use Rattle.std.specs.Prelude.{◌≡◌, ◌≢◌, ◌↔◌, ℕ, List, [], ◌∷◌, map, Some, Contains}
+--     SparingByTables                       and so are its sparing tables
+use Rattle.std.specs.Prelude.{◌≡◌, ◌≢◌, ◌↔◌, ℕ, List, [], ◌∷◌, map, Some, Contains, ⊤}
 use Rattle.udfs_lattice.specs.Volumes.{Volume}
 use Rattle.udfs_tag.specs.declared.layouts.LongAd.{LongAd}
 use Rattle.udfs_volume.specs.declared.profiles.Profile.{Profile}
 use Rattle.udfs_volume.specs.declared.anchors.AnchorExtents.{AnchorExtents}
+use Rattle.udfs_volume.specs.Layout.{Partition, PartitionMap, type1, sparable}
 use Rattle.udfs_volume.specs.Sequence.{Bytes}
 use Rattle.udfs_volume.specs.Standard.{main_blocks, standard_anchor}
+use Rattle.udfs_space.specs.Standard.{first_table, table_at}
 use Rattle.udfs_file.specs.Fronts.{listed_entries}
 use Rattle.udfs_file.specs.Identifiers.{Identifier}
 use Rattle.udfs_file.specs.declared.directories.DirEntry.{DirEntry}
@@ -19,6 +22,7 @@ use Rattle.udfs_ecma.specs.Entries.{IsEntryAt}
 use Rattle.udfs_ecma.specs.Files.{AreIdentifiers, IsBodyAt}
 use Rattle.udfs_ecma.specs.Identifiers.{IsFileSet}
 use Rattle.udfs_ecma.specs.Layouts.{IsLayout}
+use Rattle.udfs_ecma.specs.Sparing.{IsSparingTable}
 use Rattle.udfs_ecma.specs.Volumes.{IsAnchorAt}
 use Rattle.udfs_tree.specs.Trees.{InTree, PartitionBlocks, TreeFile}
 use Rattle.udfs_salvage.specs.VolumeTrees.{IsLawfulBy, IsOpenedBy, Opened}
@@ -83,3 +87,14 @@ pub record HasLayoutByTables (profile : Profile) (volume : Volume) (last : ℕ) 
 abbrev pub LayoutByTables : Type 0
 LayoutByTables = (profile : Profile) (volume : Volume) (last : ℕ) → IsLawfulBy profile volume last
     → (opened : Opened) → IsOpenedBy profile volume last opened → HasLayoutByTables profile volume last opened
+
+-- Each copy of the sparing table of a map is one by its table, with the used entries by which the standard places blocks; a map of type 1 has none.
+abbrev pub IsSparedByTables : Volume → ℕ → PartitionMap → Type 0
+IsSparedByTables volume last type1 = ⊤
+IsSparedByTables volume last (sparable packet size tables) = (place : ℕ) → Contains tables place
+    → IsSparingTable last packet (table_at volume size place) place (first_table volume (sparable packet size tables))
+
+-- so it is of each partition of every lawful volume
+abbrev pub SparingByTables : Type 0
+SparingByTables = (profile : Profile) (volume : Volume) (last : ℕ) → IsLawfulBy profile volume last
+    → (opened : Opened) → IsOpenedBy profile volume last opened → (p : Partition) → Contains opened.layout.partitions p → IsSparedByTables volume opened.layout.last p.kind

@@ -1,5 +1,5 @@
 //! Laws of lawful volumes, each the contract of a function that does nothing.
-ghost use Rattle.udfs_lawful.specs.ByTables.{LayoutByTables, TreeByTables};
+ghost use Rattle.udfs_lawful.specs.ByTables.{LayoutByTables, SparingByTables, TreeByTables};
 ghost use Rattle.udfs_lawful.specs.Laws.{SomeManyForms};
 
 /// There is a lawful volume, by the strict rules, of UDF 2.01, with a spared packet, in which entries, descriptors, directories and names have
@@ -19,4 +19,10 @@ pub fn lawful_trees_are_by_the_tables()
 /// the descriptors in the blocks of the main sequence that this names.
 pub fn lawful_layouts_are_by_the_tables()
     ensures { LayoutByTables }
+{}
+
+/// Each copy of a sparing table of a lawful volume, by the rules of any profile, is one by the standard's table, and has the used entries by
+/// which blocks are placed.
+pub fn lawful_sparing_is_by_the_tables()
+    ensures { SparingByTables }
 {}
