@@ -13,7 +13,9 @@ use Rattle.udfs_salvage.specs.RereadTexts.{number_lines}
 use Rattle.udfs_salvage.specs.Reports.{IsOutOfRange, Report, all_whole}
 use Rattle.udfs_volume.specs.declared.profiles.Profile.{Profile}
 use Rattle.udfs_common.specs.declared.refusal.Refusal.TheVariants.{Output}
+use Rattle.udfs_volume.specs.Answers.{Answer}
 use Rattle.udfs_volume.specs.Seen.{IsRising}
+use Rattle.udfs_salvage.specs.Found.{Found}
 use Rattle.udfs_volume.proofs.PublicLaws.{ascending_rises}
 use Rattle.udfs_words.specs.Requests.{texts}
 use Rattle.udfs_words.specs.declared.request.RereadRequest.{RereadRequest}
@@ -116,8 +118,8 @@ domain_of r last table kept wanted known all bytes whole l wants knows mapped is
   report = l.report;
   is_report = l.is_report;
   all = all;
-  are_mapped = subst (λ (bs : List ℕ). AreMapped r table last l.report.volume bs all) l.blocks (subst (λ v. AreMapped r table last v kept.reread all) l.volume mapped);
+  are_mapped = subst (λ (bs : List ℕ). AreMapped r table last l.report.volume bs all) l.blocks (subst (λ (v : Answer Found). AreMapped r table last v kept.reread all) l.volume mapped);
   is = is;
-  says = ap₂ (λ (ws : List ℕ) (k : ℕ). domain_line r.group ws k (length all)) (wants ∙ l.blocks) (ap (λ (ks : List ℕ). length ks) (knows ∙ ap₂ (λ v (bs : List ℕ). compared r.witnesses table last v bs) l.volume l.blocks));
+  says = ap₂ (λ (ws : List ℕ) (k : ℕ). domain_line r.group ws k (length all)) (wants ∙ l.blocks) (ap (λ (ks : List ℕ). length ks) (knows ∙ ap₂ (λ (v : Answer Found) (bs : List ℕ). compared r.witnesses table last v bs) l.volume l.blocks));
   all_is_whole = says ∙ ap all_whole l.nodes;
 }

@@ -29,5 +29,5 @@ returns-in-Ok-keep_in_line-clause-range c = c.in-Ok.ensures.report.in_range
 pub returns-in-Ok-keep_in_line-clause-rising : goal.returns-in-Ok-keep_in_line-clause-rising
 returns-in-Ok-keep_in_line-clause-rising c = c.in-Ok-keep_in_line.ensures.rising c.in-Ok.ensures.rising
 
-pub returns-clause-refused : goal.returns-clause-refused
-returns-clause-refused c = inl (inl (c.refused_report.ensures ∙ ap salvage_refusal_of c.in-Err-keep_in_line.ensures.refused))
+pub returns-in-Err-keep_in_line-clause-refused : goal.returns-in-Err-keep_in_line-clause-refused
+returns-in-Err-keep_in_line-clause-refused c = inl (inl (c.refused_report.ensures ∙ ap salvage_refusal_of c.in-Err-keep_in_line.ensures.refused))
