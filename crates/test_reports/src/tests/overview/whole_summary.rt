@@ -244,7 +244,7 @@ fn a_sink_that_fails_holds_a_beginning(rt: HostRuntime) -> Result<(), Fail> {
     let (unread, expected) = UNREAD[1];
     let table = Disc::type1(alloc)?.known_but(alloc, unread)?;
     let survey = survey_volume(alloc, &table, LAST)?;
-    for good in 0..expected.len() {
+    for good in [0usize, 1, 80, 400, expected.len().saturating_sub(1)] {
         let bytes = Vec::new(alloc);
         let mut sink = Writer::new(Narrow { bytes, good });
         let outcome = write_summary(alloc, &GIVEN, &survey, &mut sink);
