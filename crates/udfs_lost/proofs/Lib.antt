@@ -1,0 +1,9 @@
+pub mod Members
+pub mod Kept
+pub mod EntryLemmas
+pub mod MetLemmas
+pub mod SearchLemmas
+pub mod TreeLemmas
+pub mod FileLemmas
+pub mod FolderTrees
+pub mod PublicLaws

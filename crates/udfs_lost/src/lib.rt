@@ -1,0 +1,20 @@
+// SPDX-License-Identifier: MIT OR Apache-2.0
+//! Lost folders with their names: directories that no known name leads to, the trees below them, and lost files.
+//!
+//! [`lost_roots`] finds the folders from which to walk, [`lost_trees`] their nodes, and [`lost_files`] the files that no
+//! such tree names. The laws in [`laws`] say what a lost tree tells of the tree of its volume.
+#![tactic(auto)]
+
+mod entries;
+pub mod files;
+pub mod folders;
+pub mod laws;
+pub mod links;
+mod met;
+mod search;
+pub mod trees;
+
+pub use files::lost_files;
+pub use folders::lost_roots;
+pub use links::link_count;
+pub use trees::{LostTree, lost_trees};
