@@ -11,7 +11,7 @@ ghost use Rattle.udfs_commands.specs.Doing.{Does, Leaves, MayFail};
 
 use crate::performing::perform;
 use crate::printing::send;
-use crate::refusing::{ask_for_last, explain, refuse, show, tell, tell_profile};
+use crate::refusing::{ask_for_last, explain, is_watched, refuse, show, tell, tell_profile};
 use clap::ArgMatches;
 use std::alloc::{AllocError, Global};
 use udfs_common::files::Files;
@@ -53,7 +53,7 @@ pub fn run<F: Files, O: Sink, E: Sink>(
     };
     let matches = match command.try_get_matches_from(words) {
         Ok(matches) => matches,
-        Err(error) => return show(alloc, &error, out, err),
+        Err(error) => return show(alloc, &error, is_watched(words, files), out, err),
     };
     let (name, found) = match matches.subcommand() {
         Some(found) => found,
@@ -116,7 +116,7 @@ fn finish<F: Files, E: Sink>(
     match outcome {
         Ok(true) => 0,
         Ok(false) => 1,
-        Err(Refusal::NoLast) => ask_for_last(alloc, line, err),
+        Err(Refusal::NoLast) => ask_for_last(alloc, line, is_watched(line, files), err),
         Err(refusal) => {
             let status = refuse(alloc, &refusal, err);
             explain(alloc, &refusal, request, words, files, err);

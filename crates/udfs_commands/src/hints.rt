@@ -308,7 +308,7 @@ fn inputs_of<'r, 'a>(request: &'r Request<'a>) -> &'r Inputs<'a> {
 }
 
 /// Where the disc ends, for a command that asks for it.
-fn last_of(request: &Request<'_>) -> Option<LastSource> {
+fn last_of<'a>(request: &Request<'a>) -> Option<LastSource<'a>> {
     match request {
         Request::Merge(_) | Request::Forget(_) => None,
         Request::Image(image) => Some(image.last),
@@ -452,6 +452,11 @@ fn of_past_end(
         Some(LastSource::Block(last)) => {
             Ok(Some(format!(in alloc; "block {block} is known, so the last block is not {last}")?))
         }
+        Some(LastSource::OfMap(map)) => {
+            Ok(Some(format!(in alloc;
+                "block {block} is known, so the disc does not end where {map} does"
+            )?))
+        }
         Some(LastSource::OfMaps) => {
             Ok(Some(format!(in alloc;
                 "block {block} is known, so the disc does not end where the mapfiles do"
@@ -459,6 +464,22 @@ fn of_past_end(
         }
         None => Ok(None),
     }
+}
+
+/// What is said of a mapfile that gives no size.
+fn of_no_size(
+    alloc: Global,
+    request: &Request<'_>,
+    reason: Option<Error>,
+) -> Result<Option<String>, AllocError> {
+    let Some(LastSource::OfMap(map)) = last_of(request) else {
+        return Ok(None);
+    };
+    let line = match reason {
+        Some(error) => format!(in alloc; "{map}: {error}")?,
+        None => format!(in alloc; "{map} is no mapfile of GNU ddrescue, or has no run")?,
+    };
+    Ok(Some(line))
 }
 
 /// What is said of an error that names no input, if anything.
@@ -473,6 +494,7 @@ fn of_other<F: Files>(
         (Refusal::Output, _) => return of_output(alloc, request, reason),
         (Refusal::Spared, _) => return why_spared(alloc, request, files),
         (Refusal::PastEnd(block), _) => return of_past_end(alloc, request, *block),
+        (Refusal::NoSize, _) => return of_no_size(alloc, request, reason),
         (Refusal::ListOpen | Refusal::ListRead, Request::Forget(forget)) => {
             of_list(alloc, forget.lists.as_slice(), reason, files)?
         }

@@ -14,10 +14,17 @@ use udfs_common::files::Files;
 use udfs_common::refusal::Refusal;
 use udfs_reading::{DeviceFault, Sink};
 use udfs_words::request::Request;
-use udfs_words::words::{QUIET, VERBOSE, given_in, grammar};
+use udfs_words::words::{QUIET, VERBOSE, given_in, grammar, is_given};
 
 /// The line that says that memory ran out. Itself it takes no memory.
 const NO_MEMORY: &[u8] = b"udfsalvage: out of memory\n";
+
+/// How clap lists that the last block is missing.
+const NO_LAST: &str = "\n  --last <N>\n";
+
+/// Where to find it.
+const FIND_LAST: &str =
+    "  blockdev --getsize64 /dev/sr0 prints the disc's size for --size; --size-of MAPFILE takes it from a mapfile\n";
 
 /// How clap lists that a list of blocks is missing.
 const NO_BLOCKS: &str = "\n  --blocks <LIST>\n";
@@ -61,14 +68,20 @@ pub fn refuse_words<E: Sink>(wants_memory: bool, err: &mut E) -> u8
 }
 
 /// Prints clap's text: help and version on `out`, a fault of the arguments on `err`. It returns the exit status: 0, or 2 for a fault, where memory runs out, or
-/// where `out` does not take the text.
-pub fn show<O: Sink, E: Sink>(alloc: Global, error: &Error, out: &mut O, err: &mut E) -> u8
+/// where `out` does not take the text. Where a person reads it, a missing last block has a line on where to find it.
+pub fn show<O: Sink, E: Sink>(
+    alloc: Global,
+    error: &Error,
+    watched: bool,
+    out: &mut O,
+    err: &mut E,
+) -> u8
     ensures status { (result ≡ 0) ⊎ (result ≡ 2) }
     ensures silent { result ≡ 0 → err.new ≡ err.old }
     ensures memory { kind_of error.now ≡ ErrorKind.OutOfMemory → result ≡ 2 }
 {
     if error.use_stderr() || error.kind() == ErrorKind::OutOfMemory {
-        return show_fault(alloc, error, err);
+        return show_fault(alloc, error, watched, err);
     }
     let Ok(text) = format!(in alloc; "{error}") else {
         return refuse(alloc, &Refusal::Memory(AllocError), err);
@@ -80,13 +93,13 @@ pub fn show<O: Sink, E: Sink>(alloc: Global, error: &Error, out: &mut O, err: &m
 }
 
 /// Shows clap's text of a fault of the arguments, and returns the exit status, 2.
-fn show_fault<E: Sink>(alloc: Global, error: &Error, err: &mut E) -> u8
+fn show_fault<E: Sink>(alloc: Global, error: &Error, watched: bool, err: &mut E) -> u8
     ensures { result ≡ 2 }
 {
     if error.kind() == ErrorKind::OutOfMemory {
         return refuse(alloc, &Refusal::Memory(AllocError), err);
     }
-    match fault_text(alloc, error) {
+    match fault_text(alloc, error, watched) {
         Ok(text) => {
             let _ = send(text.as_bytes(), err);
             2
@@ -96,17 +109,27 @@ fn show_fault<E: Sink>(alloc: Global, error: &Error, err: &mut E) -> u8
 }
 
 /// Clap's text of a fault of the arguments. Where a list of blocks is missing, the other argument that would do is named too, as clap does in a group of which
-/// one has to be given.
-fn fault_text(alloc: Global, error: &Error) -> Result<String, AllocError> {
+/// one has to be given. Where the last block is missing, and a person reads it, one more line says where to find it.
+fn fault_text(alloc: Global, error: &Error, watched: bool) -> Result<String, AllocError> {
     let text = format!(in alloc; "{error}")?;
-    match text.as_str().split_once(NO_BLOCKS) {
-        Some((before, after)) => format!(in alloc; "{before}{NOTHING_TO_FORGET}{after}"),
-        None => Ok(text),
+    if let Some((before, after)) = text.as_str().split_once(NO_BLOCKS) {
+        return format!(in alloc; "{before}{NOTHING_TO_FORGET}{after}");
     }
+    if watched && text.as_str().contains(NO_LAST) {
+        return format!(in alloc; "{text}{FIND_LAST}");
+    }
+    Ok(text)
+}
+
+/// Whether a person reads more than the line of an error, by these arguments: on a terminal, or with `--verbose`, and never with `--quiet`.
+pub fn is_watched<F: Files>(words: &[String], files: &F) -> bool {
+    let verbose = is_given("--verbose", b"--verbose", words) || is_given("-v", b"-v", words);
+    let quiet = is_given("--quiet", b"--quiet", words) || is_given("-q", b"-q", words);
+    !quiet && (verbose || files.is_watched())
 }
 
 /// Says, as clap does where neither a size nor an image with its mapfile is given, that the last block has to be given, and returns the exit status, 2.
-pub fn ask_for_last<E: Sink>(alloc: Global, line: &[String], err: &mut E) -> u8
+pub fn ask_for_last<E: Sink>(alloc: Global, line: &[String], watched: bool, err: &mut E) -> u8
     ensures { result ≡ 2 }
 {
     let mut given = given_in(line);
@@ -116,7 +139,7 @@ pub fn ask_for_last<E: Sink>(alloc: Global, line: &[String], err: &mut E) -> u8
         Err(AllocError) => return refuse(alloc, &Refusal::Memory(AllocError), err),
     };
     match command.try_get_matches_from(line) {
-        Err(error) => show_fault(alloc, &error, err),
+        Err(error) => show_fault(alloc, &error, watched, err),
         // The grammar asks for it.
         Ok(_) => refuse(alloc, &Refusal::NoLast, err),
     }

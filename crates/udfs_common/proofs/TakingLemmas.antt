@@ -10,12 +10,12 @@ use Rattle.udfs_lattice.specs.Tables.{Table, empty_table, entries_of, join_table
 use Rattle.udfs_compare.specs.Comparing.{are_other, disagreeing, is_other_disc, shared}
 use Rattle.udfs_reading.specs.Answers.{FailsAfter, GivesFault, RefusesFaulty}
 use Rattle.udfs_reading.specs.Inputs.{inputs}
-use Rattle.udfs_reading.specs.Several.{HasTable, InputFails, TablesAre}
+use Rattle.udfs_reading.specs.Several.{HasTable, TablesAre}
 use Rattle.udfs_reading.specs.declared.error.ReadingFault.TheVariants.{Io}
 use Rattle.udfs_reading.specs.declared.inputs.InputError.{InputError}
 use Rattle.udfs_common.proofs.KeepingLemmas.{last_of}
 use Rattle.udfs_common.specs.Blaming.{AreJudged, BlamesSource, InputsRefused, source_reason}
-use Rattle.udfs_common.specs.Keeping.{Joined, Opens}
+use Rattle.udfs_common.specs.Keeping.{Opens}
 use Rattle.udfs_common.specs.OtherDiscs.{EachIsOne, IsOneDisc, IsOtherBy, IsOtherDisc, is_compared, pair_at}
 use Rattle.udfs_common.specs.Refusing.{refusal_for, refusal_with}
 use Rattle.udfs_common.specs.Taking.{BlamesAlone, IsOther, IsOtherSource, Taken, Takes}

@@ -12,7 +12,7 @@
 --     AreInTheWay                one of them is
 --     IsFreePair                 what an image and its mapfile take the place of
 --     IsSparedPair               why they are not written
-use Rattle.std.specs.Prelude.{◌≡◌, ◌≢◌, ◌⊎◌, ⊤, ℕ, List, [], ◌∷◌, Bool, true, false, Option, Some, IfSome, ◌++◌, codes, nat_eq, if◌then◌else◌, None, map}
+use Rattle.std.specs.Prelude.{◌≡◌, ◌≢◌, ◌⊎◌, ⊤, ℕ, List, [], ◌∷◌, Bool, true, false, Option, Some, IfSome, ◌++◌, codes, nat_eq, if◌then◌else◌, None}
 use Rattle.udfs_rescue.specs.Writing.{made_by, mark_line}
 use Rattle.udfs_files.specs.Disk.{IsOwn}
 

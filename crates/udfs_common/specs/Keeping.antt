@@ -2,19 +2,16 @@
 --     Opens          each source has what its path leads to
 --     OfPaths        the inputs are those of the paths, and this holds of their join
 --     IsPut          a file holds these bytes, and each crash leaves them; or they went to what is no file
---     MayReplace     what a crash in the middle shows: what was there, or the join of the inputs in its place
 --     FailedOut      what a call that failed leaves of an output
 --     RefusedOut     what an error leaves: nothing has changed, or what `FailedOut` says
 use Rattle.std.specs.Prelude.{◌≡◌, ◌≢◌, ◌⊎◌, ℕ, List, Option, Some, length, slice_get}
 use Rattle.std.specs.Io.KnownBytes.{Appends}
-use Rattle.udfs_files.specs.Disk.{Disk, IsOwn, Same, Replaced}
+use Rattle.udfs_files.specs.Disk.{Disk, IsOwn}
 use Rattle.udfs_lattice.specs.Tables.{Table}
 use Rattle.udfs_lattice.specs.Records.{join_all}
 use Rattle.udfs_reading.specs.Several.{TablesAre}
 use Rattle.udfs_common.specs.Sources.{IsPathOpened}
-use Rattle.udfs_common.specs.Spelling.{table_file}
 use Rattle.udfs_words.specs.declared.input_path.InputPath.{InputPath}
-use Rattle.udfs_words.specs.declared.forms.Version.{Version}
 use Rattle.udfs_reading.specs.Device.{Stream}
 
 -- the source at each place has what the path at that place leads to, where that is known
@@ -40,10 +37,6 @@ pub record IsKept (holds : List ℕ → Option (Option (List ℕ))) (may_leave :
 -- some output has taken the bytes
 abbrev pub IsTaken : {W : Type 0} → (W → Stream) → List ℕ → Type 0
 IsTaken {W} stream bytes = (before : W) × (after : W) × Appends (stream before).contents (stream after).contents bytes
-
--- the disk is as it was, or a table file of inputs of these paths is in the place of what was at a path
-abbrev pub MayReplace : {R : Type 0} → (List ℕ → Option (Option (List ℕ))) → (R → Option (List ℕ)) → List InputPath → Version → List ℕ → Disk → Disk → Type 0
-MayReplace found remaining paths version out d c = Same d c ⊎ ((tables : List Table) × Joined found remaining paths tables × Replaced out (table_file version (join_all tables)) d c)
 
 -- some call failed; unless the output is a device or a pipe, its path holds what it held, or the bytes that were put, whole, and no other path changes, but those of new files that were to go in its place
 pub record FailedOut {F : Type 0} (tells : Type 0) (holds : F → List ℕ → Option (Option (List ℕ))) (real : F → List ℕ → List ℕ) (in_place : F → List ℕ → Type 0) (Failed : Type 0) (out : List ℕ) (old new : F)

@@ -53,6 +53,10 @@ pub enum Refusal {
     #[error("the last block was not given")]
     NoLast,
 
+    /// The size was to be taken from a mapfile, which is no file, cannot be read, or has no run.
+    #[error("cannot take the size from the mapfile")]
+    NoSize,
+
     /// A list of blocks cannot be opened.
     #[error("cannot open list")]
     ListOpen,

@@ -14,8 +14,9 @@ use Rattle.udfs_walk.specs.Unsettled.{AreUnsettled, unsettled}
 use Rattle.udfs_walk.specs.Visits.{AreRefused, end_at}
 use Rattle.udfs_walk.specs.Frames.{FrameFields, HasManyBelow, IsFrameOf, IsStepRefused, count_left, frame_at, IsNextTaken, frames_with}
 use Rattle.udfs_walk.specs.Walks.{IsNodesRefused}
-use Rattle.udfs_walk.specs.declared.answers.NodesError.{NodesError}
-use Rattle.udfs_walk.specs.declared.answers.NodesError.TheVariants.{TooManyPaths, OutOfMemory}
+use Rattle.udfs_walk.specs.GivingUp.{IfTold}
+use Rattle.udfs_walk.specs.declared.answers.NodesGaveUp.{NodesGaveUp}
+use Rattle.udfs_walk.specs.declared.answers.NodesGaveUp.TheVariants.{TooManyPaths, OutOfMemory, Unread}
 use Rattle.udfs_walk.proofs.Trees.{tree, tree-is, tree_walk, tree_more}
 
 -- what one directory owes
@@ -185,30 +186,57 @@ drop_next xs i x h e = drop_more xs i x h ∙ ap (λ y. y ∷ drop (i + 1) xs) (
 pub some_left : {A : Type 0} (xs : List A) (i : ℕ) → i < length xs → drop i xs ≡ [] → ⊥
 some_left xs i h e = let none : length (drop i xs) ≡ 0 = ap length e in let few : length (drop i xs) ≡ length xs - i = length-drop i xs in omega (arith, h, none, few)
 
--- ---- an error that is handed up
-pub step_refused : {A : Type 0} (v : View) (most : ℕ) (f : FrameFields) (e : DirEntry) (rest : List DirEntry) (w : Walked) (r : Result A NodesError) (error : NodesError) → IsErrAnd r (λ d. d ≡ error)
-    → f.left ≡ e ∷ rest → w ≡ inside f.path f.above e → AreRefused most (entries_below v w) error → IfErr r (IsStepRefused v most f)
-step_refused v most f e rest w r error h l q a = let x = err_from_is_err_and r h in subst (λ r. IfErr r (IsStepRefused v most f)) (sym (x.1 ∙ ap Err x.2)) (go error a)
+-- ---- an error that is handed up; where it is told only under a condition, so is what it means
+pub step_refused : {A : Type 0} (T : Type 0) (v : View) (most : ℕ) (f : FrameFields) (e : DirEntry) (rest : List DirEntry) (w : Walked) (r : Result A NodesGaveUp) (error : NodesGaveUp) → IsErrAnd r (λ d. d ≡ error)
+    → f.left ≡ e ∷ rest → w ≡ inside f.path f.above e → (T → IfTold (AreRefused most (entries_below v w)) error) → IfErr r (λ d. T → IfTold (IsStepRefused v most f) d)
+step_refused T v most f e rest w r error h l q a = let x = err_from_is_err_and r h in subst (λ r. IfErr r (λ d. T → IfTold (IsStepRefused v most f) d)) (sym (x.1 ∙ ap Err x.2)) (λ told. go error (a told))
   where
-    go : (d : NodesError) → AreRefused most (entries_below v w) d → IsStepRefused v most f d
+    go : (d : NodesGaveUp) → IfTold (AreRefused most (entries_below v w)) d → IfTold (IsStepRefused v most f) d
     go TooManyPaths m = record { entry = e; rest = rest; first = l; many = subst (λ z. most < length (entries_below v z)) q m }
     go OutOfMemory m = tt
+    go Unread m = tt
 
-pub start_refused : {A : Type 0} (v : View) (root : LongAd) (path : List (List ℕ)) (above : List Icb) (P : A → Type 0) (r : Result A NodesError) (error : NodesError) → IsErrAnd r (λ e. e ≡ error)
-    → AreRefused 65535 (entries_below v (end_at root path above false)) error → path ≡ [] → above ≡ [] → MatchResult r P (IsNodesRefused v root)
-start_refused v root path above P r error h a p q = let x = err_from_is_err_and r h in subst (λ r. MatchResult r P (IsNodesRefused v root)) (sym (x.1 ∙ ap Err x.2)) (go error a)
+pub start_refused : {A : Type 0} (v : View) (root : LongAd) (path : List (List ℕ)) (above : List Icb) (P : A → Type 0) (r : Result A NodesGaveUp) (error : NodesGaveUp) → IsErrAnd r (λ e. e ≡ error)
+    → IfTold (AreRefused 65535 (entries_below v (end_at root path above false))) error → path ≡ [] → above ≡ [] → MatchResult r P (IfTold (IsNodesRefused v root))
+start_refused v root path above P r error h a p q = let x = err_from_is_err_and r h in subst (λ r. MatchResult r P (IfTold (IsNodesRefused v root))) (sym (x.1 ∙ ap Err x.2)) (go error a)
   where
-    go : (e : NodesError) → AreRefused 65535 (entries_below v (end_at root path above false)) e → IsNodesRefused v root e
+    go : (e : NodesGaveUp) → IfTold (AreRefused 65535 (entries_below v (end_at root path above false))) e → IfTold (IsNodesRefused v root) e
     go TooManyPaths m = start_many v root path above p q m
     go OutOfMemory m = tt
+    go Unread m = tt
 
-pub walk_refused : {A : Type 0} (v : View) (root : LongAd) (nodes : List NodeFields) (frames rest : List FrameFields) (f : FrameFields) (room : ℕ) (P : A → Type 0) (r : Result A NodesError) (error : NodesError)
-    → IsErrAnd r (λ e. e ≡ error) → IsWalking v root nodes frames room → frames ≡ rest ++ f ∷ [] → IsStepRefused v room f error → MatchResult r P (IsNodesRefused v root)
-walk_refused v root nodes frames rest f room P r error h w e s = let x = err_from_is_err_and r h in subst (λ r. MatchResult r P (IsNodesRefused v root)) (sym (x.1 ∙ ap Err x.2)) (go error s)
+pub walk_refused : {A : Type 0} (v : View) (root : LongAd) (nodes : List NodeFields) (frames rest : List FrameFields) (f : FrameFields) (room : ℕ) (P : A → Type 0) (r : Result A NodesGaveUp) (error : NodesGaveUp)
+    → IsErrAnd r (λ e. e ≡ error) → IsWalking v root nodes frames room → frames ≡ rest ++ f ∷ [] → IfTold (IsStepRefused v room f) error → MatchResult r P (IfTold (IsNodesRefused v root))
+walk_refused v root nodes frames rest f room P r error h w e s = let x = err_from_is_err_and r h in subst (λ r. MatchResult r P (IfTold (IsNodesRefused v root))) (sym (x.1 ∙ ap Err x.2)) (go error s)
   where
-    go : (d : NodesError) → IsStepRefused v room f d → IsNodesRefused v root d
+    go : (d : NodesGaveUp) → IfTold (IsStepRefused v room f) d → IfTold (IsNodesRefused v root) d
     go TooManyPaths m = walk_below v root nodes frames rest f room w e m
     go OutOfMemory m = tt
+    go Unread m = tt
+
+-- ---- how much room there is, whatever is told of the entries
+pub room_start : (n : NodeFields) (f : Option FrameFields) (nodes : List NodeFields) (frames : List FrameFields) (room : ℕ)
+    → nodes ≡ n ∷ [] → frames ≡ frames_with [] f → count_left f + room ≡ 65535 → length nodes + left_in frames + room ≡ 65536
+room_start n f nodes frames room ns fs h =
+    let l : left_in frames ≡ 0 + count_left f = ap left_in fs ∙ left_kept [] f in let one : length nodes ≡ 1 = ap length ns in omega (arith, h, l, one)
+
+pub room_none : (nodes : List NodeFields) (frames rest : List FrameFields) (f : FrameFields) (room : ℕ) → length nodes + left_in frames + room ≡ 65536 → frames ≡ rest ++ f ∷ [] → length f.left ≡ 0
+    → length nodes + left_in rest + room ≡ 65536
+room_none nodes frames rest f room h e z = let a : left_in frames ≡ left_in rest + length f.left = ap left_in e ∙ left_last rest f in omega (arith, a, z, h)
+
+pub room_short : (nodes : List NodeFields) (frames rest : List FrameFields) (f g : FrameFields) (room : ℕ) → length nodes + left_in frames + room ≡ 65536 → frames ≡ rest ++ f ∷ []
+    → length f.left ≡ length g.left + 1 → length nodes < 65536
+room_short nodes frames rest f g room h e l = let a : left_in frames ≡ left_in rest + length f.left = ap left_in e ∙ left_last rest f in omega (arith, a, l, h)
+
+pub room_some : (nodes more : List NodeFields) (frames rest next : List FrameFields) (f g : FrameFields) (n : NodeFields) (b : Option FrameFields) (room less : ℕ)
+    → length nodes + left_in frames + room ≡ 65536 → frames ≡ rest ++ f ∷ [] → length f.left ≡ length g.left + 1
+    → more ≡ nodes ++ n ∷ [] → next ≡ frames_with (rest ++ g ∷ []) b → count_left b + less ≡ room → length more + left_in next + less ≡ 65536
+room_some nodes more frames rest next f g n b room less h e t em en less_is =
+    let l : length more ≡ length nodes + 1 = ap length em ∙ length-append nodes (n ∷ []) in
+    let a : left_in frames ≡ left_in rest + length f.left = ap left_in e ∙ left_last rest f in
+    let k : left_in next ≡ left_in (rest ++ g ∷ []) + count_left b = ap left_in en ∙ left_kept (rest ++ g ∷ []) b in
+    let r : left_in (rest ++ g ∷ []) ≡ left_in rest + length g.left = left_last rest g in
+    omega (arith, l, a, k, r, t, h, less_is)
 
 none_left : (xs : List FrameFields) → length xs ≡ 0 → xs ≡ []
 none_left [] h = refl

@@ -1,5 +1,5 @@
 -- What is missing in portions, and in the runs of blocks that they name.
-use Rattle.std.proofs.Common.{◌≡◌, refl, sym, ◌∙◌, ap, subst, ℕ, ◌+◌, List, [], ◌∷◌, ◌++◌, length, take, drop, length-append, arith, replicate, append_assoc, Option, Some, None}
+use Rattle.std.proofs.Common.{◌≡◌, ◌≤◌, refl, sym, ◌∙◌, ap, subst, ℕ, ◌+◌, List, [], ◌∷◌, ◌++◌, length, take, drop, length-append, arith, replicate, append_assoc, Option, Some, None}
 use Rattle.std.specs.Prelude.{zero, suc}
 use Rattle.std.specs.List.{range_with_len}
 use Rattle.std.proofs.lemmas.List.{append-nil, length-replicate, length-take-le, take-append-drop}
@@ -10,7 +10,7 @@ use Rattle.std.specs.Borrow.{Bor}
 use Rattle.udfs_file.specs.declared.portions.Portion.{Portion}
 use Rattle.udfs_file.specs.declared.portions.Portion.TheVariants.{Bytes, Zeros}
 use Rattle.udfs_file.specs.Pieces.{byte_cells}
-use Rattle.udfs_file.specs.Portions.{AreUnread, GivesPortion, IsFirst, IsPortion, portion_count}
+use Rattle.udfs_file.specs.Portions.{AreUnread, GivesCount, GivesPortion, IsFirst, IsPortion, portion_count}
 use Rattle.udfs_walk.specs.BlockRuns.{blocks_of, run_blocks}
 use Rattle.udfs_walk.specs.declared.block_runs.BlockRun.{BlockRun}
 use Rattle.udfs_walk.specs.Gaps.{AreKnownCells, AreGapsOf, GapFields, IsPassed, Leaves, runs_open}
@@ -121,3 +121,7 @@ portion_zeros p n cs e i = let h : cs ≡ replicate n (Byte 0 None) = subst (λ 
 
 pub started : (all s : List Cell) (g : GapFields) → s ≡ all → Leaves all s g g
 started all s g e = subst (λ z. Leaves all z g g) (sym e) (leaves_all all g)
+
+-- ---- how many cells are left, whatever is told of them
+pub fewer_left : (m n : ℕ) (r : Option Portion) (p : Portion) → r ≡ Some p → GivesCount m r n → (1 ≤ portion_count p) × (m ≡ portion_count p + n)
+fewer_left m n r p e g = subst (λ z. GivesCount m z n) e g

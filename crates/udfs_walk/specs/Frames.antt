@@ -5,7 +5,8 @@
 --     IsEntryTaken view old taken new     the next entry was gone into
 --     IsStepRefused view most old error   why it was not
 --     count_left frame           how many entries are left in it
-use Rattle.std.specs.Prelude.{◌≡◌, ◌<◌, ℕ, ⊤, List, [], ◌∷◌, ◌++◌, length, Option, Some, None}
+--     IsOneFewer before taken after       one of so many entries was taken, whatever they are
+use Rattle.std.specs.Prelude.{◌≡◌, ◌+◌, ◌<◌, ℕ, ⊤, List, [], ◌∷◌, ◌++◌, length, Option, Some, None}
 use Rattle.udfs_space.specs.Places.{View}
 use Rattle.udfs_file.specs.declared.directories.DirEntry.{DirEntry}
 use Rattle.udfs_walk.specs.NodeFields.{NodeFields}
@@ -65,3 +66,8 @@ IsStepRefused view most old OutOfMemory = ⊤
 abbrev pub count_left : Option FrameFields → ℕ
 count_left None = 0
 count_left (Some f) = length f.left
+
+-- of so many entries one was taken, and so many are left; or none was left
+abbrev pub IsOneFewer : {A : Type 0} → ℕ → Option A → ℕ → Type 0
+IsOneFewer before None after = (before ≡ 0) × (after ≡ 0)
+IsOneFewer before (Some taken) after = before ≡ after + 1

@@ -20,5 +20,6 @@ pub mod NamedKeys
 pub mod NodeBodies
 pub mod Bare
 pub mod Gathering
+pub mod GivingUp
 pub mod Memos
 pub mod Counting

@@ -8,6 +8,7 @@ use std::error::Error;
 use std::fmt;
 use std::marker::Model;
 use udfs_file::Kind;
+use udfs_lattice::{GaveUp, ReadFault};
 use udfs_osta::Stamp;
 use udfs_tag::{LbAddr, LongAd};
 
@@ -117,3 +118,50 @@ impl fmt::Display for NodesError {
 }
 
 impl Error for NodesError {}
+
+/// Why nodes of a store of blocks are not listed.
+#[derive(Clone, Copy, Debug, PartialEq, Eq)]
+pub enum NodesGaveUp {
+    /// More than 65,536 routes lead from the root to a node.
+    TooManyPaths,
+    /// Memory ran out.
+    OutOfMemory,
+    /// The bytes of a known block could not be read.
+    Unread,
+}
+
+impl From<AllocError> for NodesGaveUp {
+    ghost use Rattle.std.specs.Prelude.{◌≡◌};
+    ghost use Rattle.udfs_walk.specs.declared.answers.NodesGaveUp.TheVariants as gave_up;
+
+    ghost from_gives = { λ _ e. e ≡ gave_up.OutOfMemory };
+
+    fn from(_error: AllocError) -> NodesGaveUp {
+        NodesGaveUp::OutOfMemory
+    }
+}
+
+impl From<ReadFault> for NodesGaveUp {
+    ghost use Rattle.std.specs.Prelude.{◌≡◌};
+    ghost use Rattle.udfs_walk.specs.declared.answers.NodesGaveUp.TheVariants as gave_up;
+
+    ghost from_gives = { λ _ e. e ≡ gave_up.Unread };
+
+    fn from(_fault: ReadFault) -> NodesGaveUp {
+        NodesGaveUp::Unread
+    }
+}
+
+impl From<GaveUp> for NodesGaveUp {
+    ghost use Rattle.std.specs.Prelude.{◌≡◌};
+    ghost use Rattle.udfs_walk.specs.GivingUp.{nodes_gave_up};
+
+    ghost from_gives = { λ why e. e ≡ nodes_gave_up why };
+
+    fn from(why: GaveUp) -> NodesGaveUp {
+        match why {
+            GaveUp::OutOfMemory => NodesGaveUp::OutOfMemory,
+            GaveUp::Unread => NodesGaveUp::Unread,
+        }
+    }
+}

@@ -1,7 +1,7 @@
 //! Nodes and entries without the blocks and the holes of torn ones, which are found again where they are reported.
 
-ghost use Rattle.std.specs.Prelude.{◌≡◌, ◌∷◌, [], IfOk, map};
-ghost use Rattle.udfs_space.specs.Views.{view_now};
+ghost use Rattle.std.specs.Prelude.{◌≡◌, ◌∷◌, [], IfOk, IsErrOf, map};
+ghost use Rattle.udfs_space.specs.Views.{view_by, view_now};
 ghost use Rattle.udfs_file.specs.Bodies.{body};
 ghost use Rattle.udfs_file.specs.Entries.{entry_of};
 ghost use Rattle.udfs_file.specs.Stretches.{IsStanding};
@@ -13,7 +13,8 @@ use crate::standings::{Standing, Torn};
 use crate::targets::{Target, target_at};
 use std::alloc::{AllocError, Global};
 use udfs_file::{Body, Entry, WalkError};
-use udfs_space::View;
+use udfs_lattice::{BlockStore, GaveUp};
+use udfs_space::{StoreView, View};
 use udfs_tag::{LbAddr, LongAd};
 
 /// Nothing that is missing.
@@ -48,24 +49,18 @@ fn lists_of(alloc: Global, standing: Standing) -> Torn
 }
 
 /// What is missing of the body of the entry at an address.
-fn entry_lists(
+fn entry_lists<B: BlockStore>(
     alloc: Global,
-    view: View<'_>,
+    view: StoreView<'_, B>,
     entry: &Entry<'_>,
     address: LbAddr,
-) -> Result<Torn, AllocError>
-    requires { IsStanding (view_now view) address.reference address.block entry.now }
-    ensures { IfOk result (λ torn. torn ≡ body_lists (body (view_now view.entry) address.reference address.block (entry_of entry.now))) }
+) -> Result<Torn, GaveUp>
+    requires { B.tells → IsStanding (view_by B.states view) address.reference address.block entry.now }
+    ensures value { IfOk result (λ torn. B.tells → torn ≡ body_lists (body (view_by B.states view.entry) address.reference address.block (entry_of entry.now))) }
+    ensures fails { IsErrOf result GaveUp.Unread → B.fails }
 {
-    match Body::read(
-        alloc,
-        view.table,
-        view.space,
-        entry,
-        address.reference,
-        address.block,
-    ) {
-        Err(WalkError::OutOfMemory) => Err(AllocError),
+    match Body::read_by(alloc, view, entry, address.reference, address.block)? {
+        Err(WalkError::OutOfMemory) => Err(GaveUp::OutOfMemory),
         Err(WalkError::Fault(_)) => Ok(no_lists(alloc)),
         Ok(body) => {
             // The body has as many cells as this number of 64 bits says.
@@ -77,12 +72,21 @@ fn entry_lists(
 }
 
 /// What is missing of what an address leads to.
-fn lists_at(alloc: Global, view: View<'_>, address: LongAd) -> Result<Torn, AllocError>
-    ensures { IfOk result (λ torn. torn ≡ lists_at (view_now view.entry) address) }
+fn lists_at<B: BlockStore>(
+    alloc: Global,
+    view: StoreView<'_, B>,
+    address: LongAd,
+) -> Result<Torn, GaveUp>
+    ensures value { IfOk result (λ torn. B.tells → torn ≡ lists_at (view_by B.states view.entry) address) }
+    ensures fails { IsErrOf result GaveUp.Unread → B.fails }
 {
-    match target_at(view, address) {
+    let mut room = [0; 2048];
+    match target_at(view, address, &mut room)? {
         Target::Fault(_) => Ok(no_lists(alloc)),
-        Target::Unread(n) => one_block(alloc, n),
+        Target::Unread(n) => {
+            let torn = one_block(alloc, n)?;
+            Ok(torn)
+        }
         Target::Entry(entry) => entry_lists(alloc, view, &entry, address.address()),
     }
 }
@@ -101,6 +105,31 @@ pub fn full_standing(
 ) -> Result<Standing, AllocError>
     ensures { IfOk result (λ full. full ≡ with_lists (lists_at (view_now view.entry) address) standing.now) }
 {
+    let stored = StoreView {
+        blocks: view.table,
+        space: view.space,
+    };
+    match full_standing_by(alloc, stored, address, standing) {
+        Ok(full) => Ok(full),
+        Err(GaveUp::OutOfMemory) => Err(AllocError),
+        Err(GaveUp::Unread) => unreachable!(),
+    }
+}
+
+/// The same as [`full_standing`], by any store of blocks.
+///
+/// # Errors
+///
+/// `OutOfMemory` where memory runs out, and `Unread` where the bytes of a known block could not be read.
+pub fn full_standing_by<B: BlockStore>(
+    alloc: Global,
+    view: StoreView<'_, B>,
+    address: LongAd,
+    standing: &Standing,
+) -> Result<Standing, GaveUp>
+    ensures value { IfOk result (λ full. B.tells → full ≡ with_lists (lists_at (view_by B.states view.entry) address) standing.now) }
+    ensures fails { IsErrOf result GaveUp.Unread → B.fails }
+{
     match standing {
         Standing::Whole => Ok(Standing::Whole),
         Standing::Torn(_) => {
@@ -113,10 +142,15 @@ pub fn full_standing(
 }
 
 /// A node with the blocks and the holes.
-fn full_node(alloc: Global, view: View<'_>, node: Node) -> Result<Node, AllocError>
-    ensures { IfOk result (λ full. full ≡ full_node (view_now view.entry) node) }
+fn full_node<B: BlockStore>(
+    alloc: Global,
+    view: StoreView<'_, B>,
+    node: Node,
+) -> Result<Node, GaveUp>
+    ensures value { IfOk result (λ full. B.tells → full ≡ full_node (view_by B.states view.entry) node) }
+    ensures fails { IsErrOf result GaveUp.Unread → B.fails }
 {
-    let standing = full_standing(alloc, view, node.icb, &node.standing)?;
+    let standing = full_standing_by(alloc, view, node.icb, &node.standing)?;
     let Node {
         path,
         icb,
@@ -138,8 +172,13 @@ fn full_node(alloc: Global, view: View<'_>, node: Node) -> Result<Node, AllocErr
 }
 
 /// An entry with the blocks and the holes.
-fn full_entry(alloc: Global, view: View<'_>, entry: Unnamed) -> Result<Unnamed, AllocError>
-    ensures { IfOk result (λ full. full ≡ full_entry (view_now view.entry) entry) }
+fn full_entry<B: BlockStore>(
+    alloc: Global,
+    view: StoreView<'_, B>,
+    entry: Unnamed,
+) -> Result<Unnamed, GaveUp>
+    ensures value { IfOk result (λ full. B.tells → full ≡ full_entry (view_by B.states view.entry) entry) }
+    ensures fails { IsErrOf result GaveUp.Unread → B.fails }
 {
     let icb = entry.icb();
     let Unnamed {
@@ -150,7 +189,7 @@ fn full_entry(alloc: Global, view: View<'_>, entry: Unnamed) -> Result<Unnamed, 
         stamp,
         standing,
     } = entry;
-    let standing = full_standing(alloc, view, icb, &standing)?;
+    let standing = full_standing_by(alloc, view, icb, &standing)?;
     Ok(Unnamed {
         reference,
         block,
@@ -168,6 +207,30 @@ fn full_entry(alloc: Global, view: View<'_>, entry: Unnamed) -> Result<Unnamed, 
 /// `AllocError` where memory runs out.
 pub fn full_nodes(alloc: Global, view: View<'_>, bare: Vec<Node>) -> Result<Vec<Node>, AllocError>
     ensures { IfOk result (λ full. full.items ≡ map (full_node (view_now view.entry)) bare.items) }
+{
+    let stored = StoreView {
+        blocks: view.table,
+        space: view.space,
+    };
+    match full_nodes_by(alloc, stored, bare) {
+        Ok(full) => Ok(full),
+        Err(GaveUp::OutOfMemory) => Err(AllocError),
+        Err(GaveUp::Unread) => unreachable!(),
+    }
+}
+
+/// The same as [`full_nodes`], by any store of blocks.
+///
+/// # Errors
+///
+/// `OutOfMemory` where memory runs out, and `Unread` where the bytes of a known block could not be read.
+pub fn full_nodes_by<B: BlockStore>(
+    alloc: Global,
+    view: StoreView<'_, B>,
+    bare: Vec<Node>,
+) -> Result<Vec<Node>, GaveUp>
+    ensures value { IfOk result (λ full. B.tells → full.items ≡ map (full_node (view_by B.states view.entry)) bare.items) }
+    ensures fails { IsErrOf result GaveUp.Unread → B.fails }
 {
     let mut full = Vec::with_capacity(alloc, bare.len())?;
     for node in bare {
@@ -187,6 +250,30 @@ pub fn full_entries(
     bare: Vec<Unnamed>,
 ) -> Result<Vec<Unnamed>, AllocError>
     ensures { IfOk result (λ full. full.items ≡ map (full_entry (view_now view.entry)) bare.items) }
+{
+    let stored = StoreView {
+        blocks: view.table,
+        space: view.space,
+    };
+    match full_entries_by(alloc, stored, bare) {
+        Ok(full) => Ok(full),
+        Err(GaveUp::OutOfMemory) => Err(AllocError),
+        Err(GaveUp::Unread) => unreachable!(),
+    }
+}
+
+/// The same as [`full_entries`], by any store of blocks.
+///
+/// # Errors
+///
+/// `OutOfMemory` where memory runs out, and `Unread` where the bytes of a known block could not be read.
+pub fn full_entries_by<B: BlockStore>(
+    alloc: Global,
+    view: StoreView<'_, B>,
+    bare: Vec<Unnamed>,
+) -> Result<Vec<Unnamed>, GaveUp>
+    ensures value { IfOk result (λ full. B.tells → full.items ≡ map (full_entry (view_by B.states view.entry)) bare.items) }
+    ensures fails { IsErrOf result GaveUp.Unread → B.fails }
 {
     let mut full = Vec::with_capacity(alloc, bare.len())?;
     for entry in bare {

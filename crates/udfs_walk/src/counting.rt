@@ -1,22 +1,24 @@
 //! How many walks over bodies were made.
 
-ghost use Rattle.std.specs.Prelude.{◌≡◌, ◌+◌, ◌≤◌, IfErr, IfOk, false, length, nat_lt};
-ghost use Rattle.udfs_space.specs.Views.{view_now};
+ghost use Rattle.std.specs.Prelude.{◌≡◌, ◌+◌, ◌≤◌, IfErr, IfOk, IsErrOf, false, length, nat_lt};
+ghost use Rattle.udfs_space.specs.Views.{view_by};
 ghost use Rattle.udfs_file.specs.Stretches.{IsStanding};
 ghost use Rattle.udfs_file.specs.Entries.{entry_of};
 ghost use Rattle.udfs_file.specs.Bodies.{body};
 ghost use Rattle.udfs_walk.specs.Bare.{bare_standing};
+ghost use Rattle.udfs_walk.specs.GivingUp.{IfTold};
 ghost use Rattle.udfs_walk.specs.Standings.{body_standing};
 ghost use Rattle.udfs_walk.specs.Routes.{kind_entries};
 ghost use Rattle.udfs_walk.specs.Visits.{AreRefused};
 
-use crate::answers::NodesError;
+use crate::answers::NodesGaveUp;
 use crate::told::{Told, body_entered, body_told};
-use std::alloc::{AllocError, Global};
+use std::alloc::Global;
 use std::marker::Model;
 use std::sync::ledger::{Blank, Book, Ledger, Share};
 use udfs_file::{DirEntry, Entry};
-use udfs_space::View;
+use udfs_lattice::{BlockStore, GaveUp};
+use udfs_space::StoreView;
 use udfs_tag::LbAddr;
 
 /// How many walks over bodies were made. It takes no bytes and no time: only the proofs see it.
@@ -57,19 +59,20 @@ impl<L: Ledger> Walks<L> {
 }
 
 /// What the body of the entry at `address` says, as [`body_told`] returns it. It counts one walk.
-pub(crate) fn body_walked<L: Ledger>(
+pub(crate) fn body_walked<L: Ledger, B: BlockStore>(
     alloc: Global,
-    view: View<'_>,
+    view: StoreView<'_, B>,
     entry: &Entry<'_>,
     address: LbAddr,
     walks: &mut Walks<L>,
-) -> Result<Told, AllocError>
-    requires { IsStanding (view_now view) address.reference address.block entry.now }
-    ensures standing { IfOk result (λ told. told.standing ≡ bare_standing (body_standing (view_now view.entry).profile (entry_of entry.now).kind false
-        (body (view_now view.entry) address.reference address.block (entry_of entry.now)))) }
-    ensures lists { IfOk result (λ told. told.lists ≡ nat_lt 0 (length (kind_entries (view_now view.entry).profile (entry_of entry.now).kind
-        (body (view_now view.entry) address.reference address.block (entry_of entry.now))))) }
+) -> Result<Told, GaveUp>
+    requires { B.tells → IsStanding (view_by B.states view) address.reference address.block entry.now }
+    ensures standing { IfOk result (λ told. B.tells → told.standing ≡ bare_standing (body_standing (view_by B.states view.entry).profile (entry_of entry.now).kind false
+        (body (view_by B.states view.entry) address.reference address.block (entry_of entry.now)))) }
+    ensures lists { IfOk result (λ told. B.tells → told.lists ≡ nat_lt 0 (length (kind_entries (view_by B.states view.entry).profile (entry_of entry.now).kind
+        (body (view_by B.states view.entry) address.reference address.block (entry_of entry.now))))) }
     ensures walks { walks.new ≡ walks.old + 1 }
+    ensures fails { IsErrOf result GaveUp.Unread → B.fails }
 {
     walks.count();
     body_told(alloc, view, entry, address)
@@ -77,25 +80,26 @@ pub(crate) fn body_walked<L: Ledger>(
 
 /// What the body of the entry at `address` says, and what the entry lists, as [`body_entered`] returns both. It counts one
 /// walk.
-pub(crate) fn entered_walked<L: Ledger>(
+pub(crate) fn entered_walked<L: Ledger, B: BlockStore>(
     alloc: Global,
-    view: View<'_>,
+    view: StoreView<'_, B>,
     entry: &Entry<'_>,
     address: LbAddr,
     most: usize,
     walks: &mut Walks<L>,
-) -> Result<(Told, Vec<DirEntry>), NodesError>
-    requires { IsStanding (view_now view) address.reference address.block entry.now }
-    ensures standing { IfOk result (λ entered. entered.0.standing ≡ bare_standing (body_standing (view_now view.entry).profile (entry_of entry.now).kind false
-        (body (view_now view.entry) address.reference address.block (entry_of entry.now)))) }
-    ensures lists { IfOk result (λ entered. entered.0.lists ≡ nat_lt 0 (length (kind_entries (view_now view.entry).profile (entry_of entry.now).kind
-        (body (view_now view.entry) address.reference address.block (entry_of entry.now))))) }
-    ensures entries { IfOk result (λ entered. entered.1.items ≡ kind_entries (view_now view.entry).profile (entry_of entry.now).kind
-        (body (view_now view.entry) address.reference address.block (entry_of entry.now))) }
+) -> Result<(Told, Vec<DirEntry>), NodesGaveUp>
+    requires { B.tells → IsStanding (view_by B.states view) address.reference address.block entry.now }
+    ensures standing { IfOk result (λ entered. B.tells → entered.0.standing ≡ bare_standing (body_standing (view_by B.states view.entry).profile (entry_of entry.now).kind false
+        (body (view_by B.states view.entry) address.reference address.block (entry_of entry.now)))) }
+    ensures lists { IfOk result (λ entered. B.tells → entered.0.lists ≡ nat_lt 0 (length (kind_entries (view_by B.states view.entry).profile (entry_of entry.now).kind
+        (body (view_by B.states view.entry) address.reference address.block (entry_of entry.now))))) }
+    ensures entries { IfOk result (λ entered. B.tells → entered.1.items ≡ kind_entries (view_by B.states view.entry).profile (entry_of entry.now).kind
+        (body (view_by B.states view.entry) address.reference address.block (entry_of entry.now))) }
     ensures few { IfOk result (λ entered. length entered.1.items ≤ most) }
-    ensures refused { IfErr result (AreRefused most (kind_entries (view_now view.entry).profile (entry_of entry.now).kind
-        (body (view_now view.entry) address.reference address.block (entry_of entry.now)))) }
+    ensures refused { IfErr result (λ e. B.tells → IfTold (AreRefused most (kind_entries (view_by B.states view.entry).profile (entry_of entry.now).kind
+        (body (view_by B.states view.entry) address.reference address.block (entry_of entry.now)))) e) }
     ensures walks { walks.new ≡ walks.old + 1 }
+    ensures fails { IsErrOf result NodesGaveUp.Unread → B.fails }
 {
     walks.count();
     body_entered(alloc, view, entry, address, most)

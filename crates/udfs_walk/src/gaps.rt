@@ -1,7 +1,7 @@
 //! The missing cells of a body, found run by run.
 
-ghost use Rattle.std.specs.Prelude.{◌≡◌, ◌<◌, ◌+◌, ◌-◌, ◌^◌, ◌++◌, List, [], IfOk, length};
-ghost use Rattle.udfs_space.specs.Views.{view_now};
+ghost use Rattle.std.specs.Prelude.{◌≡◌, ◌<◌, ◌+◌, ◌-◌, ◌^◌, ◌++◌, List, [], IfOk, IsErrOf, OnErr, length};
+ghost use Rattle.udfs_space.specs.Views.{view_by};
 ghost use Rattle.udfs_file.specs.Stretches.{cells_of};
 ghost use Rattle.udfs_file.specs.Portions.{AreUnread, IsPortion, portion_count};
 ghost use Rattle.udfs_file.specs.declared.cells.Cell.{Cell};
@@ -15,7 +15,8 @@ use crate::standings::{Standing, Torn};
 use std::alloc::{AllocError, Global};
 use std::marker::Model;
 use udfs_file::{Body, Portion, Unread};
-use udfs_space::View;
+use udfs_lattice::{BlockStore, GaveUp, ReadFault};
+use udfs_space::StoreView;
 
 /// What is missing of the cells that were gone through.
 #[derive(Drop)]
@@ -123,13 +124,14 @@ impl Gaps {
 }
 
 /// Whether all cells of a body are known, and else what is missing.
-pub(crate) fn cells_standing(
+pub(crate) fn cells_standing<B: BlockStore>(
     alloc: Global,
-    view: View<'_>,
+    view: StoreView<'_, B>,
     body: &Body,
-) -> Result<Standing, AllocError>
-    requires { length (cells_of (view_now view) body.now) < 2 ^ 64 }
-    ensures { IfOk result (λ standing. standing ≡ cells_standing (cells_of (view_now view.entry) body.now)) }
+) -> Result<Standing, GaveUp>
+    requires { length (cells_of (view_by B.states view) body.now) < 2 ^ 64 }
+    ensures value { IfOk result (λ standing. B.tells → standing ≡ cells_standing (cells_of (view_by B.states view.entry) body.now)) }
+    ensures fails { IsErrOf result GaveUp.Unread → B.fails }
 {
     let mut gaps = Gaps {
         missing: Vec::new(alloc),
@@ -137,22 +139,38 @@ pub(crate) fn cells_standing(
         start: 0,
         grown: 0,
     };
-    for portion in body.portions(view) {
-        gaps.pass(portion)?;
+    let mut room = [0; 2048];
+    let mut left = body.portions_by(view);
+    'runs: loop {
+        match left.next(&mut room)? {
+            Some(portion) => gaps.pass(portion)?,
+            None => {
+                let standing = gaps.standing(alloc)?;
+                return Ok(standing);
+            }
+        }
     }
-    let standing = gaps.standing(alloc)?;
-    Ok(standing)
 }
 
 /// Whether all cells of a body are known: `Whole`, or `Torn` without its blocks and holes. It stops at the first cell that is
 /// missing, and takes no memory.
-pub(crate) fn bare_cells_standing(alloc: Global, view: View<'_>, body: &Body) -> Standing
-    ensures { result ≡ bare_standing (cells_standing (cells_of (view_now view.entry) body.now)) }
+pub(crate) fn bare_cells_standing<B: BlockStore>(
+    alloc: Global,
+    view: StoreView<'_, B>,
+    body: &Body,
+) -> Result<Standing, ReadFault>
+    ensures value { IfOk result (λ standing. B.tells → standing ≡ bare_standing (cells_standing (cells_of (view_by B.states view.entry) body.now))) }
+    ensures fails { OnErr result B.fails }
 {
-    for portion in body.portions(view) {
-        if let Portion::Missing(_) = portion {
-            return Standing::Torn(no_lists(alloc));
+    let mut room = [0; 2048];
+    let mut left = body.portions_by(view);
+    'runs: loop {
+        match left.next(&mut room)? {
+            Some(portion) => match portion {
+                Portion::Missing(_) => return Ok(Standing::Torn(no_lists(alloc))),
+                _ => {}
+            },
+            None => return Ok(Standing::Whole),
         }
     }
-    Standing::Whole
 }

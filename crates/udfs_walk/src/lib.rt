@@ -24,10 +24,12 @@ pub mod unnamed_entries;
 mod visits;
 mod walks;
 
-pub use answers::{Node, NodesError, Unnamed};
-pub use bare::{full_entries, full_nodes, full_standing};
-pub use node_bodies::{body_at, tail_at};
+pub use answers::{Node, NodesError, NodesGaveUp, Unnamed};
+pub use bare::{
+    full_entries, full_entries_by, full_nodes, full_nodes_by, full_standing, full_standing_by,
+};
+pub use node_bodies::{body_at, body_by, tail_at};
 pub use paths::Path;
-pub use rereads::{bare_reread, reread};
+pub use rereads::{bare_reread, bare_reread_by, reread};
 pub use standings::{Standing, Torn};
-pub use walks::{bare_nodes, counted_nodes, nodes};
+pub use walks::{bare_nodes, bare_nodes_by, counted_nodes, counted_nodes_by, nodes};

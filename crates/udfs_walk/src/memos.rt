@@ -1,15 +1,16 @@
 //! What the bodies of entries say, each found once for its information control block, whichever routes lead there.
 
-ghost use Rattle.std.specs.Prelude.{◌≡◌, ◌≤◌, ◌+◌, ℕ, List, IfErr, IfOk, IsSome, None, OnOk, Some, false, length, Contains};
+ghost use Rattle.std.specs.Prelude.{◌≡◌, ◌≤◌, ◌+◌, ℕ, List, IfErr, IfOk, IsErrOf, IsSome, None, OnOk, Some, false, length, Contains};
 ghost use Rattle.std.specs.BTreeMap.{IsEmpty, IsOrdered, Updates, btree_map_len, get, insert_entry};
 ghost use Rattle.std.specs.Ordering.{nat_cmp};
 ghost use Rattle.udfs_tag.specs.Fields.{number_of};
-ghost use Rattle.udfs_space.specs.Views.{view_now};
+ghost use Rattle.udfs_space.specs.Views.{view_by};
 ghost use Rattle.udfs_file.specs.Stretches.{IsStanding};
 ghost use Rattle.udfs_file.specs.Entries.{entry_of};
 ghost use Rattle.udfs_file.specs.Bodies.{body};
 ghost use Rattle.udfs_file.specs.declared.directories.DirEntry.{DirEntry};
 ghost use Rattle.udfs_walk.specs.Bare.{bare_standing};
+ghost use Rattle.udfs_walk.specs.GivingUp.{IfTold};
 ghost use Rattle.udfs_walk.specs.Routes.{kind_entries};
 ghost use Rattle.udfs_walk.specs.Standings.{body_standing};
 ghost use Rattle.udfs_lattice.specs.Volumes.{ascending};
@@ -17,7 +18,7 @@ ghost use Rattle.udfs_walk.specs.Visits.{AreListed, AreRefused, count_listed};
 ghost use Rattle.udfs_walk.specs.Counting.{IsCounted};
 ghost use Rattle.udfs_walk.specs.Memos.{HasWords, IsMemo, deep_word, known_of, known_standing, standing_of, word_of};
 
-use crate::answers::NodesError;
+use crate::answers::NodesGaveUp;
 use crate::bare::no_lists;
 use crate::children::{Children, shared_entries};
 use crate::counting::{Walks, body_walked, entered_walked};
@@ -27,7 +28,8 @@ use std::alloc::{AllocError, Global};
 use std::collections::BTreeMap;
 use std::sync::ledger::Ledger;
 use udfs_file::{Entry, NodeFault};
-use udfs_space::View;
+use udfs_lattice::{BlockStore, GaveUp};
+use udfs_space::StoreView;
 use udfs_tag::LbAddr;
 
 /// A standing without its blocks and holes.
@@ -114,18 +116,19 @@ struct Kept {
 impl Kept {
     /// The standing of the entry, where it is no loop and fewer than 64 names lead to it, and the kept entries that it lists. If
     /// these are more than `most`, the error is `TooManyPaths`.
-    fn told(&self, alloc: Global, most: usize) -> Result<(Standing, Option<Children>), NodesError>
+    fn told(&self, alloc: Global, most: usize) -> Result<(Standing, Option<Children>), NodesGaveUp>
         ensures standing { IfOk result (λ told. told.0 ≡ known_standing false self.now.known) }
         ensures entries { IfOk result (λ told. (es : List DirEntry) → AreListed self.now.entries es → AreListed told.1 es) }
         ensures few { IfOk result (λ told. count_listed told.1 ≤ most) }
-        ensures refused { IfErr result (λ error. (es : List DirEntry) → AreListed self.now.entries es → AreRefused most es error) }
+        ensures refused { IfErr result (λ error. (es : List DirEntry) → AreListed self.now.entries es → IfTold (AreRefused most es) error) }
+        ensures read { ¬ IsErrOf result NodesGaveUp.Unread }
     {
         let standing = self.known.standing(alloc, false);
         match &self.entries {
             None => Ok((standing, None)),
             Some(entries) => {
                 if entries.len() > most {
-                    return Err(NodesError::TooManyPaths);
+                    return Err(NodesGaveUp::TooManyPaths);
                 }
                 let entries = entries.clone()?;
                 Ok((standing, Some(entries)))
@@ -152,29 +155,30 @@ impl Memo {
 
     /// What the body of the entry at `address` says, and the entries that it lists, of which there are at most `most`. It is found
     /// once: if it is kept, no body is walked.
-    pub(crate) fn entered<L: Ledger>(
+    pub(crate) fn entered<L: Ledger, B: BlockStore>(
         &mut self,
         alloc: Global,
-        view: View<'_>,
+        view: StoreView<'_, B>,
         entry: &Entry<'_>,
         address: LbAddr,
         most: usize,
         walks: &mut Walks<L>,
-    ) -> Result<(Standing, Option<Children>), NodesError>
-        requires stands { IsStanding (view_now view) address.reference address.block entry.now }
-        requires memo { IsMemo (view_now view) self.old }
-        ensures standing { IfOk result (λ told. told.0 ≡ bare_standing (body_standing (view_now view.entry).profile (entry_of entry.now).kind false
-            (body (view_now view.entry) address.reference address.block (entry_of entry.now)))) }
-        ensures entries { IfOk result (λ told. AreListed told.1 (kind_entries (view_now view.entry).profile (entry_of entry.now).kind
-            (body (view_now view.entry) address.reference address.block (entry_of entry.now)))) }
+    ) -> Result<(Standing, Option<Children>), NodesGaveUp>
+        requires stands { B.tells → IsStanding (view_by B.states view) address.reference address.block entry.now }
+        requires memo { B.tells → IsMemo (view_by B.states view) self.old }
+        ensures standing { IfOk result (λ told. B.tells → told.0 ≡ bare_standing (body_standing (view_by B.states view.entry).profile (entry_of entry.now).kind false
+            (body (view_by B.states view.entry) address.reference address.block (entry_of entry.now)))) }
+        ensures entries { IfOk result (λ told. B.tells → AreListed told.1 (kind_entries (view_by B.states view.entry).profile (entry_of entry.now).kind
+            (body (view_by B.states view.entry) address.reference address.block (entry_of entry.now)))) }
         ensures few { IfOk result (λ told. count_listed told.1 ≤ most) }
-        ensures refused { IfErr result (AreRefused most (kind_entries (view_now view.entry).profile (entry_of entry.now).kind
-            (body (view_now view.entry) address.reference address.block (entry_of entry.now)))) }
-        ensures memo { IfOk result (λ told. IsMemo (view_now view.entry) self.new) }
+        ensures refused { IfErr result (λ e. B.tells → IfTold (AreRefused most (kind_entries (view_by B.states view.entry).profile (entry_of entry.now).kind
+            (body (view_by B.states view.entry) address.reference address.block (entry_of entry.now)))) e) }
+        ensures memo { IfOk result (λ told. B.tells → IsMemo (view_by B.states view.entry) self.new) }
         ensures again { IsSome (get nat_cmp self.old.kept (number_of address)) → walks.new ≡ walks.old }
         ensures once { walks.new ≤ walks.old + 1 }
         ensures counted { IfOk result (λ told. (start : ℕ) (icbs : List ℕ) → Contains icbs (number_of address)
             → IsCounted start icbs self.old walks.old → IsCounted start icbs self.new walks.new) }
+        ensures fails { IsErrOf result NodesGaveUp.Unread → B.fails }
     {
         let number = address.number();
         if let Some(before) = self.kept.get(&number) {
@@ -192,24 +196,25 @@ impl Memo {
 
     /// What the body of the entry at `address` says, where no route goes on to what the entry lists. It is found once: if it is
     /// kept, no body is walked, and otherwise no entry of a directory is kept.
-    pub(crate) fn known<L: Ledger>(
+    pub(crate) fn known<L: Ledger, B: BlockStore>(
         &mut self,
         alloc: Global,
-        view: View<'_>,
+        view: StoreView<'_, B>,
         entry: &Entry<'_>,
         address: LbAddr,
         walks: &mut Walks<L>,
-    ) -> Result<Known, AllocError>
-        requires stands { IsStanding (view_now view) address.reference address.block entry.now }
-        requires words { HasWords (view_now view) self.old }
-        ensures known { IfOk result (λ known. known ≡ known_of (view_now view.entry).profile (entry_of entry.now).kind
-            (body (view_now view.entry) address.reference address.block (entry_of entry.now))) }
-        ensures words { IfOk result (λ known. HasWords (view_now view.entry) self.new) }
+    ) -> Result<Known, GaveUp>
+        requires stands { B.tells → IsStanding (view_by B.states view) address.reference address.block entry.now }
+        requires words { B.tells → HasWords (view_by B.states view) self.old }
+        ensures known { IfOk result (λ known. B.tells → known ≡ known_of (view_by B.states view.entry).profile (entry_of entry.now).kind
+            (body (view_by B.states view.entry) address.reference address.block (entry_of entry.now))) }
+        ensures words { IfOk result (λ known. B.tells → HasWords (view_by B.states view.entry) self.new) }
         ensures again { IsSome (get nat_cmp self.old.kept (number_of address)) → walks.new ≡ walks.old }
         ensures counted { IfOk result (λ known. (start : ℕ) (icbs : List ℕ) → Contains icbs (number_of address)
             → IsCounted start icbs self.old walks.old → IsCounted start icbs self.new walks.new) }
         ensures within { (start : ℕ) (icbs : List ℕ) → Contains icbs (number_of address)
             → IsCounted start icbs self.old walks.old → walks.new ≤ start + length (ascending icbs) }
+        ensures fails { IsErrOf result GaveUp.Unread → B.fails }
     {
         let number = address.number();
         if let Some(kept) = self.kept.get(&number) {

@@ -1,8 +1,8 @@
 //! The nodes to which 64 names lead, settled last of all: a shorter route may have led to the same bodies before.
 
-ghost use Rattle.std.specs.Prelude.{◌≡◌, ◌≤◌, ◌+◌, ℕ, List, OnOk, length, map, Contains};
+ghost use Rattle.std.specs.Prelude.{◌≡◌, ◌≤◌, ◌+◌, ℕ, List, IsErrOf, OnOk, length, map, Contains};
 ghost use Rattle.udfs_lattice.specs.Volumes.{ascending};
-ghost use Rattle.udfs_space.specs.Views.{view_now};
+ghost use Rattle.udfs_space.specs.Views.{view_by};
 ghost use Rattle.udfs_walk.specs.Counting.{IsCounted, icb_key, icbs_of};
 ghost use Rattle.udfs_walk.specs.Memos.{HasWords};
 ghost use Rattle.udfs_walk.specs.Unsettled.{settled, waits};
@@ -13,9 +13,10 @@ use crate::memos::Memo;
 use crate::standings::Standing;
 use crate::targets::{Target, target_at};
 use crate::visits::MOST_NAMES;
-use std::alloc::{AllocError, Global};
+use std::alloc::Global;
 use std::sync::ledger::Ledger;
-use udfs_space::View;
+use udfs_lattice::{BlockStore, GaveUp};
+use udfs_space::StoreView;
 
 /// Whether a node is still to be settled: it counts as whole, and 64 names lead to it.
 fn waits(node: &Node) -> bool
@@ -25,25 +26,27 @@ fn waits(node: &Node) -> bool
 }
 
 /// Settles a node: its body is walked over only if that was not done before, for whichever route.
-fn settle<L: Ledger>(
+fn settle<L: Ledger, B: BlockStore>(
     alloc: Global,
-    view: View<'_>,
+    view: StoreView<'_, B>,
     node: &mut Node,
     memo: &mut Memo,
     walks: &mut Walks<L>,
-) -> Result<(), AllocError>
-    requires { HasWords (view_now view) memo.old }
-    ensures settled { OnOk result (node.new ≡ settled (view_now view.entry) node.old) }
-    ensures words { OnOk result (HasWords (view_now view.entry) memo.new) }
+) -> Result<(), GaveUp>
+    requires { B.tells → HasWords (view_by B.states view) memo.old }
+    ensures settled { OnOk result (B.tells → node.new ≡ settled (view_by B.states view.entry) node.old) }
+    ensures words { OnOk result (B.tells → HasWords (view_by B.states view.entry) memo.new) }
     ensures counted { OnOk result ((start : ℕ) (icbs : List ℕ) → Contains icbs (icb_key node.old)
         → IsCounted start icbs memo.old walks.old → IsCounted start icbs memo.new walks.new) }
     ensures within { (start : ℕ) (icbs : List ℕ) → Contains icbs (icb_key node.old)
         → IsCounted start icbs memo.old walks.old → walks.new ≤ start + length (ascending icbs) }
+    ensures fails { IsErrOf result GaveUp.Unread → B.fails }
 {
     if !waits(node) {
         return Ok(());
     }
-    match target_at(view, node.icb) {
+    let mut room = [0; 2048];
+    match target_at(view, node.icb, &mut room)? {
         Target::Entry(entry) => {
             let known = memo.known(alloc, view, &entry, node.icb.address(), walks)?;
             node.standing = known.standing(alloc, true);
@@ -55,16 +58,17 @@ fn settle<L: Ledger>(
 }
 
 /// Settles all nodes, each information control block by one walk at most.
-pub(crate) fn settle_all<L: Ledger>(
+pub(crate) fn settle_all<L: Ledger, B: BlockStore>(
     alloc: Global,
-    view: View<'_>,
+    view: StoreView<'_, B>,
     nodes: &mut [Node],
     memo: &mut Memo,
     walks: &mut Walks<L>,
-) -> Result<(), AllocError>
-    requires { HasWords (view_now view) memo.old }
-    ensures settled { OnOk result (nodes.new ≡ map (settled (view_now view.entry)) nodes.old) }
-    ensures within { (start : ℕ) → IsCounted start (map icb_key nodes.old) memo.old walks.old → walks.new ≤ start + length (icbs_of nodes.old) }
+) -> Result<(), GaveUp>
+    requires { B.tells → HasWords (view_by B.states view) memo.old }
+    ensures settled { OnOk result (B.tells → nodes.new ≡ map (settled (view_by B.states view.entry)) nodes.old) }
+    ensures within { B.tells → (start : ℕ) → IsCounted start (map icb_key nodes.old) memo.old walks.old → walks.new ≤ start + length (icbs_of nodes.old) }
+    ensures fails { IsErrOf result GaveUp.Unread → B.fails }
 {
     for node in nodes.iter_mut() {
         settle(alloc, view, node, memo, walks)?;

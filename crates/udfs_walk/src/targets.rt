@@ -1,15 +1,15 @@
 //! What the address of an information control block leads to.
 
-ghost use Rattle.std.specs.Prelude.{◌≡◌};
-ghost use Rattle.udfs_space.specs.Views.{view_now};
+ghost use Rattle.std.specs.Prelude.{◌≡◌, IfOk, OnErr};
+ghost use Rattle.udfs_space.specs.Views.{view_by};
 ghost use Rattle.udfs_walk.specs.Targets.{target};
 ghost use Rattle.udfs_walk.specs.UnnamedEntries.{address_of};
 ghost use Rattle.udfs_walk.specs.Visits.{Stands, target_now};
 
 use udfs_file::file_sets::address_fault;
 use udfs_file::{Entry, NodeFault};
-use udfs_lattice::Fact;
-use udfs_space::View;
+use udfs_lattice::{BlockStore, Fact, ReadFault};
+use udfs_space::StoreView;
 use udfs_tag::{LbAddr, LongAd};
 
 /// The recorded extent of one block that holds the information control block at `address`.
@@ -35,21 +35,28 @@ pub(crate) enum Target<'a> {
     Entry(Entry<'a>),
 }
 
-/// What an address leads to. It takes no memory.
-pub(crate) fn target_at<'a>(view: View<'a>, address: LongAd) -> Target<'a>
-    ensures value { target_now result ≡ target (view_now view.entry) address }
-    ensures stands { Stands (view_now view.entry) address result }
+/// What an address leads to. It takes no memory. The entry is lent from the store's memory, or from `room`.
+pub(crate) fn target_at<'r, 'a, B: BlockStore>(
+    view: StoreView<'a, B>,
+    address: LongAd,
+    room: &'r mut [u8; 2048],
+) -> Result<Target<'r>, ReadFault>
+where
+    'a: 'r,
+    ensures value { IfOk result (λ found. B.tells → target_now found ≡ target (view_by B.states view.entry) address) }
+    ensures stands { IfOk result (λ found. B.tells → Stands (view_by B.states view.entry) address found) }
+    ensures fails { OnErr result B.fails }
 {
     match address_fault(view.space, address) {
-        Some(fault) => Target::Fault(fault),
-        None => match view.block_at(address.address()) {
-            None => Target::Fault(NodeFault::Range),
+        Some(fault) => Ok(Target::Fault(fault)),
+        None => match view.block_at(address.address(), room)? {
+            None => Ok(Target::Fault(NodeFault::Range)),
             Some((n, fact)) => match fact {
-                Fact::Unknown => Target::Unread(n),
-                Fact::Conflict => Target::Unread(n),
+                Fact::Unknown => Ok(Target::Unread(n)),
+                Fact::Conflict => Ok(Target::Unread(n)),
                 Fact::Known(bytes) => match Entry::read(bytes, address.block) {
-                    Ok(entry) => Target::Entry(entry),
-                    Err(fault) => Target::Fault(fault),
+                    Ok(entry) => Ok(Target::Entry(entry)),
+                    Err(fault) => Ok(Target::Fault(fault)),
                 },
             },
         },

@@ -1,7 +1,7 @@
 //! What the body of an entry says: how whole the entry is, and what it lists as a directory.
 
-ghost use Rattle.std.specs.Prelude.{◌≤◌, ◌≡◌, IfErr, IfOk, List, false, length, nat_lt};
-ghost use Rattle.udfs_space.specs.Views.{view_now};
+ghost use Rattle.std.specs.Prelude.{◌≤◌, ◌≡◌, IfErr, IfOk, IsErrOf, List, OnErr, false, length, nat_lt};
+ghost use Rattle.udfs_space.specs.Views.{view_by};
 ghost use Rattle.udfs_file.specs.Stretches.{IsStanding, cells_of};
 ghost use Rattle.udfs_file.specs.Entries.{entry_of};
 ghost use Rattle.udfs_file.specs.Bodies.{body, cells};
@@ -9,17 +9,19 @@ ghost use Rattle.udfs_file.specs.Fronts.{IsEndBy, IsFrontBy, directory_by, entri
 ghost use Rattle.udfs_volume.specs.declared.profiles.Profile.{Profile};
 ghost use Rattle.udfs_file.specs.declared.cells.Cell.{Cell};
 ghost use Rattle.udfs_walk.specs.Bare.{bare_standing};
+ghost use Rattle.udfs_walk.specs.GivingUp.{IfTold};
 ghost use Rattle.udfs_walk.specs.Standings.{body_standing, kind_standing, standing_or_fault};
 ghost use Rattle.udfs_walk.specs.Routes.{kind_entries};
 ghost use Rattle.udfs_walk.specs.Visits.{AreRefused};
 
-use crate::answers::NodesError;
+use crate::answers::NodesGaveUp;
 use crate::gaps::bare_cells_standing;
 use crate::standings::Standing;
-use std::alloc::{AllocError, Global};
+use std::alloc::Global;
 use udfs_file::directories::{DirEnd, DirFront};
 use udfs_file::{Body, Dir, DirEntry, Entry, FrontError, Kind, WalkError};
-use udfs_space::View;
+use udfs_lattice::{BlockStore, GaveUp, ReadFault};
+use udfs_space::StoreView;
 use udfs_tag::LbAddr;
 
 /// What the body of an entry says, wherever in the tree the entry is.
@@ -47,47 +49,53 @@ fn ended(end: DirEnd, standing: Standing) -> Told
 }
 
 /// What a body says of an entry of this kind.
-fn kind_told(alloc: Global, view: View<'_>, kind: Kind, body: &Body) -> Told
-    ensures standing { result.standing ≡ bare_standing (kind_standing (view_now view.entry).profile kind false (cells_of (view_now view.entry) body.now)) }
-    ensures lists { result.lists ≡ nat_lt 0 (length (kind_entries (view_now view.entry).profile kind (cells (cells_of (view_now view.entry) body.now)))) }
+fn kind_told<B: BlockStore>(
+    alloc: Global,
+    view: StoreView<'_, B>,
+    kind: Kind,
+    body: &Body,
+) -> Result<Told, ReadFault>
+    ensures standing { IfOk result (λ told. B.tells → told.standing ≡ bare_standing (kind_standing (view_by B.states view.entry).profile kind false (cells_of (view_by B.states view.entry) body.now))) }
+    ensures lists { IfOk result (λ told. B.tells → told.lists ≡ nat_lt 0 (length (kind_entries (view_by B.states view.entry).profile kind (cells (cells_of (view_by B.states view.entry) body.now))))) }
+    ensures fails { OnErr result B.fails }
 {
-    let standing = bare_cells_standing(alloc, view, body);
+    let standing = bare_cells_standing(alloc, view, body)?;
     match kind {
-        Kind::Directory => ended(Dir::end(view, body), standing),
-        _ => Told {
+        Kind::Directory => {
+            let end = Dir::end_by(view, body, view.space.profile())?;
+            Ok(ended(end, standing))
+        }
+        _ => Ok(Told {
             standing,
             lists: false,
-        },
+        }),
     }
 }
 
 /// What the body of the entry at `address` says. No entry of a directory is kept.
-pub(crate) fn body_told(
+pub(crate) fn body_told<B: BlockStore>(
     alloc: Global,
-    view: View<'_>,
+    view: StoreView<'_, B>,
     entry: &Entry<'_>,
     address: LbAddr,
-) -> Result<Told, AllocError>
-    requires { IsStanding (view_now view) address.reference address.block entry.now }
-    ensures standing { IfOk result (λ told. told.standing ≡ bare_standing (body_standing (view_now view.entry).profile (entry_of entry.now).kind false
-        (body (view_now view.entry) address.reference address.block (entry_of entry.now)))) }
-    ensures lists { IfOk result (λ told. told.lists ≡ nat_lt 0 (length (kind_entries (view_now view.entry).profile (entry_of entry.now).kind
-        (body (view_now view.entry) address.reference address.block (entry_of entry.now))))) }
+) -> Result<Told, GaveUp>
+    requires { B.tells → IsStanding (view_by B.states view) address.reference address.block entry.now }
+    ensures standing { IfOk result (λ told. B.tells → told.standing ≡ bare_standing (body_standing (view_by B.states view.entry).profile (entry_of entry.now).kind false
+        (body (view_by B.states view.entry) address.reference address.block (entry_of entry.now)))) }
+    ensures lists { IfOk result (λ told. B.tells → told.lists ≡ nat_lt 0 (length (kind_entries (view_by B.states view.entry).profile (entry_of entry.now).kind
+        (body (view_by B.states view.entry) address.reference address.block (entry_of entry.now))))) }
+    ensures fails { IsErrOf result GaveUp.Unread → B.fails }
 {
-    match Body::read(
-        alloc,
-        view.table,
-        view.space,
-        entry,
-        address.reference,
-        address.block,
-    ) {
-        Err(WalkError::OutOfMemory) => Err(AllocError),
+    match Body::read_by(alloc, view, entry, address.reference, address.block)? {
+        Err(WalkError::OutOfMemory) => Err(GaveUp::OutOfMemory),
         Err(WalkError::Fault(fault)) => Ok(Told {
             standing: Standing::Fault(fault),
             lists: false,
         }),
-        Ok(body) => Ok(kind_told(alloc, view, entry.kind(), &body)),
+        Ok(body) => {
+            let told = kind_told(alloc, view, entry.kind(), &body)?;
+            Ok(told)
+        }
     }
 }
 
@@ -103,29 +111,30 @@ fn end_of(front: &DirFront) -> DirEnd
 }
 
 /// What a body says of an entry of this kind, and the entries that it lists, of which there are at most `most`.
-fn kind_entered(
+fn kind_entered<B: BlockStore>(
     alloc: Global,
-    view: View<'_>,
+    view: StoreView<'_, B>,
     kind: Kind,
     body: &Body,
     most: usize,
-) -> Result<(Told, Vec<DirEntry>), NodesError>
-    ensures standing { IfOk result (λ entered. entered.0.standing ≡ bare_standing (kind_standing (view_now view.entry).profile kind false (cells_of (view_now view.entry) body.now))) }
-    ensures lists { IfOk result (λ entered. entered.0.lists ≡ nat_lt 0 (length (kind_entries (view_now view.entry).profile kind (cells (cells_of (view_now view.entry) body.now))))) }
-    ensures entries { IfOk result (λ entered. entered.1.items ≡ kind_entries (view_now view.entry).profile kind (cells (cells_of (view_now view.entry) body.now))) }
+) -> Result<(Told, Vec<DirEntry>), NodesGaveUp>
+    ensures standing { IfOk result (λ entered. B.tells → entered.0.standing ≡ bare_standing (kind_standing (view_by B.states view.entry).profile kind false (cells_of (view_by B.states view.entry) body.now))) }
+    ensures lists { IfOk result (λ entered. B.tells → entered.0.lists ≡ nat_lt 0 (length (kind_entries (view_by B.states view.entry).profile kind (cells (cells_of (view_by B.states view.entry) body.now))))) }
+    ensures entries { IfOk result (λ entered. B.tells → entered.1.items ≡ kind_entries (view_by B.states view.entry).profile kind (cells (cells_of (view_by B.states view.entry) body.now))) }
     ensures few { IfOk result (λ entered. length entered.1.items ≤ most) }
-    ensures refused { IfErr result (AreRefused most (kind_entries (view_now view.entry).profile kind (cells (cells_of (view_now view.entry) body.now)))) }
+    ensures refused { IfErr result (λ e. B.tells → IfTold (AreRefused most (kind_entries (view_by B.states view.entry).profile kind (cells (cells_of (view_by B.states view.entry) body.now)))) e) }
+    ensures fails { IsErrOf result NodesGaveUp.Unread → B.fails }
 {
-    let cells = bare_cells_standing(alloc, view, body);
+    let cells = bare_cells_standing(alloc, view, body)?;
     match kind {
-        Kind::Directory => match Dir::front_within(alloc, view, body, most) {
+        Kind::Directory => match Dir::front_by(alloc, view, body, view.space.profile(), most)? {
             Ok(front) => {
                 let told = ended(end_of(&front), cells);
                 let DirFront { entries, .. } = front;
                 Ok((told, entries))
             }
-            Err(FrontError::TooMany) => Err(NodesError::TooManyPaths),
-            Err(FrontError::OutOfMemory) => Err(NodesError::OutOfMemory),
+            Err(FrontError::TooMany) => Err(NodesGaveUp::TooManyPaths),
+            Err(FrontError::OutOfMemory) => Err(NodesGaveUp::OutOfMemory),
         },
         _ => {
             let told = Told {
@@ -139,33 +148,27 @@ fn kind_entered(
 
 /// What the body of the entry at `address` says, and the entries that it lists, of which there are at most `most`. Both are
 /// found by one walk.
-pub(crate) fn body_entered(
+pub(crate) fn body_entered<B: BlockStore>(
     alloc: Global,
-    view: View<'_>,
+    view: StoreView<'_, B>,
     entry: &Entry<'_>,
     address: LbAddr,
     most: usize,
-) -> Result<(Told, Vec<DirEntry>), NodesError>
-    requires { IsStanding (view_now view) address.reference address.block entry.now }
-    ensures standing { IfOk result (λ entered. entered.0.standing ≡ bare_standing (body_standing (view_now view.entry).profile (entry_of entry.now).kind false
-        (body (view_now view.entry) address.reference address.block (entry_of entry.now)))) }
-    ensures lists { IfOk result (λ entered. entered.0.lists ≡ nat_lt 0 (length (kind_entries (view_now view.entry).profile (entry_of entry.now).kind
-        (body (view_now view.entry) address.reference address.block (entry_of entry.now))))) }
-    ensures entries { IfOk result (λ entered. entered.1.items ≡ kind_entries (view_now view.entry).profile (entry_of entry.now).kind
-        (body (view_now view.entry) address.reference address.block (entry_of entry.now))) }
+) -> Result<(Told, Vec<DirEntry>), NodesGaveUp>
+    requires { B.tells → IsStanding (view_by B.states view) address.reference address.block entry.now }
+    ensures standing { IfOk result (λ entered. B.tells → entered.0.standing ≡ bare_standing (body_standing (view_by B.states view.entry).profile (entry_of entry.now).kind false
+        (body (view_by B.states view.entry) address.reference address.block (entry_of entry.now)))) }
+    ensures lists { IfOk result (λ entered. B.tells → entered.0.lists ≡ nat_lt 0 (length (kind_entries (view_by B.states view.entry).profile (entry_of entry.now).kind
+        (body (view_by B.states view.entry) address.reference address.block (entry_of entry.now))))) }
+    ensures entries { IfOk result (λ entered. B.tells → entered.1.items ≡ kind_entries (view_by B.states view.entry).profile (entry_of entry.now).kind
+        (body (view_by B.states view.entry) address.reference address.block (entry_of entry.now))) }
     ensures few { IfOk result (λ entered. length entered.1.items ≤ most) }
-    ensures refused { IfErr result (AreRefused most (kind_entries (view_now view.entry).profile (entry_of entry.now).kind
-        (body (view_now view.entry) address.reference address.block (entry_of entry.now)))) }
+    ensures refused { IfErr result (λ e. B.tells → IfTold (AreRefused most (kind_entries (view_by B.states view.entry).profile (entry_of entry.now).kind
+        (body (view_by B.states view.entry) address.reference address.block (entry_of entry.now)))) e) }
+    ensures fails { IsErrOf result NodesGaveUp.Unread → B.fails }
 {
-    match Body::read(
-        alloc,
-        view.table,
-        view.space,
-        entry,
-        address.reference,
-        address.block,
-    ) {
-        Err(WalkError::OutOfMemory) => Err(NodesError::OutOfMemory),
+    match Body::read_by(alloc, view, entry, address.reference, address.block)? {
+        Err(WalkError::OutOfMemory) => Err(NodesGaveUp::OutOfMemory),
         Err(WalkError::Fault(fault)) => {
             let told = Told {
                 standing: Standing::Fault(fault),

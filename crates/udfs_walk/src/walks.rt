@@ -1,19 +1,20 @@
 //! The walk over all routes, in lexicographic order.
 
-ghost use Rattle.std.specs.Prelude.{◌≡◌, ◌+◌, ◌≤◌, ◌∷◌, ℕ, List, [], ◌++◌, IfErr, IfOk, MatchOption, MatchResult, length, map, Contains};
+ghost use Rattle.std.specs.Prelude.{◌≡◌, ◌+◌, ◌≤◌, ◌∷◌, ℕ, List, [], ◌++◌, IfErr, IfOk, IsErrOf, MatchOption, MatchResult, length, map, Contains};
 ghost use Rattle.udfs_lattice.specs.Tables.{state_of};
 ghost use Rattle.udfs_space.specs.Places.{view};
-ghost use Rattle.udfs_space.specs.Views.{view_now};
+ghost use Rattle.udfs_space.specs.Views.{view_by, view_now};
 ghost use Rattle.udfs_walk.specs.Bare.{full_node};
 ghost use Rattle.udfs_walk.specs.Counting.{IsCounted, IsWithinTaken, icb_key, icbs_of};
+ghost use Rattle.udfs_walk.specs.GivingUp.{IfTold};
 ghost use Rattle.udfs_walk.specs.Memos.{IsMemo};
 ghost use Rattle.udfs_walk.specs.Unsettled.{AreUnsettled, unsettled};
 ghost use Rattle.udfs_walk.specs.Visits.{AreRefused, end_at};
 ghost use Rattle.udfs_walk.specs.Walks.{AreNodes, IsNodesRefused};
 ghost use Rattle.udfs_walk.specs.Routes.{entries_below};
-ghost use Rattle.udfs_walk.specs.Frames.{IsFrameOf, IsStepRefused, IsEntryTaken, count_left, frame_at, frames_with};
+ghost use Rattle.udfs_walk.specs.Frames.{IsFrameOf, IsOneFewer, IsStepRefused, IsEntryTaken, count_left, frame_at, frames_with};
 
-use crate::answers::{Node, NodesError};
+use crate::answers::{Node, NodesError, NodesGaveUp};
 use crate::bare::full_nodes;
 use crate::children::Children;
 use crate::counting::Walks;
@@ -26,8 +27,8 @@ use std::alloc::{AllocError, Global};
 use std::marker::{Brand, Model};
 use std::sync::ledger::{Blank, Ledger};
 use udfs_file::Marks;
-use udfs_lattice::BlockTable;
-use udfs_space::{Space, View};
+use udfs_lattice::{BlockStore, BlockTable};
+use udfs_space::{Space, StoreView, View};
 use udfs_tag::{LbAddr, LongAd};
 
 /// The nodes that a volume may have.
@@ -68,9 +69,9 @@ fn with_icb(alloc: Global, above: &[LbAddr], address: LbAddr) -> Result<Vec<LbAd
 
 impl Frame {
     /// Enters the end of a route: returns its node, not yet settled, and itself as a directory, where a route goes on.
-    fn enter<L: Ledger>(
+    fn enter<L: Ledger, B: BlockStore>(
         alloc: Global,
-        view: View<'_>,
+        view: StoreView<'_, B>,
         address: LongAd,
         path: Path,
         above: &[LbAddr],
@@ -78,16 +79,17 @@ impl Frame {
         most: usize,
         memo: &mut Memo,
         walks: &mut Walks<L>,
-    ) -> Result<(Node, Option<Frame>), NodesError>
-        requires { IsMemo (view_now view) memo.old }
-        ensures node { IfOk result (λ entered. entered.0 ≡ unsettled (view_now view.entry) (end_at address path above.now hidden)) }
-        ensures frame { IfOk result (λ entered. IsFrameOf entered.1 (frame_at (view_now view.entry) (end_at address path above.now hidden))) }
+    ) -> Result<(Node, Option<Frame>), NodesGaveUp>
+        requires { B.tells → IsMemo (view_by B.states view) memo.old }
+        ensures node { IfOk result (λ entered. B.tells → entered.0 ≡ unsettled (view_by B.states view.entry) (end_at address path above.now hidden)) }
+        ensures frame { IfOk result (λ entered. B.tells → IsFrameOf entered.1 (frame_at (view_by B.states view.entry) (end_at address path above.now hidden))) }
         ensures few { IfOk result (λ entered. count_left entered.1 ≤ most) }
-        ensures memo { IfOk result (λ entered. IsMemo (view_now view.entry) memo.new) }
+        ensures memo { IfOk result (λ entered. B.tells → IsMemo (view_by B.states view.entry) memo.new) }
         ensures once { walks.new ≤ walks.old + 1 }
-        ensures counted { IfOk result (λ entered. (start : ℕ) (icbs : List ℕ) → Contains icbs (icb_key entered.0)
+        ensures counted { IfOk result (λ entered. B.tells → (start : ℕ) (icbs : List ℕ) → Contains icbs (icb_key entered.0)
             → IsCounted start icbs memo.old walks.old → IsCounted start icbs memo.new walks.new) }
-        ensures refused { IfErr result (AreRefused most (entries_below (view_now view.entry) (end_at address path above.now hidden))) }
+        ensures refused { IfErr result (λ e. B.tells → IfTold (AreRefused most (entries_below (view_by B.states view.entry) (end_at address path above.now hidden))) e) }
+        ensures fails { IsErrOf result NodesGaveUp.Unread → B.fails }
     {
         let Visit { node, entries } = visited(
             alloc, view, address, path, above, hidden, most, memo, walks,
@@ -105,23 +107,25 @@ impl Frame {
     }
 
     /// Goes into the next entry, if one is left.
-    fn step<L: Ledger>(
+    fn step<L: Ledger, B: BlockStore>(
         &mut self,
         alloc: Global,
-        view: View<'_>,
+        view: StoreView<'_, B>,
         most: usize,
         memo: &mut Memo,
         walks: &mut Walks<L>,
-    ) -> Result<Option<(Node, Option<Frame>)>, NodesError>
-        requires { IsMemo (view_now view) memo.old }
-        ensures taken { IfOk result (λ taken. IsEntryTaken (view_now view.entry) self.old taken self.new) }
+    ) -> Result<Option<(Node, Option<Frame>)>, NodesGaveUp>
+        requires { B.tells → IsMemo (view_by B.states view) memo.old }
+        ensures taken { IfOk result (λ taken. B.tells → IsEntryTaken (view_by B.states view.entry) self.old taken self.new) }
         ensures few { IfOk result (λ taken. MatchOption taken (Unit {0}) (λ entered. count_left entered.1 ≤ most)) }
-        ensures memo { IfOk result (λ taken. IsMemo (view_now view.entry) memo.new) }
+        ensures memo { IfOk result (λ taken. B.tells → IsMemo (view_by B.states view.entry) memo.new) }
         ensures once { walks.new ≤ walks.old + 1 }
         ensures idle { self.old.left ≡ [] → walks.new ≡ walks.old }
-        ensures counted { IfOk result (λ taken. (start : ℕ) (icbs : List ℕ) → IsWithinTaken icbs taken
+        ensures one { IfOk result (λ taken. IsOneFewer (length self.old.left) taken (length self.new.left)) }
+        ensures counted { IfOk result (λ taken. B.tells → (start : ℕ) (icbs : List ℕ) → IsWithinTaken icbs taken
             → IsCounted start icbs memo.old walks.old → IsCounted start icbs memo.new walks.new) }
-        ensures refused { IfErr result (IsStepRefused (view_now view.entry) most self.old) }
+        ensures refused { IfErr result (λ e. B.tells → IfTold (IsStepRefused (view_by B.states view.entry) most self.old) e) }
+        ensures fails { IsErrOf result NodesGaveUp.Unread → B.fails }
     {
         let Some(entry) = self.entries.get(self.passed) else {
             return Ok(None);
@@ -209,40 +213,68 @@ pub fn bare_nodes(alloc: Global, view: View<'_>, root: LongAd) -> Result<Vec<Nod
     ensures { MatchResult result (λ found. AreNodes (view_now view.entry) root (map (full_node (view_now view.entry)) found.items))
         (IsNodesRefused (view_now view.entry) root) }
 {
-    let found = begun_nodes::<Brand>(alloc, view, root, Blank::new(1));
+    let stored = StoreView {
+        blocks: view.table,
+        space: view.space,
+    };
+    match bare_nodes_by(alloc, stored, root) {
+        Ok(found) => Ok(found),
+        Err(NodesGaveUp::TooManyPaths) => Err(NodesError::TooManyPaths),
+        Err(NodesGaveUp::OutOfMemory) => Err(NodesError::OutOfMemory),
+        Err(NodesGaveUp::Unread) => unreachable!(),
+    }
+}
+
+/// The same as [`bare_nodes`], by any store of blocks.
+///
+/// # Errors
+///
+/// As those of [`nodes`], and `Unread` where the bytes of a known block could not be read.
+pub fn bare_nodes_by<B: BlockStore>(
+    alloc: Global,
+    view: StoreView<'_, B>,
+    root: LongAd,
+) -> Result<Vec<Node>, NodesGaveUp>
+    ensures value { B.tells → MatchResult result (λ found. AreNodes (view_by B.states view.entry) root (map (full_node (view_by B.states view.entry)) found.items))
+        (IfTold (IsNodesRefused (view_by B.states view.entry) root)) }
+    ensures fails { IsErrOf result NodesGaveUp.Unread → B.fails }
+{
+    let found = begun_nodes::<Brand, B>(alloc, view, root, Blank::new(1));
     found
 }
 
 /// The nodes as [`counted_nodes`] lists them, over a count that begins.
-fn begun_nodes<L: Ledger>(
+fn begun_nodes<L: Ledger, B: BlockStore>(
     alloc: Global,
-    view: View<'_>,
+    view: StoreView<'_, B>,
     root: LongAd,
     blank: Blank,
-) -> Result<Vec<Node>, NodesError>
+) -> Result<Vec<Node>, NodesGaveUp>
     requires name { blank.name ≡ L.name }
     requires parts { blank.parts ≡ L.parts }
     requires one { blank.parts ≡ 1 }
-    ensures { MatchResult result (λ found. AreNodes (view_now view.entry) root (map (full_node (view_now view.entry)) found.items))
-        (IsNodesRefused (view_now view.entry) root) }
+    ensures value { B.tells → MatchResult result (λ found. AreNodes (view_by B.states view.entry) root (map (full_node (view_by B.states view.entry)) found.items))
+        (IfTold (IsNodesRefused (view_by B.states view.entry) root)) }
+    ensures fails { IsErrOf result NodesGaveUp.Unread → B.fails }
 {
     let mut walks = Walks::<L>::none(blank);
-    let found = counted_nodes(alloc, view, root, &mut walks);
+    let found = counted_nodes_by(alloc, view, root, &mut walks);
     found
 }
 
 /// The nodes of a volume, not yet settled, and what is kept of their bodies.
-fn unsettled_nodes<L: Ledger>(
+fn unsettled_nodes<L: Ledger, B: BlockStore>(
     alloc: Global,
-    view: View<'_>,
+    view: StoreView<'_, B>,
     root: LongAd,
     walks: &mut Walks<L>,
-) -> Result<(Vec<Node>, Memo), NodesError>
-    ensures nodes { MatchResult result (λ found. AreUnsettled (view_now view.entry) root found.0.items)
-        (IsNodesRefused (view_now view.entry) root) }
-    ensures memo { IfOk result (λ found. IsMemo (view_now view.entry) found.1) }
-    ensures counted { IfOk result (λ found. IsCounted walks.old (map icb_key found.0.items) found.1 walks.new) }
-    ensures few { walks.new ≤ walks.old + 65536 }
+) -> Result<(Vec<Node>, Memo), NodesGaveUp>
+    ensures nodes { B.tells → MatchResult result (λ found. AreUnsettled (view_by B.states view.entry) root found.0.items)
+        (IfTold (IsNodesRefused (view_by B.states view.entry) root)) }
+    ensures memo { IfOk result (λ found. B.tells → IsMemo (view_by B.states view.entry) found.1) }
+    ensures counted { IfOk result (λ found. B.tells → IsCounted walks.old (map icb_key found.0.items) found.1 walks.new) }
+    ensures few { B.tells → walks.new ≤ walks.old + 65536 }
+    ensures fails { IsErrOf result NodesGaveUp.Unread → B.fails }
 {
     let path = Path::root(alloc)?;
     // `room` more nodes may still be found, besides those that were and the entries that are left.
@@ -267,6 +299,28 @@ fn unsettled_nodes<L: Ledger>(
     Ok((nodes, memo))
 }
 
+/// The same as [`counted_nodes`], by any store of blocks.
+///
+/// # Errors
+///
+/// As those of [`nodes`], and `Unread` where the bytes of a known block could not be read.
+pub fn counted_nodes_by<L: Ledger, B: BlockStore>(
+    alloc: Global,
+    view: StoreView<'_, B>,
+    root: LongAd,
+    walks: &mut Walks<L>,
+) -> Result<Vec<Node>, NodesGaveUp>
+    ensures nodes { B.tells → MatchResult result (λ found. AreNodes (view_by B.states view.entry) root (map (full_node (view_by B.states view.entry)) found.items))
+        (IfTold (IsNodesRefused (view_by B.states view.entry) root)) }
+    ensures once { IfOk result (λ found. B.tells → walks.new ≤ walks.old + length (icbs_of found.items)) }
+    ensures few { B.tells → walks.new ≤ walks.old + 65536 }
+    ensures fails { IsErrOf result NodesGaveUp.Unread → B.fails }
+{
+    let (mut nodes, mut memo) = unsettled_nodes(alloc, view, root, walks)?;
+    settle_all(alloc, view, &mut nodes, &mut memo, walks)?;
+    Ok(nodes)
+}
+
 /// The nodes as [`bare_nodes`] lists them, with a count of the walks over bodies that this takes: at most one for each
 /// information control block, however many routes lead there, and never more than 65,536.
 ///
@@ -284,7 +338,14 @@ pub fn counted_nodes<L: Ledger>(
     ensures once { IfOk result (λ found. walks.new ≤ walks.old + length (icbs_of found.items)) }
     ensures few { walks.new ≤ walks.old + 65536 }
 {
-    let (mut nodes, mut memo) = unsettled_nodes(alloc, view, root, walks)?;
-    settle_all(alloc, view, &mut nodes, &mut memo, walks)?;
-    Ok(nodes)
+    let stored = StoreView {
+        blocks: view.table,
+        space: view.space,
+    };
+    match counted_nodes_by(alloc, stored, root, walks) {
+        Ok(found) => Ok(found),
+        Err(NodesGaveUp::TooManyPaths) => Err(NodesError::TooManyPaths),
+        Err(NodesGaveUp::OutOfMemory) => Err(NodesError::OutOfMemory),
+        Err(NodesGaveUp::Unread) => unreachable!(),
+    }
 }

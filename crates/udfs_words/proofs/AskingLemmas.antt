@@ -1,11 +1,10 @@
 -- One more input behind others, words that make no pair, and what is not given.
-use Rattle.std.proofs.Common.{◌≡◌, ◌<◌, ℕ, Bor, List, [], ◌∷◌, ◌++◌, Option, Some, None, true, false, is_some, unwrap_or, codes, length, map, option_and_then, option_map, slice_get, MatchOption, ap, refl, subst, sym, ◌∙◌, arith}
+use Rattle.std.proofs.Common.{◌≡◌, ◌<◌, ℕ, Bor, List, [], ◌∷◌, ◌++◌, Option, Some, None, unwrap_or, codes, length, map, option_map, MatchOption, ap, refl, subst, sym, ◌∙◌, arith}
 use Rattle.udfs_words.specs.declared.input_path.InputPath.{InputPath}
-use Rattle.clap.specs.Matches.{first_value, matched_of, one_text}
-use Rattle.clap.specs.Values.{read_as}
+use Rattle.clap.specs.Matches.{first_value}
 use Rattle.clap.specs.declared.parser.matches.Found.{Found}
 use Rattle.udfs_words.specs.Sizes.{IsSize}
-use Rattle.udfs_words.specs.Asking.{Asked, IsGivenSize, asked_for, has_only, only_texts, pairs_of}
+use Rattle.udfs_words.specs.Asking.{Asked, IsGivenSize, asked_for, pairs_of}
 
 pub one_more : (done : List InputPath) (x : InputPath) (later : List Asked) → map asked_for (done ++ x ∷ []) ++ later ≡ map asked_for done ++ asked_for x ∷ later
 one_more [] x later = refl
@@ -15,14 +14,6 @@ pub no_pair : (words : List (List ℕ)) → length words < 2 → pairs_of words 
 no_pair [] few = refl
 no_pair (w ∷ []) few = refl
 no_pair (w ∷ v ∷ words) few = absurd (omega (arith, few))
-
-not_given : {A B : Type 0} (o : Option A) (f : A → B) (other : B) → is_some o ≡ false → unwrap_or (option_map f o) other ≡ other
-not_given None f other h = refl
-not_given (Some a) f other h = absurd (let b : true ≡ false = h in let z : ⊥ = cc in z)
-
--- where no path is given, that of the root asks for all
-pub all_asked : (words : Found) → has_only words ≡ false → only_texts words ≡ codes "/" ∷ []
-all_asked words none = not_given (matched_of words (codes "only")) _ _ none
 
 -- paths that were given, and else others
 pub paths_or : (given : Option (Bor (List (Bor (List ℕ))))) (other result : Bor (List (Bor (List ℕ)))) (texts : Option (List (List ℕ))) (others : List (List ℕ)) → option_map (λ (s : Bor (List (Bor (List ℕ)))). map (λ (p : Bor (List ℕ)). p.now) s.now) given ≡ texts

@@ -8,12 +8,12 @@ use Rattle.clap.specs.Matches.{first_value, matched_of, one_text, raw_values}
 use Rattle.clap.specs.declared.parser.matches.Found.{Found}
 use Rattle.clap.specs.declared.parser.matches.MatchedArg.{MatchedArg}
 use Rattle.clap.proofs.WalkLemmas.{first_value-rows, one_text-rows, raw_values-rows}
-use Rattle.udfs_words.specs.Asking.{IsGoodGroup, IsGroup, IsKnownProfile, IsLastOfSize, IsOneEnd, IsPicked, IsToldLast, are_two_streams, input_texts, is_mapped, is_twice, list_texts, names_stream, number_of, takes_streams}
+use Rattle.udfs_words.specs.Asking.{IsGoodGroup, IsGroup, IsKnownProfile, IsLastOfSize, IsOneEnd, IsOneMap, IsOneSize, IsPicked, IsToldLast, are_two_streams, input_texts, is_mapped, is_twice, list_texts, names_stream, number_of, takes_streams}
 use Rattle.udfs_words.specs.Grammar.{program_app}
 use Rattle.udfs_words.specs.Requests.{IsLastSource, optional_text}
 use Rattle.udfs_words.specs.declared.group.GroupSize.{GroupSize}
 use Rattle.udfs_words.specs.declared.request.LastSource.{LastSource}
-use Rattle.udfs_words.specs.declared.request.LastSource.TheVariants.{Block, OfMaps}
+use Rattle.udfs_words.specs.declared.request.LastSource.TheVariants.{Block, OfMap, OfMaps}
 use Rattle.udfs_words.specs.Obeying.{IsAsked, given_in}
 use Rattle.udfs_words.specs.Sizes.{IsSize}
 use Rattle.udfs_words.proofs.SizeLemmas.{one_size_of}
@@ -50,9 +50,16 @@ differ {name = name} {a = a} {b = b} is other apart alike = false≢true (sym ap
 pub is_picked : {A : Type 0} (words : Found) (flag : Text) (given absent picked : A) → IsPicked words flag given absent picked → one_text words flag ≡ Some (codes "true") → picked ≡ given
 is_picked words flag given absent picked is e = is.with_flag e
 
--- no size is given
-pub no_size : (words : Found) → first_value words (codes "size") ≡ None → IsOneEnd words
-no_size words none text given = let z : Some text ≡ None = sym given ∙ none in absurd (let never : ⊥ = cc in never)
+-- no mapfile is given to take the size from
+no_map : (words : Found) → is_some (matched_of words (codes "size-of")) ≡ false → IsOneMap words
+no_map words none given = absurd (false≢true (sym none ∙ given))
+
+no_size_alone : (words : Found) → first_value words (codes "size") ≡ None → IsOneSize words
+no_size_alone words none text given = let z : Some text ≡ None = sym given ∙ none in absurd (let never : ⊥ = cc in never)
+
+-- nor is a size
+pub no_size : (words : Found) → first_value words (codes "size") ≡ None → is_some (matched_of words (codes "size-of")) ≡ false → IsOneEnd words
+no_size words none unmapped = (no_size_alone words none, no_map words unmapped)
 
 -- no rules are named
 pub no_profile : (words : Found) → first_value words (codes "profile") ≡ None → IsKnownProfile words
@@ -84,6 +91,7 @@ last_is words (Block m) text n is e given numeral value low = go is.1
     go : IsToldLast words m → Block m ≡ Block n
     go (inl told) = ap Block (sym told.2 ∙ ap (λ (t : Text). digits_value 10 (without_leading_plus t)) (same _ _ (sym told.1 ∙ e)) ∙ value)
     go (inr untold) = absurd (untold.0 text e (numeral, subst (λ (k : ℕ). k < 2 ^ 32) (sym value) low))
+last_is words (OfMap map) text n is e given numeral value low = absurd (false≢true (sym is.0 ∙ given))
 last_is words OfMaps text n is e given numeral value low = absurd (false≢true (sym is.0 ∙ given))
 
 -- the block before the end of a disc of the size that is given
@@ -100,16 +108,15 @@ size_is words (Block m) text n is none e given sized low = go is.1
     go (inl told) = let z : Some told.0 ≡ None = sym told.1 ∙ none in absurd (let never : ⊥ = cc in never)
     go (inr (untold, inl (size, (other, also, is), ends))) = ap Block (block size (one_size_of text size (2048 * (n + 1)) (subst (λ (t : Text). IsSize t size) (same _ _ (sym also ∙ e)) is) sized) ends)
     go (inr (untold, inr (unsized, _))) = absurd (unsized (2048 * (n + 1)) (text, e, sized))
+size_is words (OfMap map) text n is none e given sized low = absurd (false≢true (sym is.1 ∙ given))
 size_is words OfMaps text n is none e given sized low = absurd (false≢true (sym is.1 ∙ given))
 
--- a size of whole blocks alone
-pub one_size : (words : Found) (text : Text) (n : ℕ) → first_value words (codes "size") ≡ Some text → IsSize text (2048 * (n + 1)) → is_some (matched_of words (codes "last")) ≡ false → IsOneEnd words
-one_size words text n e sized none other given = (none, (2048 * (n + 1), subst (λ (t : Text). IsSize t (2048 * (n + 1))) (same _ _ (sym e ∙ given)) sized, (λ nothing. omega (arith, nothing)), omega arith))
+one_size_alone : (words : Found) (text : Text) (n : ℕ) → first_value words (codes "size") ≡ Some text → IsSize text (2048 * (n + 1)) → is_some (matched_of words (codes "last")) ≡ false → IsOneSize words
+one_size_alone words text n e sized none other given = (none, (2048 * (n + 1), subst (λ (t : Text). IsSize t (2048 * (n + 1))) (same _ _ (sym e ∙ given)) sized, (λ nothing. omega (arith, nothing)), omega arith))
 
--- a size that is the end of nothing, where neither is given
-pub of_maps : (words : Found) (source : LastSource) → IsLastSource words source → is_some (matched_of words (codes "last")) ≡ false → is_some (matched_of words (codes "size")) ≡ false → source ≡ OfMaps
-of_maps words (Block m) is none unsized = absurd (false≢true (sym (ap₂ (λ (a b : Bool). a || b) none unsized) ∙ is.0))
-of_maps words OfMaps is none unsized = refl
+-- a size of whole blocks alone
+pub one_size : (words : Found) (text : Text) (n : ℕ) → first_value words (codes "size") ≡ Some text → IsSize text (2048 * (n + 1)) → is_some (matched_of words (codes "last")) ≡ false → is_some (matched_of words (codes "size-of")) ≡ false → IsOneEnd words
+one_size words text n e sized none unmapped = (one_size_alone words text n e sized none, no_map words unmapped)
 
 -- the path that is given, or none
 pub optional_is : (words : Found) (id : Text) (path : Text) → first_value words id ≡ Some path → is_some (matched_of words id) ≡ true → optional_text words id ≡ Some path
@@ -125,6 +132,12 @@ optional_none words id given = go (matched_of words id) given
     go : (o : Option MatchedArg) → is_some o ≡ false → option_map (λ (a : MatchedArg). unwrap_or (first_value words id) []) o ≡ None
     go None none = refl
     go (Some a) some = absurd (false≢true (sym some))
+
+-- where all mapfiles end, where nothing else is given
+pub of_maps : (words : Found) (source : LastSource) → IsLastSource words source → is_some (matched_of words (codes "last")) ≡ false → is_some (matched_of words (codes "size")) ≡ false → is_some (matched_of words (codes "size-of")) ≡ false → source ≡ OfMaps
+of_maps words (Block m) is none unsized unmapped = absurd (false≢true (sym (ap₂ (λ (a b : Bool). a || b) none unsized) ∙ is.0))
+of_maps words (OfMap map) is none unsized unmapped = let z : Some map.now ≡ None = sym is.2 ∙ optional_none words (codes "size-of") unmapped in absurd (let never : ⊥ = cc in never)
+of_maps words OfMaps is none unsized unmapped = refl
 
 -- the profile of this name alone
 pub wide_is_known : (words : Found) → first_value words (codes "profile") ≡ Some (codes "wide") → IsKnownProfile words

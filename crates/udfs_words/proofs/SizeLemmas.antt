@@ -1,10 +1,10 @@
 -- One of several counts, and why no text is of two sizes: its digits end where its unit begins.
-use Rattle.std.proofs.Common.{◌≡◌, ◌⊎◌, ◌+◌, ◌*◌, ◌^◌, ◌<◌, ◌≤◌, ℕ, Bool, true, false, List, [], ◌∷◌, ◌++◌, Option, None, Some, MatchOption, if◌then◌else◌, ◌==◌, ap, ap₂, arith, codes, inl, inr, lit<, lit≤, refl, subst, sym, ◌∙◌, unwrap_or, option_map, slice_index, cond, drop, length}
+use Rattle.std.proofs.Common.{◌≡◌, ◌⊎◌, ◌*◌, ◌<◌, ◌≤◌, ℕ, Bool, true, false, List, [], ◌∷◌, ◌++◌, Option, None, Some, MatchOption, if◌then◌else◌, ◌==◌, ap, ap₂, arith, codes, inl, inr, lit≤, refl, subst, sym, ◌∙◌, cond, drop}
 use Rattle.std.proofs.lemmas.Bool.{eqb-true}
 use Rattle.std.specs.Option.{option_or}
 use Rattle.std.specs.Prelude.{⊤}
 use Rattle.std.specs.Str.{bytes_eq}
-use Rattle.std.specs.Str.Parse.{AllDigits, IsNumeral, digits_value, without_leading_plus}
+use Rattle.std.specs.Str.Parse.{AllDigits, digits_value, without_leading_plus}
 use Rattle.std.proofs.lemmas.Str.Parse.{digit_from_value}
 use Rattle.udfs_words.specs.Sizes.{IsCount, IsSize}
 

@@ -16,16 +16,13 @@
 --     IsKnownProfile words                        the value of `--profile`, if one is given, names a profile
 --     IsUnknownProfile words name                 this is the value of `--profile`, and it names no profile
 --     IsProfile words profile                     the profile by its name, and the strict one where no name is given
---     has_only words, only_texts words            paths of nodes are asked for, and which; or else that of the root
---     has_manifest words, manifest_text words     a manifest is asked for, and its path
---     has_lost words, lost_text words             a folder for lost files is asked for, and its path
---     IsOneEnd words                              the last block, or the size of a disc, and not both
+--     only_texts words                            the paths of the nodes that are asked for; or else that of the root
+--     IsOneEnd words                              the last block, or the size of a disc, or a mapfile to take it from, and not two of them
 --     IsEndFault words fault                      what is wrong with how the end of the disc was given
 --     EndsMap end bytes                           these bytes are a mapfile whose runs end here
 --     MapsEndAt found end inputs                  all inputs are images whose mapfiles end here
 --     IsLastOfSize size last                      the last block of a disc of this size; or 0, for which there is no report, where no disc has it
 --     IsToldLast words last                       the last block as given, or else `IsLastOfSize` of the size given; or 0, where there is neither
---     IsLast found inputs words last              the same, or where neither is given the block with which all mapfiles end
 use Rattle.std.specs.Prelude.{◌≡◌, ◌≢◌, ◌⊎◌, ◌↔◌, ℕ, ◌+◌, ◌*◌, ◌%◌, ◌^◌, ◌<◌, ◌&&◌, ◌||◌, Bool, false, is_some, List, [], ◌∷◌, ◌++◌, All, Option, Some, None, IfSome, Ok, codes, map, option_map, unwrap_or, if◌then◌else◌, true}
 use Rattle.std.specs.Str.{bytes_eq}
 use Rattle.clap.specs.Matches.{matched_of, first_value, one_text, raw_values}
@@ -169,29 +166,9 @@ pub record IsProfile (words : Found) (profile : Profile) : Type 0 where
   pub strict : first_value words (codes "profile") ≡ Some (codes "strict") → profile ≡ Strict
   pub unnamed : first_value words (codes "profile") ≡ None → profile ≡ Strict
 
--- paths were given of nodes that alone are asked for
-abbrev pub has_only : Found → Bool
-has_only words = is_some (matched_of words (codes "only"))
-
--- those paths, in order; where no path is given, that of the root, which asks for all
+-- the paths of the nodes that are asked for, in order; where no path is given, that of the root, which asks for all
 abbrev pub only_texts : Found → List (List ℕ)
 only_texts words = unwrap_or (option_map raw_values (matched_of words (codes "only"))) (codes "/" ∷ [])
-
--- a path was given for a manifest
-abbrev pub has_manifest : Found → Bool
-has_manifest words = is_some (matched_of words (codes "manifest"))
-
--- that path
-abbrev pub manifest_text : Found → List ℕ
-manifest_text words = unwrap_or (first_value words (codes "manifest")) []
-
--- a path was given for a folder of lost files
-abbrev pub has_lost : Found → Bool
-has_lost words = is_some (matched_of words (codes "unnamed"))
-
--- that path
-abbrev pub lost_text : Found → List ℕ
-lost_text words = unwrap_or (first_value words (codes "unnamed")) []
 
 -- what was given as this is a number, in decimal
 abbrev pub IsNumber : Found → List ℕ → ℕ → Type 0
@@ -206,12 +183,22 @@ abbrev pub IsGivenSize : Found → ℕ → Type 0
 IsGivenSize words size = (text : List ℕ) × (first_value words (codes "size") ≡ Some text) × IsSize text size
 
 -- a size that was given is that of whole blocks, and no last block was given beside it
-abbrev pub IsOneEnd : Found → Type 0
-IsOneEnd words = (text : List ℕ) → first_value words (codes "size") ≡ Some text → (is_some (matched_of words (codes "last")) ≡ false) × ((size : ℕ) × IsSize text size × (size ≢ 0) × (size % 2048 ≡ 0))
+abbrev pub IsOneSize : Found → Type 0
+IsOneSize words = (text : List ℕ) → first_value words (codes "size") ≡ Some text → (is_some (matched_of words (codes "last")) ≡ false) × ((size : ℕ) × IsSize text size × (size ≢ 0) × (size % 2048 ≡ 0))
 
--- a last block and a size were given; or a size alone, which the fault names: one that is that of no disc of whole blocks, or what is no size
+-- beside a mapfile to take the size from, neither the last block nor the size was given
+abbrev pub IsOneMap : Found → Type 0
+IsOneMap words = is_some (matched_of words (codes "size-of")) ≡ true → (is_some (matched_of words (codes "last")) ≡ false) × (is_some (matched_of words (codes "size")) ≡ false)
+
+-- at most one of them was given, and a size only of whole blocks
+abbrev pub IsOneEnd : Found → Type 0
+IsOneEnd words = IsOneSize words × IsOneMap words
+
+-- two of them were given; or a size beside no last block, which the fault names: one that is that of no disc of whole blocks, or what is no size
 abbrev pub IsEndFault : Found → EndFault → Type 0
 IsEndFault words fault.Both = (is_some (first_value words (codes "size")) ≡ true) × (is_some (matched_of words (codes "last")) ≡ true)
+IsEndFault words fault.LastAndMap = (is_some (matched_of words (codes "size-of")) ≡ true) × (is_some (matched_of words (codes "last")) ≡ true)
+IsEndFault words fault.SizeAndMap = (is_some (matched_of words (codes "size-of")) ≡ true) × (is_some (matched_of words (codes "size")) ≡ true)
 IsEndFault words (fault.Size text) = (first_value words (codes "size") ≡ Some text.now) × (is_some (matched_of words (codes "last")) ≡ false) × ((size : ℕ) × IsSize text.now size × ((size ≡ 0) ⊎ (size % 2048 ≢ 0)))
 IsEndFault words (fault.NoSize text) = (first_value words (codes "size") ≡ Some text.now) × (is_some (matched_of words (codes "last")) ≡ false) × ((size : ℕ) → ¬ IsSize text.now size)
 
@@ -239,17 +226,3 @@ IsLastOfSize size last = (size ≡ 2048 * (last + 1)) ⊎ ((last ≡ 0) × IsNoS
 -- what was given as the last block; or else the block with which a disc of the size that was given ends; or 0 where there is neither
 abbrev pub IsToldLast : Found → ℕ → Type 0
 IsToldLast words last = IsNumber words (codes "last") last ⊎ (IsNoNumber words (codes "last") × (((size : ℕ) × IsGivenSize words size × IsLastOfSize size last) ⊎ (((size : ℕ) → ¬ IsGivenSize words size) × (last ≡ 0))))
-
--- neither was given; there are inputs, and all are images whose mapfiles end with this block
-pub record IsLastOfMaps (found : List ℕ → Option (Option (List ℕ))) (inputs : List InputPath) (words : Found) (last : ℕ) : Type 0 where
-  pub no_last : is_some (matched_of words (codes "last")) ≡ false
-  pub no_size : is_some (matched_of words (codes "size")) ≡ false
-  pub some : inputs ≢ []
-  pub size : ℕ
-  pub whole : (size ≢ 0) × (size % 2048 ≡ 0)
-  pub ends : MapsEndAt found size inputs
-  pub is_last : IsLastOfSize size last
-
--- the last block, as the arguments give it, or else as the mapfiles do
-abbrev pub IsLast : (List ℕ → Option (Option (List ℕ))) → List InputPath → Found → ℕ → Type 0
-IsLast found inputs words last = ((is_some (matched_of words (codes "last")) || is_some (matched_of words (codes "size")) ≡ true) × IsToldLast words last) ⊎ IsLastOfMaps found inputs words last

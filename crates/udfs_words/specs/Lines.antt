@@ -18,7 +18,7 @@ use Rattle.udfs_words.specs.declared.request.VolumeSource.{VolumeSource}
 use Rattle.udfs_words.specs.declared.request.Request.{Request}
 use Rattle.udfs_words.specs.declared.request.Request.TheVariants as request
 
--- the grammar takes the line; it names this command; a last block and a size are not both given, nor a size that is not that of whole blocks, nor rules that there are not, nor standard input twice, nor groups without a size or a mapfile; and each request that it asks for is such a one
+-- the grammar takes the line; it names this command; of a last block, a size and a mapfile to take it from no two are given, nor a size that is not that of whole blocks, nor rules that there are not, nor standard input twice, nor groups without a size or a mapfile; and each request that it asks for is such a one
 pub record IsLine (name : Text) (line : List Text) (Is : Request → Type 0) : Type 0 where
   pub takes : GrammarTakes line
   pub names : Asks line name
@@ -69,13 +69,13 @@ abbrev pub IsSomeReport : Request → Type 0
 IsSomeReport (request.Report r) = Reads r.volume (codes "all.tab") (Block 1000) Strict × (r.form ≡ Json)
 IsSomeReport _ = ⊥
 
--- `udfsalvage reread --last 1000 --mapfile again.map --group 16 all.tab`
+-- `udfsalvage reread --last 1000 --only /a --mapfile again.map --group 16 all.tab`
 abbrev pub reread_line : List Text
-reread_line = codes "udfsalvage" ∷ codes "reread" ∷ codes "--last" ∷ codes "1000" ∷ codes "--mapfile" ∷ codes "again.map" ∷ codes "--group" ∷ codes "16" ∷ codes "all.tab" ∷ []
+reread_line = codes "udfsalvage" ∷ codes "reread" ∷ codes "--last" ∷ codes "1000" ∷ codes "--only" ∷ codes "/a" ∷ codes "--mapfile" ∷ codes "again.map" ∷ codes "--group" ∷ codes "16" ∷ codes "all.tab" ∷ []
 
--- into a mapfile, in groups of 16, with known blocks
+-- for one file or folder, into a mapfile, in groups of 16, with known blocks
 abbrev pub IsSomeReread : Request → Type 0
-IsSomeReread (request.Reread r) = Reads r.volume (codes "all.tab") (Block 1000) Strict × (option_map (λ path. path.now) r.mapfile ≡ Some (codes "again.map")) × (r.group ≡ Some Sixteen) × (r.witnesses ≡ true)
+IsSomeReread (request.Reread r) = Reads r.volume (codes "all.tab") (Block 1000) Strict × (texts r.only.items ≡ codes "/a" ∷ []) × (option_map (λ path. path.now) r.mapfile ≡ Some (codes "again.map")) × (r.group ≡ Some Sixteen) × (r.witnesses ≡ true)
 IsSomeReread _ = ⊥
 
 -- `udfsalvage list --size 1001s --torn --paths -`
@@ -96,13 +96,13 @@ abbrev pub IsSomeSummary : Request → Type 0
 IsSomeSummary (request.Summary r) = Reads r.volume (codes "all.tab") (Block 1000) Wide
 IsSomeSummary _ = ⊥
 
--- `udfsalvage page --last 1000 --out - all.tab`
+-- `udfsalvage page --last 1000 --out - --title Box all.tab`
 abbrev pub page_line : List Text
-page_line = codes "udfsalvage" ∷ codes "page" ∷ codes "--last" ∷ codes "1000" ∷ codes "--out" ∷ codes "-" ∷ codes "all.tab" ∷ []
+page_line = codes "udfsalvage" ∷ codes "page" ∷ codes "--last" ∷ codes "1000" ∷ codes "--out" ∷ codes "-" ∷ codes "--title" ∷ codes "Box" ∷ codes "all.tab" ∷ []
 
--- onto standard output
+-- onto standard output, with a title
 abbrev pub IsSomePage : Request → Type 0
-IsSomePage (request.Page r) = Reads r.volume (codes "all.tab") (Block 1000) Strict × (r.out.now ≡ codes "/dev/stdout")
+IsSomePage (request.Page r) = Reads r.volume (codes "all.tab") (Block 1000) Strict × (r.out.now ≡ codes "/dev/stdout") × (option_map (λ text. text.now) r.size ≡ None) × (option_map (λ text. text.now) r.title ≡ Some (codes "Box"))
 IsSomePage _ = ⊥
 
 -- `udfsalvage extract --last 1000 --to files --fill --only /a --only /b --manifest sums --times all.tab`

@@ -1,7 +1,8 @@
 -- What the arguments of a command ask for, as a value.
 --     texts paths                      some paths, as text
 --     streamed_texts words             the paths of the inputs that are files, where `-` is standard input
---     optional_text words id           the path that was given as this, if one was
+--     optional_text words id           what was given as this, if anything was
+--     given_texts words id             all that was given as this
 --     printed_path words               the path of the output, where `-` is standard output
 --     AreInputs given pairs inputs     the inputs are these files, and these images with their mapfiles
 --     IsLastSource words last          where the disc ends
@@ -11,10 +12,10 @@
 --     Reads name words request         the same, and no fault is in them that clap does not see
 --     IsUsageFault name words fault    why the arguments of the command of this name are no request
 --     Asked line request               the command line asks for this
-use Rattle.std.specs.Prelude.{◌≡◌, ◌⊎◌, ◌||◌, ◌++◌, ℕ, true, false, List, Option, [], codes, is_some, map, option_map, unwrap_or, if◌then◌else◌}
+use Rattle.std.specs.Prelude.{◌≡◌, ◌⊎◌, ◌||◌, ◌++◌, ℕ, true, false, List, Option, None, Some, [], codes, is_some, map, option_map, unwrap_or, if◌then◌else◌}
 use Rattle.std.specs.Str.{bytes_eq}
 use Rattle.std.specs.Borrow.{Bor}
-use Rattle.clap.specs.Matches.{first_value, matched_of}
+use Rattle.clap.specs.Matches.{first_value, matched_of, raw_values}
 use Rattle.clap.specs.declared.parser.matches.Found.{Found}
 use Rattle.udfs_words.specs.Asking.{IsEndFault, IsGoodGroup, IsGroup, IsGroupFault, IsKnownProfile, IsOneEnd, IsPicked, IsProfile, IsToldLast, IsUnknownProfile, are_two_streams, asked_for, folder_text, input_texts, list_texts, mapfile_text, only_texts, out_text, pair_texts, pairs_of, stream_path}
 use Rattle.udfs_words.specs.Asking.Asked.{AskedFile}
@@ -23,7 +24,7 @@ use Rattle.udfs_words.specs.declared.forms.Form.TheVariants.{Json, Text}
 use Rattle.udfs_words.specs.declared.forms.Version.TheVariants.{One, Two}
 use Rattle.udfs_words.specs.declared.request.Inputs.{Inputs}
 use Rattle.udfs_words.specs.declared.request.LastSource.{LastSource}
-use Rattle.udfs_words.specs.declared.request.LastSource.TheVariants.{Block, OfMaps}
+use Rattle.udfs_words.specs.declared.request.LastSource.TheVariants.{Block, OfMap, OfMaps}
 use Rattle.udfs_words.specs.declared.request.VolumeSource.{VolumeSource}
 use Rattle.udfs_words.specs.declared.request.MergeRequest.{MergeRequest}
 use Rattle.udfs_words.specs.declared.request.ForgetRequest.{ForgetRequest}
@@ -49,9 +50,13 @@ texts paths = map (λ path. path.now) paths
 abbrev pub streamed_texts : Found → List (List ℕ)
 streamed_texts words = map stream_path (input_texts words)
 
--- the path that was given as this, if one was
+-- what was given as this, if anything was
 abbrev pub optional_text : Found → List ℕ → Option (List ℕ)
 optional_text words id = option_map (λ _. unwrap_or (first_value words id) []) (matched_of words id)
+
+-- all that was given as this; nothing, where it was not given
+abbrev pub given_texts : Found → List ℕ → List (List ℕ)
+given_texts words id = unwrap_or (option_map raw_values (matched_of words id)) []
 
 -- the path of the output, where `-` is standard output
 abbrev pub printed_path : Found → List ℕ
@@ -65,10 +70,11 @@ pub record AreInputs (given pairs : List (List ℕ)) (inputs : Inputs) : Type 0 
 
 -- ---- the volume
 
--- with the last block that was given, or with that of the size; or neither was given
+-- with the last block that was given, or with that of the size; or where a mapfile ends that was given; or none of them was given
 abbrev pub IsLastSource : Found → LastSource → Type 0
 IsLastSource words (Block last) = ((is_some (matched_of words (codes "last")) || is_some (matched_of words (codes "size"))) ≡ true) × IsToldLast words last
-IsLastSource words OfMaps = (is_some (matched_of words (codes "last")) ≡ false) × (is_some (matched_of words (codes "size")) ≡ false)
+IsLastSource words (OfMap map) = (is_some (matched_of words (codes "last")) ≡ false) × (is_some (matched_of words (codes "size")) ≡ false) × (optional_text words (codes "size-of") ≡ Some map.now)
+IsLastSource words OfMaps = (is_some (matched_of words (codes "last")) ≡ false) × (is_some (matched_of words (codes "size")) ≡ false) × (optional_text words (codes "size-of") ≡ None)
 
 -- what was read of the disc, where it ends, the rules, and whether what is of another disc is to be joined
 pub record IsVolumeSource (given : List (List ℕ)) (words : Found) (volume : VolumeSource) : Type 0 where
@@ -107,9 +113,10 @@ pub record IsReport (words : Found) (request : ReportRequest) : Type 0 where
   pub volume : IsVolumeSource (input_texts words) words request.volume
   pub form : IsPicked words (codes "json") Json Text request.form
 
--- the arguments of `reread`
+-- the arguments of `reread`; where no path is given of what is wanted, there is none
 pub record IsReread (words : Found) (request : RereadRequest) : Type 0 where
   pub volume : IsVolumeSource (input_texts words) words request.volume
+  pub only : texts request.only.items ≡ given_texts words (codes "only")
   pub mapfile : option_map (λ path. path.now) request.mapfile ≡ optional_text words (codes "mapfile")
   pub group : IsGroup words request.group
   pub witnesses : IsPicked words (codes "no-witnesses") false true request.witnesses
@@ -124,10 +131,13 @@ pub record IsList (words : Found) (request : ListRequest) : Type 0 where
 -- the arguments of `summary`
 pub record IsSummary (words : Found) (request : SummaryRequest) : Type 0 where
   pub volume : IsVolumeSource (streamed_texts words) words request.volume
+  pub size : option_map (λ text. text.now) request.size ≡ optional_text words (codes "size")
 
 -- the arguments of `page`
 pub record IsPage (words : Found) (request : PageRequest) : Type 0 where
   pub volume : IsVolumeSource (streamed_texts words) words request.volume
+  pub size : option_map (λ text. text.now) request.size ≡ optional_text words (codes "size")
+  pub title : option_map (λ text. text.now) request.title ≡ optional_text words (codes "title")
   pub out : request.out.now ≡ printed_path words
 
 -- the arguments of `extract`; where no path is given of what is wanted, it is the root
@@ -153,7 +163,7 @@ IsRequest name words (request.Summary r) = (name ≡ codes "summary") × IsSumma
 IsRequest name words (request.Page r) = (name ≡ codes "page") × IsPage words r
 IsRequest name words (request.Extract r) = (name ≡ codes "extract") × IsExtract words r
 
--- a last block and a size are not both given, nor a size that is not that of whole blocks; rules that are named are known; groups have a size, and a mapfile; standard input is taken once
+-- of a last block, a size and a mapfile to take it from no two are given, nor a size that is not that of whole blocks; rules that are named are known; groups have a size, and a mapfile; standard input is taken once
 pub record Reads (name : List ℕ) (words : Found) (request : Request) : Type 0 where
   pub is : IsRequest name words request
   pub one_end : IsOneEnd words

@@ -2,11 +2,11 @@
 
 ghost use Rattle.std.specs.Prelude.{◌≡◌, false, codes};
 ghost use Rattle.clap.specs.Words.{rule_of};
-ghost use Rattle.udfs_words.specs.Grammar.{blocks_rule, flag_rule, group_rule, inputs_rule, last_rule, letter_rule, manifest_rule, mapfile_rule, only_rule, option_rule, out_rule, pairs_rule, profile_rule, size_rule, unnamed_rule, value_rule};
+ghost use Rattle.udfs_words.specs.Grammar.{blocks_rule, flag_rule, group_rule, inputs_rule, last_rule, letter_rule, manifest_rule, mapfile_rule, only_rule, option_rule, out_rule, pairs_rule, profile_rule, size_of_rule, size_rule, title_rule, unnamed_rule, value_rule};
 
 use crate::words::{
     BLOCKS, FORCE, GROUP, INPUTS, LAST, MANIFEST, MAPFILE, ONLY, OUT, PAIRS, PROFILE, QUIET, SIZE,
-    TO, UNNAMED, VERBOSE,
+    SIZE_OF, TITLE, TO, UNNAMED, VERBOSE,
 };
 use clap::{Arg, ArgAction, value_parser};
 use std::alloc::Global;
@@ -161,6 +161,19 @@ pub fn page_file<'a>(alloc: Global) -> Arg<'a>
     )
 }
 
+/// What the page is called.
+pub fn title<'a>(alloc: Global) -> Arg<'a>
+    ensures { (rule_of result ≡ title_rule) × (result.global ≡ false) }
+{
+    option(
+        alloc,
+        TITLE,
+        "TEXT",
+        "What the page is called, as the disc's shelf mark: it stands before the volume's name",
+        false,
+    )
+}
+
 /// The image to write.
 pub fn image_file<'a>(alloc: Global) -> Arg<'a>
     ensures { (rule_of result ≡ out_rule) × (result.global ≡ false) }
@@ -199,15 +212,13 @@ pub fn folder<'a>(alloc: Global) -> Arg<'a>
 }
 
 /// Paths of nodes that alone are asked for.
-pub fn only<'a>(alloc: Global) -> Arg<'a>
+pub fn only<'a>(alloc: Global, help: &'a str) -> Arg<'a>
     ensures { (rule_of result ≡ only_rule) × (result.global ≡ false) }
 {
     Arg::new(alloc, ONLY)
         .long("only")
         .value_name("PATH")
-        .help(
-            "Write only this file, or this folder with all below it: its path as report prints it",
-        )
+        .help(help)
         .action(ArgAction::Append)
 }
 
@@ -260,6 +271,19 @@ pub fn disc_size<'a>(alloc: Global) -> Arg<'a>
         SIZE,
         "BYTES",
         "The size of the disc, in place of --last: bytes, or with s after it blocks of 2048 bytes, with k, M or G powers of 1000, with Ki, Mi or Gi powers of 1024",
+        false,
+    )
+}
+
+/// The mapfile to take the disc's size from.
+pub fn size_map<'a>(alloc: Global) -> Arg<'a>
+    ensures { (rule_of result ≡ size_of_rule) × (result.global ≡ false) }
+{
+    option(
+        alloc,
+        SIZE_OF,
+        "MAPFILE",
+        "A GNU ddrescue mapfile of the disc: its end is the size, in place of --last",
         false,
     )
 }

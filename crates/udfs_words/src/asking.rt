@@ -4,14 +4,12 @@ ghost use Rattle.std.specs.Prelude.{◌≡◌, ◌++◌, true, false, Some, None
 ghost use Rattle.clap.specs.Matches.{found_of, one_text};
 ghost use Rattle.udfs_words.specs.declared.forms.Version.{Version};
 ghost use Rattle.udfs_words.specs.declared.forms.Form.{Form};
-ghost use Rattle.udfs_words.specs.Asking.{Asked, IsPicked, asked_for, asked_inputs, asked_streams, folder_text, lost_text, manifest_text, mapfile_text, out_text, pairs_of, stream_path};
+ghost use Rattle.udfs_words.specs.Asking.{Asked, IsPicked, asked_for, asked_inputs, asked_streams, folder_text, mapfile_text, out_text, pairs_of, stream_path};
 ghost use Rattle.udfs_words.specs.Asking.Asked.{AskedFile};
 
 use crate::forms::{Form, Version};
 use crate::input_path::InputPath;
-use crate::words::{
-    CONFLICTS, FORCE, INPUTS, JSON, MANIFEST, MAPFILE, NO_WITNESSES, OUT, PAIRS, TO, UNNAMED, V1,
-};
+use crate::words::{CONFLICTS, FORCE, INPUTS, JSON, MAPFILE, NO_WITNESSES, OUT, PAIRS, TO, V1};
 use clap::ArgMatches;
 use std::alloc::{AllocError, Global};
 
@@ -142,13 +140,6 @@ pub fn asked_witnesses(words: &ArgMatches<'_>) -> bool
     !words.get_flag(NO_WITNESSES)
 }
 
-/// The path of the manifest to write; `""` where the arguments give none.
-pub fn asked_manifest<'a>(words: &ArgMatches<'a>) -> &'a str
-    ensures { result.now ≡ manifest_text (found_of words.now) }
-{
-    words.get_str(MANIFEST).unwrap_or("")
-}
-
 /// Whether a flag is among the arguments.
 pub fn is_set(words: &ArgMatches<'_>, flag: &str) -> bool
     ensures { IsPicked (found_of words.now) flag.now true false result }
@@ -161,11 +152,4 @@ pub fn asked_folder<'a>(words: &ArgMatches<'a>) -> &'a str
     ensures { result.now ≡ folder_text (found_of words.now) }
 {
     words.get_str(TO).unwrap_or("")
-}
-
-/// The path of the folder for lost files that the arguments of `extract` give; `""` where they give none.
-pub fn asked_lost_folder<'a>(words: &ArgMatches<'a>) -> &'a str
-    ensures { result.now ≡ lost_text (found_of words.now) }
-{
-    words.get_str(UNNAMED).unwrap_or("")
 }

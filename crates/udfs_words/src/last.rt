@@ -1,11 +1,11 @@
-//! The last block of the volume, by its number or by the size of the disc.
+//! The last block of the volume, by its number, by the size of the disc or by a mapfile.
 
 ghost use Rattle.std.specs.Prelude.{◌≡◌, ◌≢◌, ◌↔◌, ◌%◌, ℕ, IsTrue, MatchOption};
 ghost use Rattle.clap.specs.Matches.{found_of};
-ghost use Rattle.udfs_words.specs.Asking.{IsEndFault, IsGivenSize, IsLastOfSize, IsOneEnd, IsToldLast};
+ghost use Rattle.udfs_words.specs.Asking.{IsEndFault, IsGivenSize, IsLastOfSize, IsOneEnd, IsOneMap, IsOneSize, IsToldLast};
 
 use crate::sizes::size_in;
-use crate::words::{LAST, SIZE};
+use crate::words::{LAST, SIZE, SIZE_OF};
 use clap::ArgMatches;
 use std::fmt;
 
@@ -14,6 +14,10 @@ use std::fmt;
 pub enum EndFault<'a> {
     /// Both the last block and the size are given.
     Both,
+    /// The last block is given, and a mapfile to take the size from.
+    LastAndMap,
+    /// The size is given, and a mapfile to take it from.
+    SizeAndMap,
     /// The size, as it was given, is 0 or no multiple of 2048.
     Size(&'a str),
     /// What was given as the size is none.
@@ -26,6 +30,12 @@ impl<'a> fmt::Display for EndFault<'a> {
         match self {
             EndFault::Both => f.write_str(
                 "the argument '--last <N>' cannot be used with '--size <BYTES>'",
+            ),
+            EndFault::LastAndMap => f.write_str(
+                "the argument '--last <N>' cannot be used with '--size-of <MAPFILE>'",
+            ),
+            EndFault::SizeAndMap => f.write_str(
+                "the argument '--size <BYTES>' cannot be used with '--size-of <MAPFILE>'",
             ),
             EndFault::Size(size) => write!(
                 f,
@@ -46,9 +56,9 @@ pub fn is_whole(size: u64) -> bool
     size != 0 && size % 2048 == 0
 }
 
-/// What is wrong with the arguments that say where the disc ends.
-pub fn end_fault<'a>(words: &ArgMatches<'a>) -> Option<EndFault<'a>>
-    ensures { MatchOption result (IsOneEnd (found_of words.now)) (IsEndFault (found_of words.now)) }
+/// What is wrong with the size, and with a last block beside it.
+fn size_fault<'a>(words: &ArgMatches<'a>) -> Option<EndFault<'a>>
+    ensures { MatchOption result (IsOneSize (found_of words.now)) (IsEndFault (found_of words.now)) }
 {
     let Some(size) = words.get_str(SIZE) else {
         return None;
@@ -60,6 +70,32 @@ pub fn end_fault<'a>(words: &ArgMatches<'a>) -> Option<EndFault<'a>>
         Some(bytes) if is_whole(bytes) => None,
         Some(_) => Some(EndFault::Size(size)),
         None => Some(EndFault::NoSize(size)),
+    }
+}
+
+/// What is wrong with what is given beside a mapfile to take the size from.
+fn map_fault<'a>(words: &ArgMatches<'a>) -> Option<EndFault<'a>>
+    ensures { MatchOption result (IsOneMap (found_of words.now)) (IsEndFault (found_of words.now)) }
+{
+    if !words.contains_id(SIZE_OF) {
+        return None;
+    }
+    if words.contains_id(LAST) {
+        return Some(EndFault::LastAndMap);
+    }
+    if words.contains_id(SIZE) {
+        return Some(EndFault::SizeAndMap);
+    }
+    None
+}
+
+/// What is wrong with the arguments that say where the disc ends.
+pub fn end_fault<'a>(words: &ArgMatches<'a>) -> Option<EndFault<'a>>
+    ensures { MatchOption result (IsOneEnd (found_of words.now)) (IsEndFault (found_of words.now)) }
+{
+    match size_fault(words) {
+        Some(fault) => Some(fault),
+        None => map_fault(words),
     }
 }
 

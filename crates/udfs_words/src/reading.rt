@@ -19,7 +19,7 @@ use crate::request::{
 use crate::streams::are_two_streams;
 use crate::words::{
     BLOCKS, FILL, INPUTS, LAST, MANIFEST, MAPFILE, NULL, ONLY, PAIRS, PATHS, SHORT_NAMES, SIZE,
-    TIMES, TORN, UNNAMED,
+    SIZE_OF, TIMES, TITLE, TORN, UNNAMED,
 };
 use clap::ArgMatches;
 use std::alloc::{AllocError, Global};
@@ -102,16 +102,19 @@ fn read_streamed<'a>(alloc: Global, words: &ArgMatches<'a>) -> Result<Inputs<'a>
 }
 
 /// Where the disc ends.
-fn read_last(words: &ArgMatches<'_>) -> LastSource
+fn read_last<'a>(words: &ArgMatches<'a>) -> LastSource<'a>
     ensures { IsLastSource (found_of words.now) result }
 {
     if words.contains_id(LAST) || words.contains_id(SIZE) {
         return LastSource::Block(asked_last(words));
     }
-    LastSource::OfMaps
+    match read_optional(words, SIZE_OF) {
+        Some(map) => LastSource::OfMap(map),
+        None => LastSource::OfMaps,
+    }
 }
 
-/// The path that was given as this, if one was.
+/// What was given as this, if anything was.
 fn read_optional<'a>(words: &ArgMatches<'a>, id: &str) -> Option<&'a str>
     ensures { option_map (λ path. path.now) result ≡ optional_text (found_of words.now) id.now }
 {
@@ -233,8 +236,10 @@ fn read_reread<'a>(alloc: Global, words: &ArgMatches<'a>) -> Result<Request<'a>,
     ensures { IfOk result (IsRequest (codes "reread") (found_of words.now)) }
 {
     let volume = read_volume(alloc, words)?;
+    let only = read_texts(alloc, words, ONLY)?;
     Ok(Request::Reread(RereadRequest {
         volume,
+        only,
         mapfile: read_optional(words, MAPFILE),
         group: asked_group(words),
         witnesses: asked_witnesses(words),
@@ -259,7 +264,10 @@ fn read_summary<'a>(alloc: Global, words: &ArgMatches<'a>) -> Result<Request<'a>
     ensures { IfOk result (IsRequest (codes "summary") (found_of words.now)) }
 {
     let volume = read_streamed_volume(alloc, words)?;
-    Ok(Request::Summary(SummaryRequest { volume }))
+    Ok(Request::Summary(SummaryRequest {
+        volume,
+        size: read_optional(words, SIZE),
+    }))
 }
 
 /// The arguments of `page`.
@@ -269,6 +277,8 @@ fn read_page<'a>(alloc: Global, words: &ArgMatches<'a>) -> Result<Request<'a>, A
     let volume = read_streamed_volume(alloc, words)?;
     Ok(Request::Page(PageRequest {
         volume,
+        size: read_optional(words, SIZE),
+        title: read_optional(words, TITLE),
         out: read_printed(words),
     }))
 }
@@ -318,7 +328,7 @@ fn read_command<'a>(
 ///
 /// # Errors
 ///
-/// The first of these faults that is in them: both the last block and the size are given, or a size that is that of no disc of whole blocks (`End`); rules are
+/// The first of these faults that is in them: two of the last block, the size and a mapfile to take it from are given, or a size that is that of no disc of whole blocks (`End`); rules are
 /// named that there are not (`Profile`); `--group` has no size of a group, or there is no `--mapfile` (`Group`); standard input is to be read twice (`TwoStreams`). `NoCommand` where no command has this name, and `OutOfMemory` if
 /// memory runs out.
 pub fn read<'a>(

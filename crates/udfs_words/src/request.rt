@@ -19,9 +19,11 @@ pub struct Inputs<'a> {
 
 /// Where a disc ends.
 #[derive(Clone, Copy, Debug, PartialEq, Eq)]
-pub enum LastSource {
+pub enum LastSource<'a> {
     /// With the block of this number.
     Block(u32),
+    /// Where the mapfile of this path ends.
+    OfMap(&'a str),
     /// Where the mapfiles of all inputs end.
     OfMaps,
 }
@@ -32,7 +34,7 @@ pub struct VolumeSource<'a> {
     /// What was read of its disc.
     pub inputs: Inputs<'a>,
     /// Where the disc ends.
-    pub last: LastSource,
+    pub last: LastSource<'a>,
     /// The rules by which the volume is read.
     pub profile: Profile,
     /// Images that are of another disc by their blocks are to be joined all the same.
@@ -70,7 +72,7 @@ pub struct ForgetRequest<'a> {
 pub struct ImageRequest<'a> {
     pub inputs: Inputs<'a>,
     /// Where the disc ends.
-    pub last: LastSource,
+    pub last: LastSource<'a>,
     /// The path of the image.
     pub image: &'a str,
     /// The path of the mapfile.
@@ -90,6 +92,8 @@ pub struct ReportRequest<'a> {
 #[derive(Drop)]
 pub struct RereadRequest<'a> {
     pub volume: VolumeSource<'a>,
+    /// The paths, in the volume, of what they are wanted for, with all that is in it; where there are none, of all.
+    pub only: Vec<&'a str>,
     /// The path of the mapfile in which they are to be wanted; where there is none, their numbers are to be printed.
     pub mapfile: Option<&'a str>,
     /// Whole groups of this size are to be wanted in it.
@@ -114,12 +118,18 @@ pub struct ListRequest<'a> {
 #[derive(Drop)]
 pub struct SummaryRequest<'a> {
     pub volume: VolumeSource<'a>,
+    /// The size of the disc as it was given, if it was.
+    pub size: Option<&'a str>,
 }
 
 /// The page of a volume is to be written.
 #[derive(Drop)]
 pub struct PageRequest<'a> {
     pub volume: VolumeSource<'a>,
+    /// The size of the disc as it was given, if it was.
+    pub size: Option<&'a str>,
+    /// What the page is called, beside the volume's name.
+    pub title: Option<&'a str>,
     /// The path of the page.
     pub out: &'a str,
 }

@@ -4,11 +4,12 @@ ghost use Rattle.std.specs.Prelude.{◌≡◌, IfOk, codes, map};
 ghost use Rattle.std.specs.String.{string_bytes};
 ghost use Rattle.udfs_words.specs.Obeying.{given_in, is_given, names};
 ghost use Rattle.clap.specs.Words.{app_of, new_app};
-ghost use Rattle.udfs_words.specs.Grammar.{extract_app, forget_app, image_app, list_app, merge_app, page_app, program, program_app, report_app, reread_app, summary_app, with_inputs};
+ghost use Rattle.udfs_words.specs.Grammar.{extract_app, forget_app, image_app, list_app, merge_app, page_app, program, program_app, report_app, reread_app, summary_app, with_end, with_inputs};
 
 use crate::arguments::{
     blocks, disc_size, domain, flag, folder, force, group, image_file, image_map, inputs, joining,
-    last, lost_folder, manifest, only, page_file, pair_inputs, profile, quiet, table_file, verbose,
+    last, lost_folder, manifest, only, page_file, pair_inputs, profile, quiet, size_map,
+    table_file, title, verbose,
 };
 use clap::Command;
 use std::alloc::{AllocError, Global};
@@ -30,6 +31,9 @@ pub const LAST: &str = "last";
 
 /// The id of the disc's size among the matches.
 pub const SIZE: &str = "size";
+
+/// The id of the mapfile to take the disc's size from among the matches.
+pub const SIZE_OF: &str = "size-of";
 
 /// The id of the rules by which the volume is read among the matches.
 pub const PROFILE: &str = "profile";
@@ -73,6 +77,9 @@ pub const TIMES: &str = "times";
 /// The id of the flag for short names among the matches.
 pub const SHORT_NAMES: &str = "short-names";
 
+/// The page's title among the matches.
+pub const TITLE: &str = "title";
+
 /// The id of the flag for JSON among the matches.
 pub const JSON: &str = "json";
 
@@ -96,7 +103,7 @@ pub const QUIET: &str = "quiet";
 pub struct Given {
     /// Images with their mapfiles are given: then no other input is needed.
     pub pairs: bool,
-    /// Neither the size of the disc nor images, whose mapfiles may give it, are given: then the last block is needed.
+    /// Neither the size of the disc, nor a mapfile to take it from, nor images, whose mapfiles may give it, are given: then the last block is needed.
     pub needs_last: bool,
     /// Conflicts are to be forgotten: then no list of blocks is needed.
     pub conflicts: bool,
@@ -111,7 +118,7 @@ fn names(option: &str, signed: &[u8], word: &str) -> bool
 }
 
 /// Whether such an argument is among these.
-fn is_given(option: &str, signed: &[u8], words: &[String]) -> bool
+pub fn is_given(option: &str, signed: &[u8], words: &[String]) -> bool
     ensures { result ≡ is_given option.now signed.now (map string_bytes words.now) }
 {
     match words {
@@ -132,7 +139,8 @@ pub fn given_in(words: &[String]) -> Given
     Given {
         pairs: is_given("--ddrescue", b"--ddrescue=", words),
         needs_last: !is_given("--size", b"--size=", words)
-            && !is_given("--ddrescue", b"--ddrescue=", words),
+            && (!is_given("--size-of", b"--size-of=", words)
+                && !is_given("--ddrescue", b"--ddrescue=", words)),
         conflicts: is_given("--conflicts", b"--conflicts=", words),
     }
 }
@@ -175,31 +183,39 @@ fn merge<'a>(alloc: Global, pairs: bool) -> Result<Command<'a>, AllocError>
     with_inputs(alloc, command, pairs)
 }
 
-/// `report (--last N | --size BYTES) [--profile PROFILE] [--json] [--force] IN...`
+/// `report (--last N | --size BYTES | --size-of MAPFILE) [--profile PROFILE] [--json] [--force] IN...`
 fn report<'a>(alloc: Global, given: Given) -> Result<Command<'a>, AllocError>
     ensures { IfOk result (λ command. app_of command ≡ report_app given) }
 {
     let command = Command::new(alloc, "report")
         .about("Prints what is known of the volume, file by file, and which blocks to read again")
-        .override_usage("udfsalvage report [OPTIONS] [--last <N> | --size <BYTES>] <IN>...")
-        .arg(last(alloc, given.needs_last))?
-        .arg(disc_size(alloc))?
+        .override_usage("udfsalvage report [OPTIONS] [--last <N> | --size <BYTES>] <IN>...");
+    let command = with_end(alloc, command, given.needs_last)?
         .arg(profile(alloc))?
         .arg(flag(alloc, JSON, "Print it as JSON"))?
         .arg(joining(alloc))?;
     with_inputs(alloc, command, given.pairs)
 }
 
-/// `reread (--last N | --size BYTES) [--profile PROFILE] [--mapfile FILE] [--group G] [--no-witnesses] [--force] IN...`
+/// `reread` before its arguments.
+fn bare_reread<'a>(alloc: Global) -> Command<'a>
+    ensures { app_of result ≡ new_app (codes "reread") }
+{
+    Command::new(alloc, "reread")
+        .about("Prints the numbers of the blocks to read again")
+        .override_usage("udfsalvage reread [OPTIONS] [--last <N> | --size <BYTES>] <IN>...")
+}
+
+/// `reread (--last N | --size BYTES | --size-of MAPFILE) [--profile PROFILE] [--only PATH]... [--mapfile FILE] [--group G] [--no-witnesses] [--force] IN...`
 fn reread<'a>(alloc: Global, given: Given) -> Result<Command<'a>, AllocError>
     ensures { IfOk result (λ command. app_of command ≡ reread_app given) }
 {
-    let command = Command::new(alloc, "reread")
-        .about("Prints the numbers of the blocks to read again")
-        .override_usage("udfsalvage reread [OPTIONS] [--last <N> | --size <BYTES>] <IN>...")
-        .arg(last(alloc, given.needs_last))?
-        .arg(disc_size(alloc))?
+    let command = with_end(alloc, bare_reread(alloc), given.needs_last)?
         .arg(profile(alloc))?
+        .arg(only(
+            alloc,
+            "Only the blocks for this file, or this folder with all below it: its path as report prints it",
+        ))?
         .arg(domain(alloc))?
         .arg(group(alloc))?
         .arg(flag(
@@ -222,13 +238,11 @@ fn bare_extract<'a>(alloc: Global) -> Command<'a>
         )
 }
 
-/// `extract (--last N | --size BYTES) [--profile PROFILE] --to DIR [--fill] [--only PATH]... [--manifest FILE] [--unnamed DIR] [--times] [--short-names] [--force] IN...`
+/// `extract (--last N | --size BYTES | --size-of MAPFILE) [--profile PROFILE] --to DIR [--fill] [--only PATH]... [--manifest FILE] [--unnamed DIR] [--times] [--short-names] [--force] IN...`
 fn extract<'a>(alloc: Global, given: Given) -> Result<Command<'a>, AllocError>
     ensures { IfOk result (λ command. app_of command ≡ extract_app given) }
 {
-    let command = bare_extract(alloc)
-        .arg(last(alloc, given.needs_last))?
-        .arg(disc_size(alloc))?
+    let command = with_end(alloc, bare_extract(alloc), given.needs_last)?
         .arg(profile(alloc))?
         .arg(folder(alloc))?
         .arg(flag(
@@ -236,7 +250,10 @@ fn extract<'a>(alloc: Global, given: Given) -> Result<Command<'a>, AllocError>
             FILL,
             "Write torn files too, with zeros for the bytes that are missing",
         ))?
-        .arg(only(alloc))?
+        .arg(only(
+            alloc,
+            "Write only this file, or this folder with all below it: its path as report prints it",
+        ))?
         .arg(manifest(alloc))?
         .arg(lost_folder(alloc))?
         .arg(flag(
@@ -280,13 +297,11 @@ fn bare_list<'a>(alloc: Global) -> Command<'a>
         .override_usage("udfsalvage list [OPTIONS] [--last <N> | --size <BYTES>] <IN>...")
 }
 
-/// `list [--torn] [--null] [--paths] [--force] (--last N | --size BYTES) [--profile PROFILE] IN...`
+/// `list [--torn] [--null] [--paths] [--force] (--last N | --size BYTES | --size-of MAPFILE) [--profile PROFILE] IN...`
 fn list<'a>(alloc: Global, given: Given) -> Result<Command<'a>, AllocError>
     ensures { IfOk result (λ command. app_of command ≡ list_app given) }
 {
-    let command = bare_list(alloc)
-        .arg(last(alloc, given.needs_last))?
-        .arg(disc_size(alloc))?
+    let command = with_end(alloc, bare_list(alloc), given.needs_last)?
         .arg(profile(alloc))?
         .arg(flag(alloc, TORN, "Leave out what is whole"))?
         .arg(flag(alloc, NULL, "End lines with a zero byte"))?
@@ -295,7 +310,7 @@ fn list<'a>(alloc: Global, given: Given) -> Result<Command<'a>, AllocError>
     with_inputs(alloc, command, given.pairs)
 }
 
-/// `image --out IMAGE --mapfile MAPFILE [--force] (--last N | --size BYTES) IN...`
+/// `image --out IMAGE --mapfile MAPFILE [--force] (--last N | --size BYTES | --size-of MAPFILE) IN...`
 fn image<'a>(alloc: Global, given: Given) -> Result<Command<'a>, AllocError>
     ensures { IfOk result (λ command. app_of command ≡ image_app given) }
 {
@@ -303,9 +318,8 @@ fn image<'a>(alloc: Global, given: Given) -> Result<Command<'a>, AllocError>
         .about("Writes what is known of the disc as an image, with its mapfile")
         .override_usage(
             "udfsalvage image [OPTIONS] [--last <N> | --size <BYTES>] --out <IMAGE> --mapfile <MAPFILE> <IN>...",
-        )
-        .arg(last(alloc, given.needs_last))?
-        .arg(disc_size(alloc))?
+        );
+    let command = with_end(alloc, command, given.needs_last)?
         .arg(image_file(alloc))?
         .arg(image_map(alloc))?
         .arg(flag(
@@ -314,6 +328,20 @@ fn image<'a>(alloc: Global, given: Given) -> Result<Command<'a>, AllocError>
             "Write over an image or a mapfile that is not one of the inputs, and join an image of another disc",
         ))?;
     with_inputs(alloc, command, given.pairs)
+}
+
+/// What says where the disc ends: the last block, which may have to be given, the size, or a mapfile to take the size from.
+fn with_end<'a>(
+    alloc: Global,
+    command: Command<'a>,
+    needed: bool,
+) -> Result<Command<'a>, AllocError>
+    ensures { IfOk result (λ whole. app_of whole ≡ with_end (app_of command.entry) needed) }
+{
+    command
+        .arg(last(alloc, needed))?
+        .arg(disc_size(alloc))?
+        .arg(size_map(alloc))
 }
 
 /// What every command takes: its inputs, and how much it says.
@@ -331,21 +359,20 @@ fn with_inputs<'a>(
         .arg(inputs(alloc, pairs))
 }
 
-/// `summary (--last N | --size BYTES) [--profile PROFILE] [--force] IN...`
+/// `summary (--last N | --size BYTES | --size-of MAPFILE) [--profile PROFILE] [--force] IN...`
 fn summary<'a>(alloc: Global, given: Given) -> Result<Command<'a>, AllocError>
     ensures { IfOk result (λ command. app_of command ≡ summary_app given) }
 {
     let command = Command::new(alloc, "summary")
         .about("Prints what a person wants to know of the volume, on one screen")
-        .override_usage("udfsalvage summary [OPTIONS] [--last <N> | --size <BYTES>] <IN>...")
-        .arg(last(alloc, given.needs_last))?
-        .arg(disc_size(alloc))?
+        .override_usage("udfsalvage summary [OPTIONS] [--last <N> | --size <BYTES>] <IN>...");
+    let command = with_end(alloc, command, given.needs_last)?
         .arg(profile(alloc))?
         .arg(joining(alloc))?;
     with_inputs(alloc, command, given.pairs)
 }
 
-/// `page --out FILE (--last N | --size BYTES) [--profile PROFILE] [--force] IN...`
+/// `page --out FILE (--last N | --size BYTES | --size-of MAPFILE) [--profile PROFILE] [--title TEXT] [--force] IN...`
 fn page<'a>(alloc: Global, given: Given) -> Result<Command<'a>, AllocError>
     ensures { IfOk result (λ command. app_of command ≡ page_app given) }
 {
@@ -353,11 +380,11 @@ fn page<'a>(alloc: Global, given: Given) -> Result<Command<'a>, AllocError>
         .about("Writes what is known of the volume as a page for a browser, to print or to keep")
         .override_usage(
             "udfsalvage page [OPTIONS] [--last <N> | --size <BYTES>] --out <FILE> <IN>...",
-        )
-        .arg(last(alloc, given.needs_last))?
-        .arg(disc_size(alloc))?
+        );
+    let command = with_end(alloc, command, given.needs_last)?
         .arg(profile(alloc))?
         .arg(page_file(alloc))?
+        .arg(title(alloc))?
         .arg(joining(alloc))?;
     with_inputs(alloc, command, given.pairs)
 }

@@ -1,4 +1,4 @@
-use Rattle.std.proofs.Common.{◌≡◌, IfSome, Option, rules, subst, sym}
+use Rattle.std.proofs.Common.{◌≡◌, IfSome, rules, subst, sym}
 use Rattle.udfs_common.specs.Blaming.{IsJudgedFor, stored_reason}
 use Rattle.udfs_words.specs.declared.input_path.InputPath.{InputPath}
 use Rattle.udfs_words.specs.declared.input_path.InputPath.TheVariants.{Pair}

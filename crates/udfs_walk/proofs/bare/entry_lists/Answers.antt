@@ -1,12 +1,7 @@
 use Rattle.std.proofs.Common.{arith}
-use Rattle.udfs_space.specs.Views.{view_now}
-use Rattle.udfs_file.specs.Entries.{entry_of}
-use Rattle.udfs_file.specs.Stretches.{cells_of}
-use Rattle.udfs_file.proofs.PublicLaws.{body_has_its_length}
+use Rattle.udfs_space.specs.Views.{view_by}
 use Rattle.udfs_walk.proofs.bare.entry_lists.Goals as goal
 
+-- the body has as many cells as the entry says, whatever is known of the blocks
 pub cells_standing-requires : goal.cells_standing-requires
-cells_standing-requires c =
-    let n = body_has_its_length (view_now c.args.view) c.args.address.reference c.args.address.block (entry_of c.args.entry.now)
-    (cells_of (view_now c.args.view) c.in-Ok.body) c.in-Ok.ensures.value in
-    omega (arith, n, c.size-size.ensures, c.size-size.type_inv)
+cells_standing-requires g c = let n = rw c.in-Ok.is at c.in_ok-read_by.ensures.size in let m = n (view_by g.B.BlockStore.states c.args.view) in omega (arith, m, c.size-size.ensures, c.size-size.type_inv)

@@ -10,7 +10,7 @@ use Rattle.udfs_words.specs.Requests.{IsRequest}
 use Rattle.udfs_words.specs.Lines.{IsSomePage, page_line}
 use Rattle.udfs_words.specs.declared.request.Request.{Request}
 use Rattle.udfs_words.specs.declared.request.Request.TheVariants as request
-use Rattle.udfs_words.proofs.LineLemmas.{all_are, differ, first_is, given_is, last_is, no_group, no_profile, no_size, one_is, one_stream, rows_say, thousand}
+use Rattle.udfs_words.proofs.LineLemmas.{all_are, differ, first_is, given_is, last_is, no_group, no_profile, no_size, one_is, one_stream, optional_is, optional_none, rows_say, thousand}
 use Rattle.udfs_words.proofs.laws.some_line_of_page.Goals as goal
 
 abbrev page_at : Text → Text
@@ -25,11 +25,11 @@ unfolding clap_on_literals
 named = refl
 
 -- all that is read of the line
-abbrev read : Text → List Row → Text × Option (List Text) × Option (List Text) × Option Text × Option Text × Option (List Text) × Option Text × Option (List Text) × Option Text × Option Text
-read name rows = (name, all_of (codes "input") rows, all_of (codes "ddrescue") rows, first_of (codes "size") rows, first_of (codes "profile") rows, all_of (codes "blocks") rows, one_of (codes "last") rows, all_of (codes "last") rows, first_of (codes "out") rows, first_of (codes "group") rows)
+abbrev read : Text → List Row → Text × Option (List Text) × Option (List Text) × Option Text × Option Text × Option (List Text) × Option Text × Option (List Text) × Option Text × Option Text × Option Text × Option (List Text) × Option (List Text) × Option (List Text)
+read name rows = (name, all_of (codes "input") rows, all_of (codes "ddrescue") rows, first_of (codes "size") rows, first_of (codes "profile") rows, all_of (codes "blocks") rows, one_of (codes "last") rows, all_of (codes "last") rows, first_of (codes "out") rows, first_of (codes "group") rows, first_of (codes "title") rows, all_of (codes "title") rows, all_of (codes "size") rows, all_of (codes "size-of") rows)
 
-abbrev said : Text × Option (List Text) × Option (List Text) × Option Text × Option Text × Option (List Text) × Option Text × Option (List Text) × Option Text × Option Text
-said = (codes "page", Some (codes "all.tab" ∷ []), None, None, None, None, Some (codes "1000"), Some (codes "1000" ∷ []), Some (codes "-"), None)
+abbrev said : Text × Option (List Text) × Option (List Text) × Option Text × Option Text × Option (List Text) × Option Text × Option (List Text) × Option Text × Option Text × Option Text × Option (List Text) × Option (List Text) × Option (List Text)
+said = (codes "page", Some (codes "all.tab" ∷ []), None, None, None, None, Some (codes "1000"), Some (codes "1000" ∷ []), Some (codes "-"), None, Some (codes "Box"), Some (codes "Box" ∷ []), None, None)
 
 says : (name : Text) (words : Found) → IsAsked page_line name words → read name (rows_of words) ≡ said
 unfolding clap_on_literals
@@ -43,6 +43,8 @@ by name words (request.Page r) e is = (
     is.1.volume.profile.unnamed (first_is words (codes "profile") _ (ap (λ t. t.4) e)),
   ),
   is.1.out ∙ ap (λ (o : Option Text). page_at (unwrap_or o [])) (first_is words (codes "out") _ (ap (λ t. t.8) e)),
+  is.1.size ∙ optional_none words _ (given_is words (codes "size") _ _ (ap (λ t. t.12) e) refl),
+  is.1.title ∙ optional_is words _ _ (first_is words (codes "title") _ (ap (λ t. t.10) e)) (given_is words (codes "title") _ _ (ap (λ t. t.11) e) refl),
 )
 by name words _ e is = absurd (differ (ap (λ t. t.0) e) is.0 refl refl)
 
@@ -51,7 +53,7 @@ returns c = record {
   takes = taken;
   names = named;
   lawful = λ words asked. let e = says (codes "page") words asked in (
-    no_size words (first_is words (codes "size") _ (ap (λ t. t.3) e)),
+    no_size words (first_is words (codes "size") _ (ap (λ t. t.3) e)) (given_is words (codes "size-of") _ _ (ap (λ t. t.13) e) refl),
     no_profile words (first_is words (codes "profile") _ (ap (λ t. t.4) e)),
     one_stream (codes "page") words _ _ (all_are words (codes "input") _ _ _ (ap (λ t. t.1) e) refl) (all_are words (codes "blocks") _ _ _ (ap (λ t. t.5) e) refl) refl,
     no_group words (first_is words (codes "group") _ (ap (λ t. t.9) e)),

@@ -1,4 +1,0 @@
-use Rattle.udfs_walk.proofs.unnamed_entries.bare_unnamed.Given as goal
-
-abbrev pub ghosts-begun_unnamed : goal.ghosts-begun_unnamed
-ghosts-begun_unnamed a = record { name = a.blank.name; parts = a.blank.parts }

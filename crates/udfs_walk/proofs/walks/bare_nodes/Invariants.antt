@@ -1,4 +1,0 @@
-use Rattle.udfs_walk.proofs.walks.bare_nodes.Given as goal
-
-abbrev pub ghosts-begun_nodes : goal.ghosts-begun_nodes
-ghosts-begun_nodes a = record { name = a.blank.name; parts = a.blank.parts }
