@@ -18,6 +18,7 @@ use Rattle.udfs_walk.specs.declared.answers.NodesError.{NodesError}
 use Rattle.udfs_walk.specs.declared.answers.NodesError.TheVariants.{TooManyPaths, OutOfMemory}
 use Rattle.udfs_lost.specs.Entries.{AreEntriesRefused, IsEntryAt, entries_at}
 use Rattle.udfs_lost.specs.Links.{links_at, links_in}
+use Rattle.udfs_lost.specs.Parents.{kind_parent, parent_at, target_parent}
 
 -- what the address leads to where it has a fault, and where it has none
 faulty : (v : View) (icb : Icb) (f : NodeFault) → address_fault v (address_of icb) ≡ Some f → target v (address_of icb) ≡ bad f
@@ -95,3 +96,17 @@ refused_by P r error h p = let x = err_from_is_err_and r h in subst (λ z. IfErr
 -- the same where the other outcome has a clause too
 pub refused_in : {A : Type 0} (T : A → Type 0) (P : NodesError → Type 0) (r : Result A NodesError) (error : NodesError) → IsErrAnd r (λ e. e ≡ error) → P error → MatchResult r T P
 refused_in T P r error h p = let x = err_from_is_err_and r h in subst (λ z. MatchResult z T P) (sym (x.1 ∙ ap Err x.2)) p
+
+-- ---- the parent
+pub no_parent : (v : View) (icb : Icb) → IsEntryAt v icb None → None ≡ parent_at v icb
+unfolding parent_at
+no_parent v icb h = go (target v (address_of icb)) refl
+  where
+    go : (t : Target) → target v (address_of icb) ≡ t → None ≡ target_parent v icb (target v (address_of icb))
+    go (bad f) e = ap (target_parent v icb) (sym e)
+    go (unread n) e = ap (target_parent v icb) (sym e)
+    go (entry x) e = absurd (h x e)
+
+pub some_parent : (v : View) (icb : Icb) (bytes : List ℕ) → IsEntryAt v icb (Some bytes) → kind_parent v icb (entry_of bytes) (entry_of bytes).kind ≡ parent_at v icb
+unfolding parent_at
+some_parent v icb bytes h = ap (target_parent v icb) (sym h.0)

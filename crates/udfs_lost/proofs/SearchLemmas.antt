@@ -13,8 +13,8 @@ use Rattle.udfs_walk.specs.declared.answers.NodesError.{NodesError}
 use Rattle.udfs_walk.specs.declared.answers.NodesError.TheVariants.{TooManyPaths, OutOfMemory}
 use Rattle.udfs_lost.specs.Folders.{AreLostRoots, IsLostRoot, IsRootsRefused}
 use Rattle.udfs_lost.specs.Met.{IsClosed, IsExplored}
-use Rattle.udfs_lost.specs.Naming.{LeadsTo}
-use Rattle.udfs_lost.specs.Starts.{AreRising, AreStarts, IsExploreRefused, IsLedTo}
+use Rattle.udfs_lost.specs.Naming.{IsLedTo, LeadsTo}
+use Rattle.udfs_lost.specs.Starts.{AreRising, AreStarts, IsExploreRefused}
 use Rattle.udfs_lost.proofs.Members.{Rises, front_or_last, get_same, in_back, in_either, in_front, in_last, pairs_rises, place_take, rises_across, rises_pairs, rises_snoc, take_in, take_next, take_place, take_whole}
 use Rattle.udfs_lost.proofs.MetLemmas.{closed_on, leads_both, met_any, not_met, one_number}
 
@@ -271,11 +271,15 @@ lasting_more v folders starts left less met new out f st l p closed e x = record
 pub lasting_done : (v : View) (folders starts left met out : List Icb) → AreStarts v folders starts → left ≡ [] → IsLasting v folders starts left met out → AreLostRoots v folders out
 lasting_done v folders starts left met out st l x = record {
   each = λ f. ((λ c. root f (included out f c)), (λ r. contained out f (found f r)));
+  all = λ f c. led f (st.cover f c);
   ascending = rises_pairs IsLess out x.ascending;
 }
   where
     is : starts ≡ x.done
     is = x.is ∙ ap (λ z. z ++ x.done) l
+
+    led : (f : Icb) → IsLedTo v starts f → IsLedTo v out f
+    led f (s, j, u) = let t : IsReached v out s = x.reached s (x.cover s (subst (λ z. Includes z s) is (included starts s j))) in (t.0, contained out t.0 t.1, leads_both v t.0 s f t.2 u)
 
     start : (r : Icb) → Includes out r → Contains starts r
     start r i = contained starts r (subst (λ z. Includes z r) (sym is) (x.among r i))
@@ -325,7 +329,7 @@ pub rising : (folders : List Icb) → IsNonDecreasingBy number_of folders → Ar
 rising folders h i j d p q = h i j d (omega (arith, p)) q
 
 pub permuted_roots : (v : View) (folders others roots : List Icb) → IsPermutation folders others → AreLostRoots v others roots → AreLostRoots v folders roots
-permuted_roots v folders others roots p x = record { each = λ f. ((λ c. back f ((x.each f).0 c)), (λ r. (x.each f).1 (there f r))); ascending = x.ascending }
+permuted_roots v folders others roots p x = record { each = λ f. ((λ c. back f ((x.each f).0 c)), (λ r. (x.each f).1 (there f r))); all = λ f c. x.all f (to f c); ascending = x.ascending }
   where
     to : (f : Icb) → Contains folders f → Contains others f
     to f c = Contains-permutation folders others f p c

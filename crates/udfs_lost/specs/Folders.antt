@@ -15,7 +15,7 @@ use Rattle.udfs_walk.specs.declared.answers.NodesError.{NodesError}
 use Rattle.udfs_walk.specs.declared.answers.NodesError.TheVariants.{TooManyPaths, OutOfMemory}
 use Rattle.udfs_lost.specs.Entries.{IsLargeAt}
 use Rattle.udfs_lost.specs.Links.{links_at}
-use Rattle.udfs_lost.specs.Naming.{LeadsTo}
+use Rattle.udfs_lost.specs.Naming.{IsLedTo, LeadsTo}
 
 -- the information control block of an entry without a name
 abbrev pub icb_of_entry : Unnamed → Icb
@@ -43,9 +43,10 @@ pub record IsLostRoot (view : View) (folders : List Icb) (f : Icb) : Type 0 wher
   pub is : Contains folders f
   pub first : (g : Icb) → Contains folders g → LeadsTo view g f → LeadsTo view f g × (number_of f ≤ number_of g)
 
--- these are the roots among the folders, ascending and each once
+-- these are the roots among the folders, ascending and each once, and names lead from them to all folders
 pub record AreLostRoots (view : View) (folders roots : List Icb) : Type 0 where
   pub each : (f : Icb) → Contains roots f ↔ IsLostRoot view folders f
+  pub all : (f : Icb) → Contains folders f → IsLedTo view roots f
   pub ascending : AllPairs (λ f g. number_of f < number_of g) roots
 
 -- a directory to which one of the folders leads lists more entries than a walk may have besides it

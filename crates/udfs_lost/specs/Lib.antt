@@ -6,4 +6,5 @@ pub mod Folders
 pub mod Starts
 pub mod LostTrees
 pub mod LostFiles
+pub mod Parents
 pub mod Subtrees

@@ -2,6 +2,7 @@
 --     names_at view icb       the information control blocks that the directory at this one names
 --     LeadsBy view f way g    one directory names the next on the way, from f to g
 --     LeadsTo view f g        names lead from f to g
+--     IsLedTo view folders f  names lead there from one of the folders
 use Rattle.std.specs.Prelude.{◌≡◌, List, [], ◌∷◌, cond, Option, Some, None, is_none, filter_map, Contains}
 use Rattle.udfs_space.specs.Places.{View}
 use Rattle.udfs_file.specs.Addresses.{address_fault}
@@ -25,3 +26,7 @@ LeadsBy view f (h ∷ way) g = Contains (names_at view f) h × LeadsBy view h wa
 -- names lead from one information control block to another, or it is the same
 abbrev pub LeadsTo : View → Icb → Icb → Type 0
 LeadsTo view f g = (way : List Icb) × LeadsBy view f way g
+
+-- names lead there from one of these
+abbrev pub IsLedTo : View → List Icb → Icb → Type 0
+IsLedTo view folders f = (s : Icb) × Contains folders s × LeadsTo view s f

@@ -9,7 +9,7 @@ use Rattle.udfs_walk.specs.Targets.{Icb}
 use Rattle.udfs_walk.specs.declared.answers.NodesError.{NodesError}
 use Rattle.udfs_walk.specs.declared.answers.NodesError.TheVariants.{TooManyPaths, OutOfMemory}
 use Rattle.udfs_lost.specs.Entries.{IsLargeAt}
-use Rattle.udfs_lost.specs.Naming.{LeadsTo}
+use Rattle.udfs_lost.specs.Naming.{IsLedTo, LeadsTo}
 
 -- the folders ascend by their numbers, and may repeat
 abbrev pub AreRising : List Icb → Type 0
@@ -19,10 +19,6 @@ AreRising folders = AllPairs (λ f g. number_of f ≤ number_of g) folders
 abbrev pub IsExploreRefused : View → Icb → NodesError → Type 0
 IsExploreRefused view icb TooManyPaths = (directory : Icb) × LeadsTo view icb directory × IsLargeAt view directory
 IsExploreRefused view icb OutOfMemory = ⊤
-
--- some of the folders lead to it
-abbrev pub IsLedTo : View → List Icb → Icb → Type 0
-IsLedTo view folders f = (s : Icb) × Contains folders s × LeadsTo view s f
 
 -- those of the folders to which no folder before them leads; they lead to all
 pub record AreStarts (view : View) (folders starts : List Icb) : Type 0 where
