@@ -3,7 +3,7 @@
 --     body_front view icb e        the bytes with which a body begins, and the logical block that holds them
 --     parent_in profile b bytes    the address in the parent's descriptor at the beginning of these bytes
 --     parent_at view icb           that of the directory at an information control block
-use Rattle.std.specs.Prelude.{ℕ, ◌/◌, ◌%◌, ◌*◌, ◌==◌, ◌&&◌, Bool, List, length, cond, nat_eq, nat_le, nat_lt, Option, None, Some, option_and_then}
+use Rattle.std.specs.Prelude.{ℕ, ◌/◌, ◌%◌, ◌==◌, ◌&&◌, Bool, List, length, cond, nat_le, nat_lt, Option, None, Some, option_and_then}
 use Rattle.udfs_lattice.specs.States.{State}
 use Rattle.udfs_lattice.specs.declared.facts.Fact.TheVariants.{Unknown, Known, Conflict}
 use Rattle.udfs_tag.specs.Fields.{uint8_at, uint32_at, long_ad_at}

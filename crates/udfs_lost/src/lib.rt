@@ -2,7 +2,8 @@
 //! Lost folders with their names: directories that no known name leads to, the trees below them, and lost files.
 //!
 //! [`lost_roots`] finds the folders from which to walk, [`lost_trees`] their nodes, [`lost_files`] the files that no such tree
-//! names, and [`parent`] the directory in which a folder says that it is. The laws in [`laws`] say what a lost tree tells of the tree of its volume.
+//! names, and [`parent`] the directory in which a folder says that it is. The laws in [`laws`] say what a lost tree tells of
+//! the tree of its volume.
 #![tactic(auto)]
 
 mod entries;

@@ -6,3 +6,5 @@ mod paths;
 mod rows;
 mod shared;
 mod told;
+
+pub use told::{push_node, rooted};
