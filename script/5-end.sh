@@ -110,7 +110,13 @@ write_files() {
     fi
     put extracting "$to.unfinished"
     only extract --to "$to.unfinished" disc.tab > work/written 2> work/error
-    [ $? -le 1 ] || failed_command extract
+    extracted=$?
+    # (reread has judged the paths: one that is no node's may be hidden by a folder that is not whole)
+    if [ "$extracted" = 2 ] && grep -q 'is no node$' work/error; then
+        tell "Nothing is written to $(quoted "$to"), since a path is not found yet: $(sed 's/^udfsalvage: //; q' work/error)"
+        return
+    fi
+    [ "$extracted" -le 1 ] || failed_command extract
     if grep -q '^failed ' work/written; then
         fail "$(plural "$(grep -c '^failed ' work/written)" 'file could' 'files could') not be written to $to.unfinished" 'Is there room? Make some, and start the same command again.'
     fi

@@ -74,7 +74,7 @@ class Report:
         return "conflict" if block in self.table else "unknown"
 
     def json(self):
-        nodes = [dict(as_json(node), hidden=node.hidden, path=path_of(node)) for node in self.nodes]
+        nodes = [dict(as_json(node), hidden=node.hidden, path=path_of(node), **({"tail": True} if node.tail else {})) for node in self.nodes]
         unnamed = [dict(as_json(found), block=icb[1], **({"reference": icb[0]} if len(self.maps) == 2 else {})) for icb, found in self.unnamed]
         disputed = sum(content is None for content in self.table.values())
         top = {"conflict": disputed, "known": len(self.table) - disputed, "label": self.label, "last": self.last, "nodes": nodes}

@@ -23,6 +23,7 @@ mod profiles;
 mod refusals;
 mod reporting;
 mod rereading;
+mod rereading_paths;
 mod short_names;
 mod sizes;
 mod sparing;

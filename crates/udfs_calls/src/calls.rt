@@ -179,7 +179,7 @@ pub trait Calls {
     /// As the system says, where it names none: `OutOfMemory` where memory ran out, and nothing is known.
     fn link(&self, alloc: Global, path: &str) -> Result<String, Error>
         ensures text { IfOk result (λ text. tells → link_at self.now path.now ≡ Some (string_bytes text)) }
-        ensures none { IfErr result (λ error. error_kind error ≢ ErrorKind.OutOfMemory → tells → link_at self.now path.now ≡ None) };
+        ensures none { IfErr result (λ error. error_kind error ≢ ErrorKind.OutOfMemory → link_at self.now path.now ≡ None) };
 
     /// The path that a path leads to (`realpath`).
     ///

@@ -18,10 +18,11 @@ use Rattle.udfs_tables.specs.Imaging.{IsImaged, IsPairFree}
 use Rattle.udfs_tables.specs.Merging.{IsMerged}
 use Rattle.udfs_tables.specs.Outputs.{IsOutFree}
 use Rattle.udfs_tables.specs.Pairing.{IsPairPut, SparesPair}
+use Rattle.udfs_reports.specs.Giving.{given_by}
 use Rattle.udfs_reports.specs.Listing.{list_of}
 use Rattle.udfs_reports.specs.Paging.{IsPage, IsPageFree}
 use Rattle.udfs_reports.specs.Reporting.{form_text}
-use Rattle.udfs_reports.specs.Rereading.{IsMap, IsMapFree, IsSomeMap, numbers_of}
+use Rattle.udfs_reports.specs.Rereading.{IsMap, IsMapFree, IsSomeMap, PrintsNumbers}
 use Rattle.udfs_reports.specs.Telling.{PrintsText}
 use Rattle.udfs_extraction.specs.ByRequest.{IsExtracted}
 use Rattle.udfs_extraction.specs.Sparing.{LeavesExtract}
@@ -42,10 +43,10 @@ module _ {F I M S W : Type 0} (reach : Reach F I M S W) (old : F) where
   Does stream (request.Forget r) new before after whole = (whole ≡ true) × IsPut reach (IsForgotten reach old r) r.out.now old new × IsOutFree reach old r.inputs r.force r.out.now
   Does stream (request.Image r) new before after whole = (whole ≡ true) × IsPairPut reach (IsImaged reach old r) r.image.now r.mapfile.now old new × IsPairFree reach old r
   Does stream (request.Report r) new before after whole = PrintsText reach old (form_text r.form) r.volume (stream before) (stream after) whole
-  Does stream (request.Reread r) new before after whole = MatchOption r.mapfile (PrintsText reach old numbers_of r.volume (stream before) (stream after) whole)
+  Does stream (request.Reread r) new before after whole = MatchOption r.mapfile (PrintsNumbers reach old r (stream before) (stream after) whole)
       (λ path. IsPut reach (IsMap reach old r (stream before) (stream after) whole) path.now old new × IsMapFree reach old r path.now)
   Does stream (request.List r) new before after whole = PrintsText reach old (list_of (form_of r)) r.volume (stream before) (stream after) whole
-  Does stream (request.Summary r) new before after whole = PrintsText reach old summary_text r.volume (stream before) (stream after) whole
+  Does stream (request.Summary r) new before after whole = PrintsText reach old (summary_text (given_by r.volume r.size)) r.volume (stream before) (stream after) whole
   Does stream (request.Page r) new before after whole = IsPut reach (IsPage reach old r whole) r.out.now old new × IsPageFree reach old r
   Does stream (request.Extract r) new before after whole = IsExtracted reach stream r old new before after whole
 

@@ -391,10 +391,10 @@ fn of_lost_folder(
 /// What is said of a path of `--only` that is that of no node.
 fn of_no_node(
     alloc: Global,
-    request: &ExtractRequest<'_>,
+    only: &[&str],
     number: usize,
 ) -> Result<Option<String>, AllocError> {
-    match request.only.get(number.saturating_sub(1)) {
+    match only.get(number.saturating_sub(1)) {
         Some(path) if !path.starts_with('/') => Ok(Some(format!(in alloc;
             "{} does not begin with /: the paths are those that list --paths prints",
             Shown(path)
@@ -437,7 +437,7 @@ fn of_extract(
         Refusal::Folder => of_folder(alloc, request, reason),
         Refusal::LostSpared => of_lost_place(alloc, request),
         Refusal::LostFolder => of_lost_folder(alloc, request, reason),
-        Refusal::NoNode(number) => of_no_node(alloc, request, *number),
+        Refusal::NoNode(number) => of_no_node(alloc, request.only.as_slice(), *number),
         _ => Ok(None),
     }
 }
@@ -512,6 +512,9 @@ fn of_other<F: Files>(
             format!(in alloc;
                 "each known block is held in memory, 2048 bytes of it: free some, or take a larger machine"
             )?
+        }
+        (Refusal::NoNode(number), Request::Reread(reread)) => {
+            return of_no_node(alloc, reread.only.as_slice(), *number);
         }
         (_, Request::Extract(extract)) => return of_extract(alloc, refusal, extract, reason),
         _ => return Ok(None),

@@ -12,4 +12,3 @@ mod spared;
 
 pub use command::run;
 pub use refusing::refuse_words;
-pub use udfs_extraction::asks_by_names;

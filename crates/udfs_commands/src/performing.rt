@@ -10,10 +10,11 @@ use udfs_common::refusal::Refusal;
 use udfs_extraction::extract::extract;
 use udfs_overview::ListForm;
 use udfs_reading::Sink;
+use udfs_reports::giving::given_by;
 use udfs_reports::list::NodeLines;
 use udfs_reports::page::page;
 use udfs_reports::report::ReportAs;
-use udfs_reports::reread::Numbers;
+use udfs_reports::reread::reread;
 use udfs_reports::reread_map::reread_map;
 use udfs_reports::summary::Summary;
 use udfs_reports::telling::tell;
@@ -66,12 +67,17 @@ pub fn perform<F: Files, O: Sink>(
             let telling = ReportAs { form: report.form };
             tell(alloc, &report.volume, &telling, files, out)
         }
-        Request::Reread(reread) => match reread.mapfile {
-            None => tell(alloc, &reread.volume, &Numbers, files, out),
-            Some(path) => reread_map(alloc, reread, path, files, out),
+        Request::Reread(asked) => match asked.mapfile {
+            None => reread(alloc, asked, files, out),
+            Some(path) => reread_map(alloc, asked, path, files, out),
         },
         Request::List(list) => tell(alloc, &list.volume, &node_lines(list), files, out),
-        Request::Summary(summary) => tell(alloc, &summary.volume, &Summary, files, out),
+        Request::Summary(summary) => {
+            let telling = Summary {
+                given: given_by(&summary.volume, summary.size),
+            };
+            tell(alloc, &summary.volume, &telling, files, out)
+        }
         Request::Page(asked) => page(alloc, asked, files),
         Request::Extract(asked) => extract(alloc, asked, files, out),
     }

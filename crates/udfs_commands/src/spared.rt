@@ -55,7 +55,7 @@ fn of_table<F: Files>(
         return of_input(alloc, out);
     }
     format!(in alloc;
-        "{} is a reading, and none of the inputs: take another name, or give --force",
+        "{} is no table file, and none of the inputs: take another name, or give --force",
         Shown(out)
     )
 }

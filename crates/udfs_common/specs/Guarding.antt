@@ -2,7 +2,8 @@
 --     begins kind bytes          the bytes begin with these
 --     SomeLeads, NoneLeads       one of some paths leads to a place, or none
 --     SomeShut                   one of some paths may fail to open
---     IsFree                     an output takes the place of no image, no mapfile and no reading, but of a reading that is an input, or by force
+--     IsTable                    a table file, or an empty one
+--     IsFree                     an output takes the place of no image and no mapfile, and of no file but an input or a table file, or by force
 --     IsSpared                   why an output is not written
 --     IsFreeOwn                  an output takes the place of no file but one of its own kind, and of none of the inputs
 --     IsSparedOwn                why it is not written
@@ -45,24 +46,28 @@ abbrev pub SomeShut : (List ℕ → Type 0) → List (List ℕ) → Type 0
 SomeShut shut [] = ⊥
 SomeShut shut (path ∷ paths) = shut path ⊎ SomeShut shut paths
 
--- the first eight bytes of a reading
-abbrev pub reading_kind : List ℕ
-reading_kind = codes "UDFREAD1"
+-- the bytes with which a table file begins, in either version
+abbrev pub table_kind : List ℕ
+table_kind = codes "UDFTABL"
 
--- an output takes the place of no image or mapfile of the inputs (`parts`); and, without force, unless what is there may be no file (`in_place`), of no reading but an input (`files`)
+-- a table file; or a file that has no byte to lose
+abbrev pub IsTable : List ℕ → Type 0
+IsTable bytes = (begins table_kind bytes ≡ true) ⊎ (bytes ≡ [])
+
+-- an output takes the place of no image or mapfile of the inputs (`parts`); and, without force, unless what is there may be no file (`in_place`), of no file but an input (`files`), a table file or an empty one
 pub record IsFree (holds : List ℕ → Option (Option (List ℕ))) (real : List ℕ → List ℕ) (in_place : List ℕ → Type 0) (files parts : List (List ℕ)) (force : Bool) (out : List ℕ) : Type 0 where
   pub apart : NoneLeads real (real out) parts
-  pub no_pass : force ≡ false → (in_place out → ⊥) → SomeLeads real (real out) files ⊎ BeginsOtherwise reading_kind (holds (real out))
+  pub a_table : force ≡ false → (in_place out → ⊥) → SomeLeads real (real out) files ⊎ ((bytes : List ℕ) → holds (real out) ≡ Some (Some bytes) → IsTable bytes)
 
--- a reading that is no input is there
-pub record IsOtherReading (holds : List ℕ → Option (Option (List ℕ))) (real : List ℕ → List ℕ) (files : List (List ℕ)) (force : Bool) (out : List ℕ) : Type 0 where
+-- a file that is no input and no table file is there, and it is not empty
+pub record IsOtherFile (holds : List ℕ → Option (Option (List ℕ))) (real : List ℕ → List ℕ) (files : List (List ℕ)) (force : Bool) (out : List ℕ) : Type 0 where
   pub unforced : force ≡ false
   pub no_input : NoneLeads real (real out) files
-  pub reading : MayBegin reading_kind (holds (real out))
+  pub no_table : (bytes : List ℕ) → holds (real out) ≡ Some (Some bytes) → ¬ IsTable bytes
 
--- why an output is not written: an image or a mapfile of the inputs is there, or, without force, possibly a reading that is no input
+-- why an output is not written: an image or a mapfile of the inputs is there, or, without force, a file that is no input and no table file
 abbrev pub IsSpared : (List ℕ → Option (Option (List ℕ))) → (List ℕ → List ℕ) → List (List ℕ) → List (List ℕ) → Bool → List ℕ → Type 0
-IsSpared holds real files parts force out = SomeLeads real (real out) parts ⊎ IsOtherReading holds real files force out
+IsSpared holds real files parts force out = SomeLeads real (real out) parts ⊎ IsOtherFile holds real files force out
 
 -- the beginning of a map of blocks to read again, which no pass's mapfile has: who made it, and the mark
 unfoldable pub domain_kind : List ℕ

@@ -2,15 +2,15 @@
 
 ghost use Rattle.std.specs.Prelude.{◌≡◌, ◌≢◌, ◌⊎◌, ℕ, List, [], true, false, Some, IfOk, OnErr, map};
 ghost use Rattle.udfs_files.specs.Disk.{Fails};
-ghost use Rattle.udfs_common.specs.Guarding.{BeginsOtherwise, IsFree, IsFreeMap, IsFreeOwn, IsSpared, IsSparedMap, IsSparedOwn, MayBegin, MayNotBeSeen, NoneLeads, SomeLeads, SomeShut, begins};
+ghost use Rattle.udfs_common.specs.Guarding.{BeginsOtherwise, IsFree, IsFreeMap, IsFreeOwn, IsSpared, IsSparedMap, IsSparedOwn, IsTable, MayBegin, MayNotBeSeen, NoneLeads, SomeLeads, SomeShut, begins};
 
 use crate::files::Files;
 use std::alloc::{AllocError, Global};
 use udfs_files::Kind;
 use udfs_reading::{DeviceFault, Source};
 
-/// The first eight bytes of a reading.
-const READING: &[u8] = b"UDFREAD1";
+/// The bytes with which a table file begins, in either version.
+const TABLE: &[u8] = b"UDFTABL";
 
 /// The beginning of a map of blocks to read again: its first line, and the mark that no pass's mapfile has.
 const DOMAIN: &[u8] =
@@ -35,6 +35,19 @@ fn begins_so<R: Source>(source: &mut R, kind: &[u8]) -> Result<bool, DeviceFault
     }
 }
 
+/// Whether a source has nothing left. It reads a byte where it has.
+fn has_ended<R: Source>(source: &mut R) -> Result<bool, DeviceFault>
+    ensures yes { IfOk result (λ so. so ≡ true → (bytes : List ℕ) → R.remaining source.old ≡ Some bytes → bytes ≡ []) }
+    ensures no { IfOk result (λ so. so ≡ false → (bytes : List ℕ) → R.remaining source.old ≡ Some bytes → bytes ≢ []) }
+    ensures fault { OnErr result (Fails R.faults) }
+{
+    let mut byte = [0u8; 1];
+    match source.read(&mut byte) {
+        Ok(read) => Ok(read == 0),
+        Err(fault) => Err(fault),
+    }
+}
+
 /// Whether the file at a path begins with these bytes.
 pub fn is_kind<F: Files>(path: &str, kind: &[u8], files: &F) -> Result<bool, DeviceFault>
     ensures yes { IfOk result (λ so. so ≡ true → MayBegin kind.now (F.holds files.now (F.real files.now path.now))) }
@@ -46,6 +59,34 @@ pub fn is_kind<F: Files>(path: &str, kind: &[u8], files: &F) -> Result<bool, Dev
             Ok(so) => Ok(so),
             Err(fault) => Err(fault),
         },
+        Err(fault) => Err(fault),
+    }
+}
+
+/// Whether the file at a path has no bytes.
+fn is_empty<F: Files>(path: &str, files: &F) -> Result<bool, DeviceFault>
+    ensures yes { IfOk result (λ so. so ≡ true → (bytes : List ℕ) → F.holds files.now (F.real files.now path.now) ≡ Some (Some bytes) → bytes ≡ []) }
+    ensures no { IfOk result (λ so. so ≡ false → (bytes : List ℕ) → F.holds files.now (F.real files.now path.now) ≡ Some (Some bytes) → bytes ≢ []) }
+    ensures fault { OnErr result (F.shut files.now path.now ⊎ Fails F.Input.faults) }
+{
+    match files.open(path) {
+        Ok(mut file) => match has_ended(&mut file) {
+            Ok(so) => Ok(so),
+            Err(fault) => Err(fault),
+        },
+        Err(fault) => Err(fault),
+    }
+}
+
+/// Whether the file at a path is a table file, of either version, or has no bytes.
+fn is_table<F: Files>(path: &str, files: &F) -> Result<bool, DeviceFault>
+    ensures yes { IfOk result (λ so. so ≡ true → (bytes : List ℕ) → F.holds files.now (F.real files.now path.now) ≡ Some (Some bytes) → IsTable bytes) }
+    ensures no { IfOk result (λ so. so ≡ false → (bytes : List ℕ) → F.holds files.now (F.real files.now path.now) ≡ Some (Some bytes) → ¬ IsTable bytes) }
+    ensures fault { OnErr result (F.shut files.now path.now ⊎ Fails F.Input.faults) }
+{
+    match is_kind(path, TABLE, files) {
+        Ok(true) => Ok(true),
+        Ok(false) => is_empty(path, files),
         Err(fault) => Err(fault),
     }
 }
@@ -105,8 +146,8 @@ pub enum Outlook {
     Unknown,
 }
 
-/// What is known of an output: it is spared where it is an image or a mapfile of the inputs, and without `force` also where it begins as a reading does
-/// and is not one of the inputs that are files.
+/// What is known of an output: it is spared where it is an image or a mapfile of the inputs, and without `force` also where it is a file with bytes that is no
+/// table file and is not one of the inputs that are files: a mistyped path must not cost a pass.
 pub fn look_at<F: Files>(
     alloc: Global,
     inputs: &[&str],
@@ -135,9 +176,9 @@ pub fn look_at<F: Files>(
         Ok(true) => return Ok(Outlook::Free),
         Err(DeviceFault) => return Ok(Outlook::Unknown),
     }
-    match is_kind(out, READING, files) {
-        Ok(false) => Ok(Outlook::Free),
-        Ok(true) => Ok(Outlook::Spared),
+    match is_table(out, files) {
+        Ok(true) => Ok(Outlook::Free),
+        Ok(false) => Ok(Outlook::Spared),
         Err(DeviceFault) => Ok(Outlook::Unknown),
     }
 }

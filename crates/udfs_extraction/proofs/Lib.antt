@@ -1,8 +1,5 @@
-pub mod ChoosingLemmas
 mod PutNodes
-mod ChosenAll
 mod ExtractLemmas
-pub mod AskedNames
 mod DigestLemmas
 mod ManifestLemmas
 pub mod LostLemmas

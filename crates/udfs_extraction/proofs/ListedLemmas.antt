@@ -1,8 +1,7 @@
 -- What a listing has without what is missing of torn nodes, said of the report's.
 use Rattle.std.proofs.Common.{◌≡◌, ◌<◌, refl, sym, ◌∙◌, ap, arith, get_or, length, ℕ, zero, suc, Bool, true, false, List, [], ◌∷◌, map, Option, Some, cond, slice_get}
-use Rattle.std.specs.Prelude.{◌&&◌, ◌||◌, nat_lt, option_map}
+use Rattle.std.specs.Prelude.{◌&&◌, nat_lt, option_map}
 use Rattle.std.specs.List.{list_all}
-use Rattle.std.specs.Str.{bytes_eq}
 use Rattle.std.proofs.lemmas.Option.{slice_get-map}
 use Rattle.udfs_tag.specs.declared.layouts.LongAd.{LongAd}
 use Rattle.udfs_lattice.specs.Volumes.{Blocks}
@@ -16,11 +15,11 @@ use Rattle.udfs_walk.specs.declared.answers.Unnamed.{Unnamed}
 use Rattle.udfs_salvage.specs.Found.{Found}
 use Rattle.udfs_salvage.specs.Extraction.{is_offered}
 use Rattle.udfs_salvage.specs.Listings.{full_entry_in, full_in, standing_in}
-use Rattle.udfs_salvage.specs.NodeTexts.{path_name}
 use Rattle.udfs_walk.specs.Unsettled.{is_whole}
 use Rattle.udfs_salvage.specs.UnnamedExtraction.{is_file, is_lost_file}
 use Rattle.udfs_salvage.specs.declared.extraction.Fill.{Fill}
-use Rattle.udfs_extraction.specs.Choosing.{chosen, is_chosen, is_node}
+use Rattle.udfs_salvage.specs.Choosing.{chosen, is_chosen, is_node}
+use Rattle.udfs_salvage.proofs.ListedNodes.{same_node}
 use Rattle.udfs_extraction.specs.Extracting.{deed}
 use Rattle.udfs_extraction.specs.LostFiles.{lost_line}
 use Rattle.udfs_extraction.specs.declared.nodes.Deed.TheVariants.{File, Skip}
@@ -80,10 +79,6 @@ at_index f (x ∷ xs) zero m below is = ap (λ y. Some (f y)) (sym is)
 at_index f (x ∷ xs) (suc i) m below is = at_index f xs i m (omega (arith, below)) is
 
 -- ---- which nodes are asked for
-
-pub same_node : (M : Blocks) (a : Answer Found) (ns : List NodeFields) (word : List ℕ) → is_node (map (full_in M a) ns) word ≡ is_node ns word
-same_node M a [] word = refl
-same_node M a (n ∷ ns) word = ap (λ b. bytes_eq (path_name n.path) word || b) (same_node M a ns word)
 
 pub same_named : (M : Blocks) (a : Answer Found) (ns : List NodeFields) (words : List (List ℕ)) → list_all (is_node (map (full_in M a) ns)) words ≡ list_all (is_node ns) words
 same_named M a ns [] = refl

@@ -21,7 +21,7 @@ use Rattle.udfs_common.specs.Reach.{Reach}
 use Rattle.udfs_common.specs.Refusing.{IsUnput}
 use Rattle.udfs_common.specs.declared.refusal.Refusal.{Refusal}
 use Rattle.udfs_common.specs.declared.refusal.Refusal.TheVariants.{Unkept}
-use Rattle.udfs_extraction.specs.Choosing.{chosen, goes_on, is_node}
+use Rattle.udfs_salvage.specs.Choosing.{chosen, goes_on, is_node}
 use Rattle.udfs_extraction.specs.Extracting.{IsDone, IsElsewhere, Puts, PutsBy, PutsNone, SparesNodes, Stay, all_good, path_below}
 use Rattle.udfs_extraction.specs.ByRequest.{IsNodePut, MakesNodes, PutsManifest, fill_of}
 use Rattle.udfs_extraction.specs.Manifests.{AreLines, ByManifest, IsBeside, IsLine, IsManifest, IsNoted, IsPutLast, MayPut, MayPutLast, PutsListed, PutsNoted, PutsWith, digest_line, note_text, notes_of, notes_text}
@@ -31,7 +31,7 @@ use Rattle.udfs_extraction.specs.ShortNames.{own_name, placed}
 use Rattle.udfs_extraction.specs.declared.nodes.Fate.{Fate}
 use Rattle.udfs_extraction.specs.declared.manifest.Noted.{Noted}
 use Rattle.udfs_extraction.specs.declared.nodes.Fate.TheVariants.{Made, Written, Failed, Left, Skipped, Passed}
-use Rattle.udfs_extraction.proofs.ChoosingLemmas.{on_behind}
+use Rattle.udfs_salvage.proofs.ChoosingLemmas.{on_behind}
 use Rattle.udfs_reading.specs.Device.{Stream}
 
 abbrev Held : Type 0

@@ -16,7 +16,7 @@ use Rattle.udfs_common.specs.declared.refusal.Refusal.TheVariants.{Memory, Outpu
 use Rattle.udfs_extraction.specs.Refused.{NamesNoNode, StopsBefore}
 use Rattle.udfs_extraction.specs.declared.manifest_text.TextError.{TextError}
 use Rattle.udfs_extraction.specs.declared.manifest_text.TextError.TheVariants as text
-use Rattle.udfs_extraction.proofs.ListedLemmas.{same_node}
+use Rattle.udfs_salvage.proofs.ListedNodes.{same_node}
 
 -- ---- before anything is made
 

@@ -32,7 +32,7 @@ use Rattle.udfs_salvage.specs.Extraction.{is_offered}
 use Rattle.udfs_salvage.specs.Reports.{Report, IsReportBy}
 use Rattle.udfs_walk.specs.Unsettled.{is_whole}
 use Rattle.udfs_salvage.specs.declared.extraction.Fill.{Fill}
-use Rattle.udfs_extraction.specs.Choosing.{chosen, is_chosen, is_node}
+use Rattle.udfs_salvage.specs.Choosing.{chosen, is_chosen, is_node}
 use Rattle.udfs_extraction.specs.ShortNames.{own_name, placed}
 use Rattle.udfs_extraction.specs.declared.nodes.Deed.{Deed}
 use Rattle.udfs_extraction.specs.declared.nodes.Deed.TheVariants.{Folder, File, Skip}

@@ -1,5 +1,4 @@
 pub mod ByRequest
-pub mod Choosing
 pub mod Extracting
 pub mod Digests
 pub mod SumLines

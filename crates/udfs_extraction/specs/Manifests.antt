@@ -15,7 +15,7 @@ use Rattle.udfs_files.specs.declared.files.Files.{Ghosts}
 use Rattle.udfs_walk.specs.NodeFields.{NodeFields}
 use Rattle.udfs_salvage.specs.NodeTexts.{names_text}
 use Rattle.udfs_salvage.specs.Reports.{Report}
-use Rattle.udfs_extraction.specs.Choosing.{goes_on}
+use Rattle.udfs_salvage.specs.Choosing.{goes_on}
 use Rattle.udfs_extraction.specs.Extracting.{IsIn, PutsBy, PutsChosen, PutsNone, path_below}
 use Rattle.udfs_common.specs.Guarding.{NoneLeads, SomeLeads}
 use Rattle.udfs_common.specs.Keeping.{IsKept}

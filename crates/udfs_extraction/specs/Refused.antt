@@ -34,7 +34,7 @@ use Rattle.udfs_common.specs.declared.refusal.Refusal.{Refusal}
 use Rattle.udfs_common.specs.declared.refusal.Refusal.TheVariants.{Folder, LostFolder, LostSpared, Memory, NoNode, Output, Spared, Unkept}
 use Rattle.udfs_remarks.specs.NoReports.{IsUntold}
 use Rattle.udfs_extraction.specs.ByRequest.{IsNodePut, IsPlace, MakesNodes, fill_of}
-use Rattle.udfs_extraction.specs.Choosing.{is_node}
+use Rattle.udfs_salvage.specs.Choosing.{is_node}
 use Rattle.udfs_extraction.specs.Extracting.{IsDone, IsPutAt, Puts, PutsBy, PutsOf, TellsLines}
 use Rattle.udfs_extraction.specs.LostFiles.{EachLost, IsLostPutAt, lost_lines}
 use Rattle.udfs_extraction.specs.Manifests.{IsSparedManifest}

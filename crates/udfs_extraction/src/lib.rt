@@ -20,5 +20,3 @@ mod telling;
 mod times;
 mod unnamed;
 mod unnamed_place;
-
-pub use choosing::asks_by_names;

@@ -6,13 +6,13 @@ ghost use Rattle.udfs_files.specs.Disk.{Fails};
 ghost use Rattle.udfs_extraction.specs.Manifests.{IsBeside, IsFreeManifest, IsNear, IsNoManifest, IsSparedManifest};
 ghost use Rattle.udfs_extraction.specs.SumLines.{begins_as_sums, begins_by, fits, is_digit};
 
-use crate::choosing::goes_on;
 use std::alloc::{AllocError, Global};
 use udfs_common::files::Files;
 use udfs_common::placing::{begin_so, is_no_input};
 use udfs_common::refusal::Refusal;
 use udfs_files::Kind;
 use udfs_reading::{DeviceFault, Source};
+use udfs_salvage::choosing::goes_on;
 
 /// Signs for the beginning of a manifest's line: 64 hexadecimal digits and two spaces.
 const SUM: &[u8] = b"0000000000000000000000000000000000000000000000000000000000000000  ";

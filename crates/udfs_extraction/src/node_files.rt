@@ -15,11 +15,10 @@ ghost use Rattle.udfs_salvage.specs.Listings.{full_in, listing_now};
 ghost use Rattle.udfs_salvage.specs.Reports.{IsReportBy};
 ghost use Rattle.udfs_extraction.specs.Extracting.{IsDone, IsFateOf, IsIn, IsPutAt, Spares, Stay, deed, path_below};
 ghost use Rattle.udfs_common.specs.Keeping.{IsKept};
-ghost use Rattle.udfs_extraction.specs.Choosing.{is_chosen};
+ghost use Rattle.udfs_salvage.specs.Choosing.{is_chosen};
 ghost use Rattle.udfs_extraction.specs.Manifests.{IsNoted};
 ghost use Rattle.udfs_extraction.specs.ShortNames.{placed};
 
-use crate::choosing::{is_above, is_chosen};
 use crate::digesting::{Filled, fill_noting};
 use crate::nodes::{Deed, Done, Fate};
 use crate::spare::Spare;
@@ -28,6 +27,7 @@ use udfs_common::files::Files;
 use udfs_file::Kind;
 use udfs_files::Job;
 use udfs_reading::{DeviceFault, Sink};
+use udfs_salvage::choosing::{is_above, is_chosen};
 use udfs_salvage::{ExtractError, Fill, Listing, is_offered, write_node};
 use udfs_walk::{Node, Standing};
 

@@ -10,7 +10,7 @@ ghost use Rattle.udfs_extraction.specs.Manifests.{IsManifest, PutsNoted, notes_t
 ghost use Rattle.udfs_extraction.specs.ShortNames.{own_name};
 ghost use Rattle.udfs_extraction.specs.Refused.{NodesStop};
 
-use crate::choosing::{all_are_nodes, chosen_are_whole};
+use crate::choosing::all_are_nodes;
 use crate::fate_remarks::remark_on_fate;
 use crate::manifest::{Noted, note};
 use crate::node_files::{node_at, put_chosen, put_folder};
@@ -25,6 +25,7 @@ use udfs_common::refusal::Refusal;
 use udfs_reading::Sink;
 use udfs_remarks::no_reports::refused_run;
 use udfs_remarks::remarks::{remark_on_left_out, remark_on_listing};
+use udfs_salvage::choosing::chosen_are_whole;
 use udfs_salvage::{Fill, Listing, Volume, write_volume_line};
 use udfs_times::Times;
 use udfs_words::request::ExtractRequest;

@@ -2,7 +2,6 @@
 
 ghost use Rattle.udfs_extraction.specs.ByRequest.{IsGoodWithTimes};
 
-use crate::choosing::is_above;
 use crate::node_files::{node_at, path_in};
 use crate::nodes::Fate;
 use crate::places::place_from;
@@ -15,6 +14,7 @@ use udfs_file::Kind;
 use udfs_osta::Stamp;
 use udfs_overview::push_shown_path;
 use udfs_salvage::Listing;
+use udfs_salvage::choosing::is_above;
 use udfs_times::Times;
 use udfs_walk::{Node, Unnamed};
 

@@ -1,2 +1,5 @@
 pub mod Going
+pub mod Leading
+pub mod Slashes
+pub mod Taken
 pub mod Untold

@@ -1,3 +1,6 @@
 pub mod Disk
 pub mod Jobs
+pub mod Leading
+pub mod Opened
 pub mod Telling
+pub mod There

@@ -5,12 +5,19 @@
 mod files;
 mod filling;
 mod machine;
+mod opened;
+mod output;
+mod places;
+mod reaching;
 mod replacing;
+mod resolving;
 mod watch;
 
 pub use files::{Files, Handle, Kind, Target};
 pub(crate) use filling::ContentJob;
 pub use filling::{Content, Job, fill, fill_by};
-pub use machine::{Machine, MachineFile};
+pub use machine::Machine;
+pub use opened::{MachineImage, MachineInput, MachineStored};
+pub use output::MachineFile;
 pub use replacing::{JobError, ReplaceError, replace, replace_by_job};
 pub use watch::{Stage, Watch};

@@ -1,6 +1,6 @@
 //! What a run shows to the person who watches it, beside what it prints. Nothing that a command does depends on it.
 
-ghost use Rattle.std.specs.Prelude.{◌≡◌, Ok, IfSome};
+ghost use Rattle.std.specs.Prelude.{◌≡◌, Ok, IfSome, IsErr, IsNone};
 
 use std::io::Error;
 
@@ -50,7 +50,8 @@ pub trait Watch {
 
 /// The value of a call's outcome. Where it failed, `watch` is given the reason.
 pub(crate) fn heeded<T: Drop, N: Watch>(watch: &N, outcome: Result<T, Error>) -> Option<T>
-    ensures { IfSome result (λ value. outcome ≡ Ok value) }
+    ensures value { IfSome result (λ value. outcome ≡ Ok value) }
+    ensures none { IsNone result → IsErr outcome }
 {
     match outcome {
         Ok(value) => Some(value),

@@ -29,6 +29,12 @@ all_appended r old one two new first second last e h k =
     (ap (λ x. x ++ last) (both_appended old one two first second e h) ∙ append_assoc old (first ++ second) last ∙ ap (λ x. old ++ x) (append_assoc first second last))
     (where_appended r new (two ++ last) two k)
 
+-- four texts, the last of which may not be appended
+pub four_appended : {T E : Type 0} (r : Result T E) (old one two three new first second third last : List ℕ) → one ≡ old ++ first → two ≡ one ++ second → three ≡ two ++ third
+    → OnOk r (new ≡ three ++ last) → OnOk r (new ≡ old ++ (first ++ second ++ third ++ last))
+four_appended r old one two three new first second third last e h k =
+    last_appended r old three new (first ++ second ++ third) last (both_appended old two three (first ++ second) third (both_appended old one two first second e h) k)
+
 -- the texts of a list's elements, with one more
 pub text_more : {A : Type 0} (f : A → List ℕ) (xs : List A) (i : ℕ) (x : A) (old middle new : List ℕ) → i < length xs → x ≡ get_or xs i x
     → middle ≡ old ++ flat_map f (take i xs) → new ≡ middle ++ f x → new ≡ old ++ flat_map f (take (i + 1) xs)

@@ -18,3 +18,4 @@ mod SpareLaws
 mod Streaming
 mod TornOrder
 mod TornSorted
+mod UnreadNodes

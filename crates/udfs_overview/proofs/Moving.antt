@@ -1,5 +1,5 @@
 -- Folders in which tags name another place, among nodes whose lists were let go.
-use Rattle.std.proofs.Common.{◌≡◌, refl, ap, ◌∙◌, sym, ◌&&◌, Bool, true, false, List, cond, map}
+use Rattle.std.proofs.Common.{◌≡◌, refl, ap, ◌∙◌, sym, ◌&&◌, false, List, cond, map}
 use Rattle.std.specs.Prelude.{count_by}
 use Rattle.udfs_lattice.specs.Volumes.{Blocks}
 use Rattle.udfs_tag.specs.declared.layouts.LongAd.{LongAd}

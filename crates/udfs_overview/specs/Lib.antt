@@ -5,6 +5,7 @@ pub mod NodeLists
 pub mod LeftOut
 pub mod Tallies
 pub mod DiscTallies
+pub mod Sentences
 pub mod SummaryTexts
 pub mod Streams
 pub mod MovedTags
@@ -12,5 +13,9 @@ pub mod Spares
 pub mod VolumeLines
 pub mod TornRows
 pub mod TornLists
+pub mod UnreadLists
 pub mod Disagreements
+pub mod Repeating
+pub mod NextCommands
+pub mod Widenings
 pub mod Summaries

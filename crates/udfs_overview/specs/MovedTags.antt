@@ -19,7 +19,7 @@ use Rattle.udfs_walk.specs.declared.standings.Standing.{Standing}
 use Rattle.udfs_walk.specs.declared.standings.Standing.TheVariants as standing
 use Rattle.udfs_salvage.specs.Found.{Found}
 use Rattle.udfs_salvage.specs.Reports.{Report}
-use Rattle.udfs_overview.specs.SummaryTexts.{counted}
+use Rattle.udfs_overview.specs.Sentences.{counted}
 
 -- a folder
 abbrev pub is_directory : Kind → Bool

@@ -18,7 +18,7 @@ use Rattle.udfs_walk.specs.declared.answers.Unnamed.{Unnamed}
 use Rattle.udfs_walk.specs.declared.standings.Standing.{Standing}
 use Rattle.udfs_salvage.specs.Found.{Found}
 use Rattle.udfs_salvage.specs.Reports.{Report}
-use Rattle.udfs_overview.specs.SummaryTexts.{counted}
+use Rattle.udfs_overview.specs.Sentences.{counted}
 use Rattle.udfs_overview.specs.Tallies.{is_of}
 use Rattle.udfs_overview.specs.declared.tallies.NodeSort.TheVariants as sort
 

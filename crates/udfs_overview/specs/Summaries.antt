@@ -1,57 +1,70 @@
 -- The summary of a report.
 --     folders_line tally path      the line of the folders, and where names may be missing
---     next_line volume rules last disputed reread     what to do next
---     summary_text rules table last report            all lines
-use Rattle.std.specs.Prelude.{ℕ, ◌-◌, ◌==◌, ◌&&◌, List, [], ◌∷◌, ◌++◌, Option, Some, None, codes, decimal, find, option_map, if◌then◌else◌}
+--     next_lines words rules table last report        what to do next
+--     summary_text words rules table last report      all lines
+use Rattle.std.specs.Prelude.{ℕ, ◌-◌, ◌==◌, ◌&&◌, Bool, List, [], ◌∷◌, ◌++◌, Option, Some, None, codes, find, length, option_map, if◌then◌else◌}
 use Rattle.udfs_lattice.specs.Tables.{Table, state_of}
 use Rattle.udfs_volume.specs.Answers.{Answer, found, holes, faulty}
 use Rattle.udfs_volume.specs.declared.profiles.Profile.{Profile}
 use Rattle.udfs_volume.specs.declared.profiles.Profile.TheVariants as profile
 use Rattle.udfs_walk.specs.NodeFields.{NodeFields}
 use Rattle.udfs_salvage.specs.Found.{Found}
-use Rattle.udfs_salvage.specs.Reports.{Report}
+use Rattle.udfs_salvage.specs.Reports.{Report, all_whole}
 use Rattle.udfs_overview.specs.Disagreements.{apart_lines}
 use Rattle.udfs_overview.specs.DiscTallies.{disc_of, unnamed_of}
-use Rattle.udfs_overview.specs.Figures.{grouped}
 use Rattle.udfs_overview.specs.LeftOut.{left_out_line, left_out_types}
 use Rattle.udfs_overview.specs.MovedTags.{moved_count, moved_line}
+use Rattle.udfs_overview.specs.NextCommands.{extract_command, needed_steps, summary_command}
+use Rattle.udfs_overview.specs.Repeating.{GivenWords, pass_number}
+use Rattle.udfs_overview.specs.Sentences.{counted, part, sentence}
 use Rattle.udfs_overview.specs.Spares.{spares_disagree, spares_line}
 use Rattle.udfs_overview.specs.Streams.{stream_count, streams_line}
-use Rattle.udfs_overview.specs.SummaryTexts.{counted, disc_line, files_line, others_line, unnamed_line}
+use Rattle.udfs_overview.specs.SummaryTexts.{disc_line, files_line, others_line, unnamed_line}
 use Rattle.udfs_overview.specs.Tallies.{is_node_of, tally_of}
-use Rattle.udfs_overview.specs.TornLists.{by_loss, shown_path, torn_rows, torn_text}
+use Rattle.udfs_overview.specs.TornLists.{by_loss, more_line, shown_path, torn_rows, torn_text}
+use Rattle.udfs_overview.specs.UnreadLists.{unread_paths, unread_text}
 use Rattle.udfs_overview.specs.VolumeLines.{volume_line}
+use Rattle.udfs_overview.specs.Widenings.{widening_by, widening_text}
+use Rattle.udfs_overview.specs.declared.widenings.Widening.{Widening}
+use Rattle.udfs_overview.specs.declared.widenings.Widening.TheVariants as wide
 use Rattle.udfs_overview.specs.declared.tallies.NodeSort.TheVariants as sort
+use Rattle.udfs_overview.specs.declared.disc_tallies.DiscTally.{DiscTally}
 use Rattle.udfs_overview.specs.declared.tallies.Tally.{Tally}
 
 -- the path of the first torn directory
 abbrev pub torn_folder : List NodeFields → Option (List (List ℕ))
 torn_folder nodes = option_map (λ (n : NodeFields). n.path) (find (is_node_of sort.TornFolder) nodes)
 
--- how many torn directories there are beside the first
-abbrev pub other_folders : ℕ → List ℕ
-other_folders n = if n == 0 then [] else codes " and " ++ grouped n ++ codes " more"
+-- where names may be missing
+unfoldable pub missing_line : List (List ℕ) → List ℕ
+missing_line path = codes "           names may be missing in " ++ shown_path path ++ codes "\n"
 
--- where names may be missing: the first of this many torn directories, and how many more
+-- the first of this many torn directories, and how many more
 abbrev pub missing_in : ℕ → List (List ℕ) → List ℕ
-missing_in torn path = codes ": names may be missing in " ++ shown_path path ++ other_folders (torn - 1)
+missing_in torn path = missing_line path ++ more_line (torn - 1)
 
 -- where names may be missing, if anywhere
 abbrev pub names_missing : ℕ → Option (List (List ℕ)) → List ℕ
 names_missing torn None = []
 names_missing torn (Some path) = missing_in torn path
 
--- the line of the folders, if there are any; the root is one
+-- how many folders are whole, and how many torn
+unfoldable pub folders_counts : Tally → List ℕ
+folders_counts t = codes "Folders    " ++ counted t.whole_folders (codes " whole") ++ part (codes "   ") t.torn_folders (codes " torn") ++ codes "\n"
+
+-- the lines of the folders, if there are any; the root is one
 unfoldable pub folders_line : Tally → Option (List (List ℕ)) → List ℕ
-folders_line t path =
-    if t.whole_folders == 0 && t.torn_folders == 0 then []
-    else codes "Folders    " ++ counted t.whole_folders (codes " whole   ") ++ counted t.torn_folders (codes " torn") ++ names_missing t.torn_folders path ++ codes "\n"
+folders_line t path = if t.whole_folders == 0 && t.torn_folders == 0 then [] else folders_counts t ++ names_missing t.torn_folders path
+
+-- the lines of what is counted of a volume that opens
+unfoldable pub counts_lines : Report → List ℕ
+counts_lines r =
+    files_line (tally_of r.nodes) ++ folders_line (tally_of r.nodes) (torn_folder r.nodes) ++ others_line (tally_of r.nodes)
+    ++ left_out_line (left_out_types r.nodes) ++ unnamed_line (unnamed_of r.unnamed)
 
 -- the lines of what is found of a volume that opens
 unfoldable pub nodes_lines : Report → List ℕ
-nodes_lines r =
-    files_line (tally_of r.nodes) ++ folders_line (tally_of r.nodes) (torn_folder r.nodes) ++ others_line (tally_of r.nodes)
-    ++ left_out_line (left_out_types r.nodes) ++ unnamed_line (unnamed_of r.unnamed)
+nodes_lines r = sentence (tally_of r.nodes) (length r.reread) ++ counts_lines r
 
 -- there is nothing found of a volume that does not open
 abbrev pub found_lines : Table → Answer Found → Report → List ℕ
@@ -65,37 +78,57 @@ torn_lines (found f) r = torn_text (tally_of r.nodes).torn_files (by_loss (torn_
 torn_lines (holes blocks) r = []
 torn_lines (faulty f) r = []
 
--- the rules of a profile as arguments of a command: the strict ones need none
-abbrev pub rules_words : Profile → List ℕ
-rules_words profile.Strict = []
-rules_words profile.Wide = codes " --profile wide"
+-- ---- what to do next
 
--- the command that lists the blocks to read again
-abbrev pub reread_line : Profile → ℕ → List ℕ
-reread_line rules last = codes "Next       udfsalvage reread --last " ++ decimal last ++ rules_words rules ++ codes " --mapfile want.map ...\n"
+-- what stands before the first line of what to do next, and before the others
+abbrev pub next_label : List ℕ
+next_label = codes "Next       "
 
--- where blocks in conflict are among them: these are to be forgotten first, since reading again does not end a conflict
-abbrev pub forget_lines : Profile → ℕ → List ℕ
-forget_lines rules last =
-    codes "Next       udfsalvage forget --conflicts --out clean.tab ...\n           udfsalvage reread --last " ++ decimal last ++ rules_words rules ++ codes " --mapfile want.map clean.tab\n"
+abbrev pub next_indent : List ℕ
+next_indent = codes "           "
 
--- what to do next, where blocks are worth reading again, of which this many are in conflict
-abbrev pub needed_lines : Profile → ℕ → ℕ → List ℕ
-needed_lines rules last disputed = if disputed == 0 then reread_line rules last else forget_lines rules last
+-- there are nodes, all are whole, and none is a file of a type that is not written
+abbrev pub is_all_whole : Report → Bool
+is_all_whole r = all_whole r.nodes && length (left_out_types r.nodes) == 0
 
--- and where none is: a volume with a fault does not open, whatever is read again
-abbrev pub no_need_line : Answer Found → List ℕ
-no_need_line (found f) = []
-no_need_line (holes blocks) = []
-no_need_line (faulty f) = codes "Next       no block to read again helps: man udfsalvage says what this fault means\n"
+-- the command that writes the files of a volume of which nothing is worth reading again
+abbrev pub extract_lines : GivenWords → Profile → ℕ → Bool → List ℕ
+extract_lines g rules last whole =
+    (if whole then codes "Next       All is whole. Write it out:\n" else codes "Next       No block is worth reading again. Write out what is whole:\n")
+    ++ next_indent ++ extract_command g rules last
+
+-- the summary by the wide rules, of a volume that these read
+unfoldable pub wide_lines : GivenWords → ℕ → Widening → List ℕ
+wide_lines g last other = next_label ++ widening_text other ++ codes "\n           " ++ summary_command g profile.Wide last
+
+-- of a volume with a fault: it does not open by these rules, whatever is read again
+abbrev pub fault_lines : GivenWords → ℕ → Widening → List ℕ
+fault_lines g last wide.No = codes "Next       no block to read again helps:\n           man udfsalvage says what this fault means\n"
+fault_lines g last wide.Wants = wide_lines g last wide.Wants
+fault_lines g last (wide.Reads revision) = wide_lines g last (wide.Reads revision)
+
+-- where no block is worth reading again
+abbrev pub no_need_lines : GivenWords → Profile → Table → ℕ → Report → Answer Found → List ℕ
+no_need_lines g rules table last r (found f) = extract_lines g rules last (is_all_whole r)
+no_need_lines g rules table last r (holes blocks) = []
+no_need_lines g rules table last r (faulty f) = fault_lines g last (widening_by rules (state_of table) last)
+
+-- where so many blocks are known, and blocks are worth reading again
+abbrev pub again_lines : GivenWords → Profile → ℕ → DiscTally → List ℕ
+again_lines g rules last disc = needed_steps next_label next_indent g rules last (pass_number g disc.known) disc.needed_in_conflict
+
+-- where these are
+abbrev pub next_by : GivenWords → Profile → Table → ℕ → Report → List ℕ → List ℕ
+next_by g rules table last r [] = no_need_lines g rules table last r r.volume
+next_by g rules table last r (n ∷ ns) = again_lines g rules last (disc_of table last r.reread)
 
 -- what to do next
-abbrev pub next_line : Answer Found → Profile → ℕ → ℕ → List ℕ → List ℕ
-next_line volume rules last disputed [] = no_need_line volume
-next_line volume rules last disputed (n ∷ ns) = needed_lines rules last disputed
+unfoldable pub next_lines : GivenWords → Profile → Table → ℕ → Report → List ℕ
+next_lines g rules table last r = next_by g rules table last r r.reread
 
--- all lines of a report by the rules of a profile
-unfoldable pub summary_text : Profile → Table → ℕ → Report → List ℕ
-summary_text rules table last r =
-    volume_line r.volume last ++ apart_lines rules (state_of table) last ++ found_lines table r.volume r ++ disc_line (disc_of table last r.reread) ++ torn_lines r.volume r
-    ++ next_line r.volume rules last (disc_of table last r.reread).needed_in_conflict r.reread
+-- all lines of a report by the rules of a profile, of a disc that is read with these arguments
+unfoldable pub summary_text : GivenWords → Profile → Table → ℕ → Report → List ℕ
+summary_text g rules table last r =
+    volume_line r.volume last ++ apart_lines rules (state_of table) last ++ found_lines table r.volume r ++ disc_line (disc_of table last r.reread) ++ unread_text (unread_paths r.nodes)
+    ++ torn_lines r.volume r
+    ++ next_lines g rules table last r

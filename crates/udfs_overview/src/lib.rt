@@ -7,9 +7,12 @@ mod disc_tallies;
 mod figures;
 mod left_out;
 mod moved_tags;
+mod next_commands;
 mod node_columns;
 mod node_list;
+mod repeating;
 mod safe_names;
+mod sentences;
 mod spares;
 mod streams;
 mod summary;
@@ -17,20 +20,32 @@ mod summary_lines;
 mod tallies;
 mod torn_lines;
 mod torn_rows;
+mod unread_lines;
 mod volume_lines;
+mod widenings;
 
 pub use disagreements::{push_anchors_text, push_apart};
 pub use disc_tallies::{DiscTally, UnnamedTally, count_disc, count_unnamed};
 pub use figures::{push_grouped, push_percent, push_size};
 pub use left_out::{left_out_remark, left_out_types, push_left_out};
 pub use moved_tags::{count_moved, push_moved};
+pub use next_commands::{
+    Margins, Pass, cleaned, push_extract, push_inputs_end, push_needed_steps, push_summary_by,
+    table_path,
+};
 pub use node_columns::lost_of;
 pub use node_list::{ListForm, write_list};
+pub use repeating::{
+    Given, pass_number, push_disc_words, push_inputs, push_shell_path, push_shell_word,
+};
 pub use safe_names::{push_safe_name, safe_names_are_safe, safe_names_tell_units};
+pub use sentences::push_sentence;
 pub use spares::{push_spares, spares_disagree};
 pub use streams::{count_streams, push_streams};
-pub use summary::{first_torn_folder, rules_words, write_summary};
+pub use summary::{first_torn_folder, is_all_whole, write_summary};
 pub use summary_lines::{push_disc, push_files, push_others, push_unnamed};
 pub use tallies::{Tally, count_nodes};
 pub use torn_rows::{TornFiles, TornRow, push_shown_path, torn_files, torn_files_are_by_loss};
+pub use unread_lines::{push_unread, unread_in};
 pub use volume_lines::{push_disc_size, push_label, push_revision, push_volume};
+pub use widenings::{Widening, push_widening, widening_by};

@@ -8,7 +8,7 @@ ghost use Rattle.udfs_walk.specs.Targets.{target};
 ghost use Rattle.udfs_salvage.specs.Surveys.{survey_now};
 ghost use Rattle.udfs_overview.specs.MovedTags.{is_folder, is_moved, many_moved_line, moved_count, moved_line, some_moved_line, target_moved};
 
-use crate::summary_lines::push_counted;
+use crate::sentences::push_counted;
 use std::alloc::Global;
 use udfs_file::{Dir, Kind};
 use udfs_osta::OutOfMemory;

@@ -9,7 +9,7 @@ ghost use Rattle.udfs_space.specs.Views.{view_now};
 ghost use Rattle.udfs_salvage.specs.Surveys.{survey_now};
 ghost use Rattle.udfs_overview.specs.Streams.{block_names_streams, entry_has_streams, has_streams, is_read_file, many_streams_line, names_streams, some_streams_line, state_names_streams, stream_count, streams_line};
 
-use crate::summary_lines::push_counted;
+use crate::sentences::push_counted;
 use crate::tallies::NodeSort;
 use byteorder::{ByteOrder, LittleEndian};
 use udfs_file::Kind;

@@ -1,6 +1,6 @@
 //! The summary of a volume: what a person wants to know, on one screen.
 
-ghost use Rattle.std.specs.Prelude.{◌≡◌, ◌++◌, OnOk, option_map, map};
+ghost use Rattle.std.specs.Prelude.{◌≡◌, ◌++◌, IfOk, OnOk, codes, length, option_map, map, if◌then◌else◌};
 ghost use Rattle.std.specs.String.{string_bytes};
 ghost use Rattle.udfs_lattice.specs.Tables.{state_of};
 ghost use Rattle.udfs_space.specs.Views.{view_now};
@@ -8,29 +8,36 @@ ghost use Rattle.udfs_walk.specs.Bare.{full_node};
 ghost use Rattle.udfs_salvage.specs.Found.{volume_now};
 ghost use Rattle.udfs_salvage.specs.Printing.{Prints};
 ghost use Rattle.udfs_salvage.specs.Surveys.{survey_now};
-ghost use Rattle.udfs_overview.specs.Summaries.{folders_line, forget_lines, found_lines, missing_in, names_missing, needed_lines, next_line, no_need_line, nodes_lines, other_folders, reread_line, rules_words, summary_text, torn_folder, torn_lines};
+ghost use Rattle.udfs_overview.specs.DiscTallies.{disc_of};
+ghost use Rattle.udfs_overview.specs.Repeating.{given_now};
+ghost use Rattle.udfs_overview.specs.Sentences.{sentence};
+ghost use Rattle.udfs_overview.specs.Summaries.{again_lines, counts_lines, extract_lines, fault_lines, folders_counts, folders_line, found_lines, is_all_whole, missing_in, missing_line, names_missing, next_lines, no_need_lines, nodes_lines, summary_text, torn_folder, torn_lines, wide_lines};
 ghost use Rattle.udfs_overview.specs.LeftOut.{left_out_line};
 ghost use Rattle.udfs_overview.specs.Spares.{spares_disagree, spares_line};
 ghost use Rattle.udfs_overview.specs.MovedTags.{moved_count, moved_line};
 ghost use Rattle.udfs_overview.specs.Streams.{stream_count, streams_line};
 ghost use Rattle.udfs_overview.specs.SummaryTexts.{files_line, others_line, unnamed_line};
 ghost use Rattle.udfs_overview.specs.Tallies.{tally_of};
+ghost use Rattle.udfs_overview.specs.UnreadLists.{unread_paths, unread_text};
 ghost use Rattle.udfs_overview.specs.TornLists.{by_loss, torn_rows, torn_text};
 
 use crate::disagreements::push_apart;
-use crate::disc_tallies::{UnnamedTally, count_disc, count_unnamed};
-use crate::figures::push_grouped;
+use crate::disc_tallies::{DiscTally, UnnamedTally, count_disc, count_unnamed};
 use crate::left_out::{left_out_types, push_left_out};
 use crate::moved_tags::{count_moved, push_moved};
+use crate::next_commands::{Margins, Pass, push_extract, push_needed_steps, push_summary_by};
+use crate::repeating::{Given, pass_number};
+use crate::sentences::{push_counted, push_part, push_sentence};
 use crate::spares::{push_spares, spares_disagree};
 use crate::streams::{count_streams, push_streams};
-use crate::summary_lines::{push_counted, push_disc, push_files, push_others, push_unnamed};
+use crate::summary_lines::{push_disc, push_files, push_others, push_unnamed};
 use crate::tallies::{NodeSort, Tally, count_nodes, count_of};
-use crate::torn_lines::push_torn;
+use crate::torn_lines::{push_more, push_torn};
 use crate::torn_rows::{SHOWN, push_shown_path, top_rows};
+use crate::unread_lines::{push_unread, unread_in};
 use crate::volume_lines::push_volume;
+use crate::widenings::{Widening, push_widening, widening_by};
 use std::alloc::Global;
-use std::fmt::Write;
 use udfs_osta::OutOfMemory;
 use udfs_reading::Sink;
 use udfs_salvage::{RunError, Survey, Volume, flush};
@@ -60,24 +67,22 @@ pub fn first_torn_folder<'a>(survey: &'a Survey<'_>) -> Option<&'a Path>
     torn_folder(&survey.nodes)
 }
 
-/// How many torn directories there are beside the first.
-fn push_other_folders(text: &mut String, others: usize) -> Result<(), OutOfMemory>
-    ensures { OnOk result (string_bytes text.new ≡ string_bytes text.old ++ other_folders others) }
+/// Where names may be missing.
+#[tactic(auto, unfolding(crate::specs::Summaries::missing_line))]
+fn push_missing_line(text: &mut String, path: &Path) -> Result<(), OutOfMemory>
+    ensures { OnOk result (string_bytes text.new ≡ string_bytes text.old ++ missing_line path.now) }
 {
-    if others == 0 {
-        return Ok(());
-    }
-    text.push_str(" and ")?;
-    push_counted(text, others as u64, " more")
+    text.push_str("           names may be missing in ")?;
+    push_shown_path(text, path)?;
+    text.push_str("\n")
 }
 
-/// Where names may be missing: the first torn directory, and how many more.
+/// The first torn directory, and how many more.
 fn push_missing_in(text: &mut String, torn: usize, path: &Path) -> Result<(), OutOfMemory>
     ensures { OnOk result (string_bytes text.new ≡ string_bytes text.old ++ missing_in torn path.now) }
 {
-    text.push_str(": names may be missing in ")?;
-    push_shown_path(text, path)?;
-    push_other_folders(text, torn.saturating_sub(1))
+    push_missing_line(text, path)?;
+    push_more(text, torn.saturating_sub(1))
 }
 
 /// Where names may be missing, if anywhere.
@@ -94,7 +99,18 @@ fn push_names_missing(
     }
 }
 
-/// The line of the folders, if there are any.
+/// How many folders are whole, and how many torn.
+#[tactic(auto, unfolding(crate::specs::Summaries::folders_counts))]
+fn push_folders_counts(text: &mut String, tally: &Tally) -> Result<(), OutOfMemory>
+    ensures { OnOk result (string_bytes text.new ≡ string_bytes text.old ++ folders_counts tally.now) }
+{
+    text.push_str("Folders    ")?;
+    push_counted(text, tally.whole_folders as u64, " whole")?;
+    push_part(text, "   ", tally.torn_folders as u64, " torn")?;
+    text.push_str("\n")
+}
+
+/// The lines of the folders, if there are any.
 #[tactic(auto, unfolding(crate::specs::Summaries::folders_line))]
 fn push_folders(text: &mut String, tally: &Tally, path: Option<&Path>) -> Result<(), OutOfMemory>
     ensures { OnOk result (string_bytes text.new ≡ string_bytes text.old ++ folders_line tally.now (option_map (λ path. path.now) path.entry)) }
@@ -102,11 +118,8 @@ fn push_folders(text: &mut String, tally: &Tally, path: Option<&Path>) -> Result
     if tally.whole_folders == 0 && tally.torn_folders == 0 {
         return Ok(());
     }
-    text.push_str("Folders    ")?;
-    push_counted(text, tally.whole_folders as u64, " whole   ")?;
-    push_counted(text, tally.torn_folders as u64, " torn")?;
-    push_names_missing(text, tally.torn_folders, path)?;
-    text.push_str("\n")
+    push_folders_counts(text, tally)?;
+    push_names_missing(text, tally.torn_folders, path)
 }
 
 /// The lines of what is found of a volume that opens.
@@ -128,22 +141,49 @@ fn push_nodes(
     push_unnamed(text, unnamed)
 }
 
-/// The lines of what is found of a volume, where it opens.
-#[tactic(auto, using(crate::proofs::FullFolders::folder_full), unfolding(crate::specs::Summaries::nodes_lines))]
-fn push_found(alloc: Global, text: &mut String, survey: &Survey<'_>) -> Result<(), OutOfMemory>
-    ensures { OnOk result (string_bytes text.new ≡ string_bytes text.old ++ nodes_lines (survey_now survey.now)) }
+/// The lines of what is counted of a volume, where it opens.
+#[tactic(auto, using(crate::proofs::FullFolders::folder_full), unfolding(crate::specs::Summaries::counts_lines))]
+fn push_counts(
+    alloc: Global,
+    text: &mut String,
+    survey: &Survey<'_>,
+    tally: &Tally,
+) -> Result<(), OutOfMemory>
+    requires { tally.now ≡ tally_of (survey_now survey.now).nodes }
+    ensures { OnOk result (string_bytes text.new ≡ string_bytes text.old ++ counts_lines (survey_now survey.now)) }
 {
-    let tally = count_nodes(alloc, survey)?;
     let types = left_out_types(alloc, survey)?;
     let unnamed = count_unnamed(survey);
     push_nodes(
         alloc,
         text,
-        &tally,
+        tally,
         torn_folder(&survey.nodes),
         &types,
         &unnamed,
     )
+}
+
+/// The sentence of the nodes of a survey.
+fn push_nodes_sentence(
+    text: &mut String,
+    survey: &Survey<'_>,
+    tally: &Tally,
+) -> Result<(), OutOfMemory>
+    requires { tally.now ≡ tally_of (survey_now survey.now).nodes }
+    ensures { OnOk result (string_bytes text.new ≡ string_bytes text.old ++ sentence (tally_of (survey_now survey.now).nodes) (length (survey_now survey.now).reread)) }
+{
+    push_sentence(text, tally, survey.reread.len() as u64)
+}
+
+/// The lines of what is found of a volume, where it opens.
+#[tactic(auto, unfolding(crate::specs::Summaries::nodes_lines))]
+fn push_found(alloc: Global, text: &mut String, survey: &Survey<'_>) -> Result<(), OutOfMemory>
+    ensures { OnOk result (string_bytes text.new ≡ string_bytes text.old ++ nodes_lines (survey_now survey.now)) }
+{
+    let tally = count_nodes(alloc, survey)?;
+    push_nodes_sentence(text, survey, &tally)?;
+    push_counts(alloc, text, survey, &tally)
 }
 
 /// These lines, that of the files with named streams, that of the folders with tags of another place, and that of sparing copies which
@@ -207,93 +247,175 @@ fn push_torn_if_open(
     }
 }
 
-/// The rules of a profile as arguments of a command, with a space before them: empty for the strict rules.
-pub fn rules_words(profile: Profile) -> &'static str
-    ensures { result.now ≡ rules_words profile }
+/// The lines of the entries that were not read.
+fn push_all_unread(alloc: Global, text: &mut String, survey: &Survey<'_>) -> Result<(), OutOfMemory>
+    ensures { OnOk result (string_bytes text.new ≡ string_bytes text.old ++ unread_text (unread_paths (survey_now survey.now).nodes)) }
 {
-    match profile {
-        Profile::Strict => "",
-        Profile::Wide => " --profile wide",
+    let paths = unread_in(alloc, survey)?;
+    push_unread(text, &paths)
+}
+
+/// What stands before what to do next.
+const MARGINS: Margins<'static> = Margins {
+    first: "Next       ",
+    other: "           ",
+};
+
+/// That all is whole, or that nothing is worth reading again.
+fn extract_words(whole: bool) -> &'static str
+    ensures { result.now ≡ (if whole then codes "Next       All is whole. Write it out:\n" else codes "Next       No block is worth reading again. Write out what is whole:\n") }
+{
+    if whole {
+        "Next       All is whole. Write it out:\n"
+    } else {
+        "Next       No block is worth reading again. Write out what is whole:\n"
     }
 }
 
-/// The command that lists the blocks to read again.
-fn push_reread(text: &mut String, profile: Profile, last: u32) -> Result<(), OutOfMemory>
-    ensures { OnOk result (string_bytes text.new ≡ string_bytes text.old ++ reread_line profile last) }
+/// Whether there are nodes, all are whole, and none is a file of a type that is not written.
+///
+/// # Errors
+///
+/// If memory runs out.
+pub fn is_all_whole(alloc: Global, survey: &Survey<'_>) -> Result<bool, OutOfMemory>
+    ensures { IfOk result (λ whole. whole ≡ is_all_whole (survey_now survey.now)) }
 {
-    let rules = rules_words(profile);
-    write!(
-        text,
-        "Next       udfsalvage reread --last {last}{rules} --mapfile want.map ...\n"
-    )
+    let types = left_out_types(alloc, survey)?;
+    Ok(survey.all_whole() && types.len() == 0)
 }
 
-/// The same, where blocks in conflict have to be forgotten first.
-fn push_forget(text: &mut String, profile: Profile, last: u32) -> Result<(), OutOfMemory>
-    ensures { OnOk result (string_bytes text.new ≡ string_bytes text.old ++ forget_lines profile last) }
-{
-    let rules = rules_words(profile);
-    write!(
-        text,
-        "Next       udfsalvage forget --conflicts --out clean.tab ...\n           udfsalvage reread --last {last}{rules} --mapfile want.map clean.tab\n"
-    )
-}
-
-/// What to do next, where blocks are worth reading again, of which `disputed` are in conflict.
-fn push_needed_lines(
+/// The command that writes the files of a volume of which nothing is worth reading again.
+fn push_extract_lines(
     text: &mut String,
+    given: &Given<'_>,
     profile: Profile,
     last: u32,
-    disputed: usize,
+    whole: bool,
 ) -> Result<(), OutOfMemory>
-    ensures { OnOk result (string_bytes text.new ≡ string_bytes text.old ++ needed_lines profile last disputed) }
+    ensures { OnOk result (string_bytes text.new ≡ string_bytes text.old ++ extract_lines (given_now given.now) profile last whole) }
 {
-    if disputed == 0 {
-        push_reread(text, profile, last)
-    } else {
-        push_forget(text, profile, last)
+    text.push_str(extract_words(whole))?;
+    text.push_str("           ")?;
+    push_extract(text, given, profile, last)
+}
+
+/// The summary by the wide rules, of a volume that these read.
+#[tactic(auto, unfolding(crate::specs::Summaries::wide_lines))]
+fn push_wide_lines(
+    text: &mut String,
+    given: &Given<'_>,
+    last: u32,
+    widening: Widening,
+) -> Result<(), OutOfMemory>
+    ensures { OnOk result (string_bytes text.new ≡ string_bytes text.old ++ wide_lines (given_now given.now) last widening) }
+{
+    text.push_str("Next       ")?;
+    push_widening(text, widening)?;
+    text.push_str("\n           ")?;
+    push_summary_by(text, given, Profile::Wide, last)
+}
+
+/// What is said of a volume with a fault.
+fn push_fault_lines(
+    text: &mut String,
+    given: &Given<'_>,
+    last: u32,
+    widening: Widening,
+) -> Result<(), OutOfMemory>
+    ensures { OnOk result (string_bytes text.new ≡ string_bytes text.old ++ fault_lines (given_now given.now) last widening) }
+{
+    match widening {
+        Widening::No => text.push_str(
+            "Next       no block to read again helps:\n           man udfsalvage says what this fault means\n",
+        ),
+        Widening::Wants | Widening::Reads(_) => push_wide_lines(text, given, last, widening),
     }
 }
 
-/// That no block is worth reading again, where the volume has a fault.
-fn push_no_need(text: &mut String, volume: &Volume) -> Result<(), OutOfMemory>
-    ensures { OnOk result (string_bytes text.new ≡ string_bytes text.old ++ no_need_line (volume_now volume.now)) }
+/// What to do next, where no block is worth reading again.
+fn push_no_need(
+    alloc: Global,
+    text: &mut String,
+    given: &Given<'_>,
+    survey: &Survey<'_>,
+) -> Result<(), OutOfMemory>
+    ensures { OnOk result (string_bytes text.new ≡ string_bytes text.old
+        ++ no_need_lines (given_now given.now) survey.now.profile survey.now.table.now survey.now.last (survey_now survey.now) (volume_now survey.now.volume)) }
 {
-    match volume {
-        Volume::Open(_) | Volume::Holes(_) => Ok(()),
-        Volume::Fault(_) => text.push_str(
-            "Next       no block to read again helps: man udfsalvage says what this fault means\n",
-        ),
+    match &survey.volume {
+        Volume::Open(_) => {
+            let whole = is_all_whole(alloc, survey)?;
+            push_extract_lines(text, given, survey.profile, survey.last, whole)
+        }
+        Volume::Holes(_) => Ok(()),
+        Volume::Fault(_) => {
+            let found = widening_by(alloc, survey.table, survey.last, survey.profile)?;
+            push_fault_lines(text, given, survey.last, found)
+        }
     }
+}
+
+/// What to do next, where blocks are worth reading again.
+fn push_again(
+    alloc: Global,
+    text: &mut String,
+    given: &Given<'_>,
+    survey: &Survey<'_>,
+    disc: &DiscTally,
+) -> Result<(), OutOfMemory>
+    ensures { OnOk result (string_bytes text.new ≡ string_bytes text.old
+        ++ again_lines (given_now given.now) survey.now.profile survey.now.last disc.now) }
+{
+    let pass = Pass {
+        profile: survey.profile,
+        last: survey.last,
+        number: pass_number(alloc, given, disc.known)?,
+    };
+    push_needed_steps(text, MARGINS, given, pass, disc.needed_in_conflict)
 }
 
 /// What to do next.
-fn push_next(text: &mut String, survey: &Survey<'_>, disputed: usize) -> Result<(), OutOfMemory>
-    ensures { OnOk result (string_bytes text.new ≡ string_bytes text.old ++ next_line (volume_now survey.now.volume) survey.now.profile survey.now.last disputed survey.now.reread.items) }
+#[tactic(auto, unfolding(crate::specs::Summaries::next_lines))]
+fn push_next(
+    alloc: Global,
+    text: &mut String,
+    given: &Given<'_>,
+    survey: &Survey<'_>,
+    disc: &DiscTally,
+) -> Result<(), OutOfMemory>
+    requires { disc.now ≡ disc_of survey.now.table.now survey.now.last survey.now.reread.items }
+    ensures { OnOk result (string_bytes text.new ≡ string_bytes text.old ++ next_lines (given_now given.now) survey.now.profile survey.now.table.now survey.now.last (survey_now survey.now)) }
 {
     match survey.reread.as_slice() {
-        [] => push_no_need(text, &survey.volume),
-        _ => push_needed_lines(text, survey.profile, survey.last, disputed),
+        [] => push_no_need(alloc, text, given, survey),
+        _ => push_again(alloc, text, given, survey, disc),
     }
 }
 
 /// All lines.
 #[tactic(auto, unfolding(crate::specs::Summaries::summary_text))]
-fn push_summary(alloc: Global, text: &mut String, survey: &Survey<'_>) -> Result<(), OutOfMemory>
-    ensures { OnOk result (string_bytes text.new ≡ string_bytes text.old ++ summary_text survey.now.profile survey.now.table.now survey.now.last (survey_now survey.now)) }
+fn push_summary(
+    alloc: Global,
+    text: &mut String,
+    given: &Given<'_>,
+    survey: &Survey<'_>,
+) -> Result<(), OutOfMemory>
+    ensures { OnOk result (string_bytes text.new ≡ string_bytes text.old ++ summary_text (given_now given.now) survey.now.profile survey.now.table.now survey.now.last (survey_now survey.now)) }
 {
     push_volume(text, &survey.volume, survey.last)?;
     push_apart(alloc, text, survey)?;
     push_found_if_open(alloc, text, survey)?;
     let disc = count_disc(survey);
     push_disc(text, &disc)?;
+    push_all_unread(alloc, text, survey)?;
     push_torn_if_open(alloc, text, survey)?;
-    push_next(text, survey, disc.needed_in_conflict)
+    push_next(alloc, text, given, survey, &disc)
 }
 
-/// Writes the summary of the report that a survey represents: what the volume is, whether known anchors or known copies of its descriptors differ, how many files and folders are whole, torn, links, of a type
+/// Writes the summary of the report that a survey represents, of a disc that is read with these arguments: what the volume is, whether known anchors or
+/// known copies of its descriptors differ, how many files are complete, damaged or could not be looked at, how many files and folders are whole, torn, links, of a type
 /// that is not written or without a name, how many files have named streams, whether sparing copies disagree, the blocks of the disc, the torn files of which most is lost, and what
-/// to read again. A volume that does not open has a line that says why, that of the blocks, and what to read again. The blocks and holes of one
+/// to do next, as commands. A volume that does not open has a line that says why, that of the blocks, and what to do next. The blocks and holes of one
 /// node are held at a time.
 ///
 /// # Errors
@@ -301,13 +423,14 @@ fn push_summary(alloc: Global, text: &mut String, survey: &Survey<'_>) -> Result
 /// `Write` if and only if the sink failed, `OutOfMemory` if memory ran out. In both cases a prefix of the lines, possibly empty, was written.
 pub fn write_summary<W: Sink>(
     alloc: Global,
+    given: &Given<'_>,
     survey: &Survey<'_>,
     sink: &mut W,
 ) -> Result<(), RunError>
     ensures { Prints (W.stream sink.old) (W.stream sink.new)
-        (summary_text survey.now.profile survey.now.table.now survey.now.last (survey_now survey.now)) result }
+        (summary_text (given_now given.now) survey.now.profile survey.now.table.now survey.now.last (survey_now survey.now)) result }
 {
     let mut text = String::new(alloc);
-    push_summary(alloc, &mut text, survey)?;
+    push_summary(alloc, &mut text, given, survey)?;
     flush(&mut text, sink)
 }

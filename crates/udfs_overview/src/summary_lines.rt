@@ -1,21 +1,15 @@
 //! Lines of the summary. Each function appends to a text; if memory runs out, a part may be appended.
 
-ghost use Rattle.std.specs.Prelude.{◌≡◌, ◌++◌, ℕ, OnOk};
+ghost use Rattle.std.specs.Prelude.{◌≡◌, ◌++◌, [], OnOk, codes};
 ghost use Rattle.std.specs.String.{string_bytes};
-ghost use Rattle.udfs_overview.specs.SummaryTexts.{counted, disc_line, disputed_text, files_line, needed_text, others_line, torn_files_text, unknown_text, unnamed_line, whole_files_text};
+ghost use Rattle.udfs_overview.specs.Sentences.{at_least, by_number, counted, part};
+ghost use Rattle.udfs_overview.specs.SummaryTexts.{disc_line, files_line, known_text, lost_files_text, needed_text, others_line, torn_files_text, unnamed_line, whole_files_text};
 
 use crate::disc_tallies::{DiscTally, UnnamedTally};
-use crate::figures::{push_grouped, push_size};
+use crate::figures::push_size;
+use crate::sentences::{at_least, by_number, push_counted, push_part};
 use crate::tallies::Tally;
 use udfs_osta::OutOfMemory;
-
-/// A number, and what is counted.
-pub(crate) fn push_counted(text: &mut String, number: u64, words: &str) -> Result<(), OutOfMemory>
-    ensures { OnOk result (string_bytes text.new ≡ string_bytes text.old ++ counted number words.now) }
-{
-    push_grouped(u128::from(number), text)?;
-    text.push_str(words)
-}
 
 /// How many files are whole, and their bytes.
 fn push_whole_files(text: &mut String, tally: &Tally) -> Result<(), OutOfMemory>
@@ -23,21 +17,48 @@ fn push_whole_files(text: &mut String, tally: &Tally) -> Result<(), OutOfMemory>
 {
     push_counted(text, tally.whole_files as u64, " whole (")?;
     push_size(tally.whole_bytes, text)?;
-    text.push_str(")")
+    text.push_str(")\n")
 }
 
 /// How many files are torn, and how many of their bytes are lost.
-fn push_torn_files(text: &mut String, tally: &Tally) -> Result<(), OutOfMemory>
-    ensures { OnOk result (string_bytes text.new ≡ string_bytes text.old ++ torn_files_text tally.now) }
+#[tactic(auto, unfolding(crate::specs::SummaryTexts::lost_files_text))]
+fn push_lost_files(text: &mut String, tally: &Tally) -> Result<(), OutOfMemory>
+    ensures { OnOk result (string_bytes text.new ≡ string_bytes text.old ++ lost_files_text tally.now) }
 {
     push_counted(text, tally.torn_files as u64, " torn (")?;
+    text.push_str(at_least(tally))?;
     push_size(tally.lost_bytes, text)?;
     text.push_str(" of ")?;
     push_size(tally.torn_bytes, text)?;
-    text.push_str(" lost)")
+    text.push_str(" lost)\n")
 }
 
-/// Appends the line of the files.
+/// The same, if there are any.
+#[tactic(auto, unfolding(crate::specs::SummaryTexts::torn_files_text))]
+fn push_torn_files(text: &mut String, tally: &Tally) -> Result<(), OutOfMemory>
+    ensures { OnOk result (string_bytes text.new ≡ string_bytes text.old ++ torn_files_text tally.now) }
+{
+    if tally.torn_files == 0 {
+        return Ok(());
+    }
+    text.push_str("           ")?;
+    push_lost_files(text, tally)
+}
+
+/// How many entries are not yet known, if any are.
+fn push_unread(text: &mut String, unread: u64) -> Result<(), OutOfMemory>
+    ensures { OnOk result (string_bytes text.new ≡ string_bytes text.old
+        ++ part (codes "           ") unread (by_number unread (codes " not yet known: a file or a whole folder\n") (codes " not yet known: files or whole folders\n"))) }
+{
+    let words = by_number(
+        unread,
+        " not yet known: a file or a whole folder\n",
+        " not yet known: files or whole folders\n",
+    );
+    push_part(text, "           ", unread, words)
+}
+
+/// Appends the lines of the files.
 ///
 /// # Errors
 ///
@@ -48,13 +69,33 @@ pub fn push_files(text: &mut String, tally: &Tally) -> Result<(), OutOfMemory>
 {
     text.push_str("Files      ")?;
     push_whole_files(text, tally)?;
-    text.push_str("   ")?;
     push_torn_files(text, tally)?;
-    text.push_str("   ")?;
-    push_counted(text, tally.unread as u64, " not yet known\n")
+    push_unread(text, tally.unread as u64)
 }
 
-/// Appends the line of links and devices, of faults and of loops, if there are any.
+/// The line of links and devices, if there are any.
+fn push_links(text: &mut String, others: u64) -> Result<(), OutOfMemory>
+    ensures { OnOk result (string_bytes text.new ≡ string_bytes text.old
+        ++ part (codes "Other      ") others (by_number others (codes " link or device\n") (codes " links and devices\n"))) }
+{
+    let words = by_number(others, " link or device\n", " links and devices\n");
+    push_part(text, "Other      ", others, words)
+}
+
+/// The line of loops, if there are any.
+fn push_loops(text: &mut String, loops: u64) -> Result<(), OutOfMemory>
+    ensures { OnOk result (string_bytes text.new ≡ string_bytes text.old
+        ++ part (codes "Loops      ") loops (by_number loops (codes " folder that is inside itself\n") (codes " folders that are inside themselves\n"))) }
+{
+    let words = by_number(
+        loops,
+        " folder that is inside itself\n",
+        " folders that are inside themselves\n",
+    );
+    push_part(text, "Loops      ", loops, words)
+}
+
+/// Appends the lines of links and devices, of faults and of loops, if there are any.
 ///
 /// # Errors
 ///
@@ -63,13 +104,9 @@ pub fn push_files(text: &mut String, tally: &Tally) -> Result<(), OutOfMemory>
 pub fn push_others(text: &mut String, tally: &Tally) -> Result<(), OutOfMemory>
     ensures { OnOk result (string_bytes text.new ≡ string_bytes text.old ++ others_line tally.now) }
 {
-    if tally.others == 0 && tally.faulty == 0 && tally.loops == 0 {
-        return Ok(());
-    }
-    text.push_str("Other      ")?;
-    push_counted(text, tally.others as u64, " links and devices   ")?;
-    push_counted(text, tally.faulty as u64, " with faults   ")?;
-    push_counted(text, tally.loops as u64, " loops\n")
+    push_links(text, tally.others as u64)?;
+    push_part(text, "Faults     ", tally.faulty as u64, " with faults\n")?;
+    push_loops(text, tally.loops as u64)
 }
 
 /// Appends the line of whole files that no name leads to, if there are any.
@@ -86,41 +123,50 @@ pub fn push_unnamed(text: &mut String, tally: &UnnamedTally) -> Result<(), OutOf
     }
     text.push_str("No name    ")?;
     push_counted(text, tally.with_data as u64, " whole files with data, ")?;
-    push_counted(text, tally.empty as u64, " empty\n")
+    push_counted(text, tally.empty as u64, " empty: extract --unnamed lost\n")
 }
 
-/// How many blocks are not known, how many of them are worth reading again, and how many are in conflict.
+/// How many blocks are worth reading again, if any are.
+fn push_worth(text: &mut String, needed: u64) -> Result<(), OutOfMemory>
+    ensures { OnOk result (string_bytes text.new ≡ string_bytes text.old
+        ++ part (codes "           ") needed (by_number needed (codes " of these is needed, in ") (codes " of these are needed, in "))) }
+{
+    let words = by_number(
+        needed,
+        " of these is needed, in ",
+        " of these are needed, in ",
+    );
+    push_part(text, "           ", needed, words)
+}
+
+/// In how many places these are.
+fn push_places(text: &mut String, runs: u64) -> Result<(), OutOfMemory>
+    ensures { OnOk result (string_bytes text.new ≡ string_bytes text.old ++ part [] runs (by_number runs (codes " place\n") (codes " places\n"))) }
+{
+    let words = by_number(runs, " place\n", " places\n");
+    push_part(text, "", runs, words)
+}
+
+/// How many blocks are worth reading again, and in how many places.
+#[tactic(auto, unfolding(crate::specs::SummaryTexts::needed_text))]
 fn push_needed(text: &mut String, tally: &DiscTally) -> Result<(), OutOfMemory>
     ensures { OnOk result (string_bytes text.new ≡ string_bytes text.old ++ needed_text tally.now) }
 {
-    push_counted(text, tally.not_known, " not known, of which ")?;
-    push_counted(text, tally.needed as u64, " are needed (")?;
-    push_counted(text, tally.runs as u64, " runs)   ")?;
+    push_worth(text, tally.needed as u64)?;
+    push_places(text, tally.runs as u64)
+}
+
+/// How many blocks are known, not known and in conflict.
+#[tactic(auto, unfolding(crate::specs::SummaryTexts::known_text))]
+fn push_known(text: &mut String, tally: &DiscTally) -> Result<(), OutOfMemory>
+    ensures { OnOk result (string_bytes text.new ≡ string_bytes text.old ++ known_text tally.now) }
+{
+    push_counted(text, tally.known as u64, " known   ")?;
+    push_counted(text, tally.not_known, " not known   ")?;
     push_counted(text, tally.conflicts as u64, " in conflict\n")
 }
 
-/// The same where blocks in conflict are among those that are worth reading again.
-fn push_disputed(text: &mut String, tally: &DiscTally) -> Result<(), OutOfMemory>
-    ensures { OnOk result (string_bytes text.new ≡ string_bytes text.old ++ disputed_text tally.now) }
-{
-    push_counted(text, tally.not_known, " not known   ")?;
-    push_counted(text, tally.conflicts as u64, " in conflict   ")?;
-    push_counted(text, tally.needed as u64, " of these are needed (")?;
-    push_counted(text, tally.runs as u64, " runs)\n")
-}
-
-/// What is said of the blocks that are not known.
-fn push_unknown(text: &mut String, tally: &DiscTally) -> Result<(), OutOfMemory>
-    ensures { OnOk result (string_bytes text.new ≡ string_bytes text.old ++ unknown_text tally.now) }
-{
-    if tally.needed_in_conflict == 0 {
-        push_needed(text, tally)
-    } else {
-        push_disputed(text, tally)
-    }
-}
-
-/// Appends the line of the blocks.
+/// Appends the lines of the blocks.
 ///
 /// # Errors
 ///
@@ -130,6 +176,6 @@ pub fn push_disc(text: &mut String, tally: &DiscTally) -> Result<(), OutOfMemory
     ensures { OnOk result (string_bytes text.new ≡ string_bytes text.old ++ disc_line tally.now) }
 {
     text.push_str("Disc       ")?;
-    push_counted(text, tally.known as u64, " known   ")?;
-    push_unknown(text, tally)
+    push_known(text, tally)?;
+    push_needed(text, tally)
 }

@@ -194,7 +194,7 @@ fn push_rows(alloc: Global, text: &mut String, rows: &[TornRow]) -> Result<(), O
 }
 
 /// How many torn files are not shown.
-fn push_more(text: &mut String, more: usize) -> Result<(), OutOfMemory>
+pub(crate) fn push_more(text: &mut String, more: usize) -> Result<(), OutOfMemory>
     ensures { OnOk result (string_bytes text.new ≡ string_bytes text.old ++ more_line more) }
 {
     if more == 0 {

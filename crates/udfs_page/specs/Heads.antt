@@ -1,7 +1,8 @@
 -- The head of the page: the mark by which it is recognized, its title and its style. There is no script, and nothing is loaded from elsewhere.
 --     page_mark          the first bytes of every page
---     head_text title    the head of a page with this title, and its heading
-use Rattle.std.specs.Prelude.{ℕ, List, ◌++◌, codes}
+--     head_text title subject    the head of a page that is called so and is of this, and its heading
+use Rattle.std.specs.Prelude.{ℕ, List, [], ◌++◌, Option, Some, None, codes}
+use Rattle.udfs_page.specs.Escapes.{html_text}
 use Rattle.udfs_page.specs.Markups.{markup}
 
 -- a page is recognized by these first bytes
@@ -51,7 +52,16 @@ behind_title = codes "</title>\n<style>\n"
 
 -- what ends the style and the head, and begins the body with its heading
 abbrev pub behind_style : List ℕ
-behind_style = codes "</style>\n</head>\n<body>\n<h1>What can be salvaged</h1>\n"
+behind_style = codes "</style>\n</head>\n<body>\n<h1>"
+
+-- what the page is called, before what it is of
+abbrev pub titled_html : Option (List ℕ) → List ℕ
+titled_html None = []
+titled_html (Some title) = html_text title ++ markup (codes ": ")
+
+-- the heading
+unfoldable pub heading_html : Option (List ℕ) → List ℕ
+heading_html title = titled_html title ++ markup (codes "What can be salvaged</h1>\n")
 
 -- all that precedes the title: the first bytes of every page, and what begins the head
 abbrev pub head_front : List ℕ
@@ -62,5 +72,5 @@ abbrev pub head_back : List ℕ
 head_back = markup behind_title ++ (style_base ++ style_text ++ style_picture ++ style_tree) ++ markup behind_style
 
 -- the head of a page
-abbrev pub head_text : List ℕ → List ℕ
-head_text title = head_front ++ title ++ head_back
+unfoldable pub head_text : Option (List ℕ) → List ℕ → List ℕ
+head_text title subject = head_front ++ titled_html title ++ subject ++ head_back ++ heading_html title

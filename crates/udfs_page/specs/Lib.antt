@@ -5,6 +5,7 @@ pub mod Heads
 pub mod Spirals
 pub mod Holes
 pub mod Pictures
+pub mod Naming
 pub mod NextSteps
 pub mod Overviews
 pub mod TornTables

@@ -1,61 +1,99 @@
--- What to do next.
---     next_html volume rules last disputed reread     of a disc with this last block, and these blocks to read again, of which `disputed` are in conflict
-use Rattle.std.specs.Prelude.{ℕ, ◌==◌, List, [], ◌∷◌, ◌++◌, codes, if◌then◌else◌}
+-- What to do next, as commands with the arguments that were given.
+--     Called                              how the page is called, and where it is written
+--     page_command words called rules last   the command that makes such a page
+--     next_html words called rules table last report     what to do next
+use Rattle.std.specs.Prelude.{ℕ, ◌==◌, Bool, List, [], ◌∷◌, ◌++◌, Option, Some, None, codes, if◌then◌else◌}
+use Rattle.udfs_lattice.specs.Tables.{Table, state_of}
 use Rattle.udfs_volume.specs.Answers.{Answer, found, holes, faulty}
 use Rattle.udfs_volume.specs.declared.profiles.Profile.{Profile}
+use Rattle.udfs_volume.specs.declared.profiles.Profile.TheVariants as profile
 use Rattle.udfs_salvage.specs.Found.{Found}
-use Rattle.udfs_overview.specs.Summaries.{rules_words}
-use Rattle.udfs_page.specs.Markups.{figure, markup}
+use Rattle.udfs_salvage.specs.Reports.{Report}
+use Rattle.udfs_overview.specs.DiscTallies.{disc_of}
+use Rattle.udfs_overview.specs.NextCommands.{cleaned, extract_command, inputs_end, joined, needed_steps}
+use Rattle.udfs_overview.specs.Repeating.{GivenWords, disc_words, pass_number, shell_path, shell_word}
+use Rattle.udfs_overview.specs.Summaries.{is_all_whole}
+use Rattle.udfs_overview.specs.Widenings.{widening_by, widening_text}
+use Rattle.udfs_overview.specs.declared.widenings.Widening.{Widening}
+use Rattle.udfs_overview.specs.declared.widenings.Widening.TheVariants as wide
+use Rattle.udfs_page.specs.Escapes.{html_text}
+use Rattle.udfs_page.specs.Markups.{markup}
+use Rattle.udfs_page.specs.Naming.{CalledWords}
 
--- a last block and rules, as arguments of a command
-abbrev pub end_words : Profile → ℕ → List ℕ
-end_words rules last = figure last ++ markup (rules_words rules)
+-- the title as an argument, if there is one
+unfoldable pub title_words : Option (List ℕ) → List ℕ
+title_words None = []
+title_words (Some title) = markup (codes " --title ") ++ shell_word title
 
--- the commands that read the needed blocks again
-abbrev pub reread_steps : Profile → ℕ → List ℕ
-reread_steps rules last =
-    markup (codes "<p>Blocks are needed that are not known. Read just these again, with this drive or another, where <code>...</code> stands for the readings that this page is made from:</p>\n<pre>udfsalvage reread --last ")
-    ++ end_words rules last
-    ++ markup (codes " --mapfile want.map ...\nddrescue -b2048 -m want.map /dev/sr0 next.img next.map</pre>\n<p>Then make the page anew, with the new reading beside the old ones:</p>\n<pre>udfsalvage page --last ")
-    ++ end_words rules last
-    ++ markup (codes " --out page.html ... --ddrescue next.img next.map</pre>\n")
+-- the command that makes such a page: how the disc is read, and how the page is called
+unfoldable pub page_front : GivenWords → CalledWords → Profile → ℕ → List ℕ
+page_front g called rules last = markup (codes "udfsalvage page") ++ disc_words g rules last ++ title_words called.title
 
--- the same where blocks in conflict are among them: these are to be forgotten first, since reading again does not end a conflict
-abbrev pub forget_steps : Profile → ℕ → List ℕ
-forget_steps rules last =
-    markup (codes "<p>Blocks in conflict are needed: of each, two readings differ. Forget them first, where <code>...</code> stands for the readings that this page is made from, and then read what is needed again, with this drive or another:</p>\n<pre>udfsalvage forget --conflicts --out clean.tab ...\nudfsalvage reread --last ")
-    ++ end_words rules last
-    ++ markup (codes " --mapfile want.map clean.tab\nddrescue -b2048 -m want.map /dev/sr0 next.img next.map</pre>\n<p>Then make the page anew, with the new reading and none of the old ones:</p>\n<pre>udfsalvage page --last ")
-    ++ end_words rules last
-    ++ markup (codes " --out page.html clean.tab --ddrescue next.img next.map</pre>\n")
+-- where it is written, and the inputs
+unfoldable pub page_end : GivenWords → CalledWords → List ℕ
+page_end g called = markup (codes " --out ") ++ shell_path called.out ++ inputs_end g
 
--- what to read again, of which `disputed` blocks are in conflict
-abbrev pub needed_steps : Profile → ℕ → ℕ → List ℕ
-needed_steps rules last disputed = if disputed == 0 then reread_steps rules last else forget_steps rules last
+-- both
+unfoldable pub page_command : GivenWords → CalledWords → Profile → ℕ → List ℕ
+page_command g called rules last = page_front g called rules last ++ page_end g called
+
+-- commands, in a box
+unfoldable pub commands_html : List ℕ → List ℕ
+commands_html commands = markup (codes "<pre>") ++ html_text commands ++ markup (codes "</pre>\n")
+
+-- what is said of blocks that are needed, of which so many are in conflict
+abbrev pub needed_words : ℕ → List ℕ
+needed_words disputed =
+    if disputed == 0 then codes "<p>Blocks are needed that are not known. Read just these again, with this drive or another, and join the pass with what was read:</p>\n"
+    else codes "<p>Blocks in conflict are needed: of each, two readings differ. Forget them first, then read what is needed again, with this drive or another, and join the pass with the rest:</p>\n"
+
+-- the arguments where the table with the new pass is
+abbrev pub renewed : GivenWords → ℕ → GivenWords
+renewed g disputed = if disputed == 0 then joined g else joined (cleaned g)
+
+-- what to read again, of which `disputed` blocks are in conflict, and the page of the table with the new pass
+unfoldable pub needed_html : GivenWords → CalledWords → Profile → ℕ → ℕ → ℕ → List ℕ
+needed_html g called rules last n disputed =
+    markup (needed_words disputed) ++ commands_html (needed_steps [] [] g rules last n disputed)
+    ++ markup (codes "<p>Then make the page anew, and do what it says:</p>\n") ++ commands_html (page_command (renewed g disputed) called rules last)
+
+-- the page by the wide rules, of a volume that these read
+unfoldable pub wide_html : GivenWords → CalledWords → ℕ → Widening → List ℕ
+wide_html g called last other =
+    markup (codes "<p>") ++ html_text (widening_text other) ++ markup (codes ".</p>\n") ++ commands_html (page_command g called profile.Wide last)
+
+-- of a volume with a fault
+abbrev pub fault_html : GivenWords → CalledWords → ℕ → Widening → List ℕ
+fault_html g called last wide.No = markup (codes "<p>The volume does not open, and no block to read again helps: the manual of udfsalvage says what this fault means.</p>\n")
+fault_html g called last wide.Wants = wide_html g called last wide.Wants
+fault_html g called last (wide.Reads revision) = wide_html g called last (wide.Reads revision)
+
+-- that all is whole, or that no block is worth reading again
+abbrev pub whole_words : Bool → List ℕ
+whole_words whole = if whole then codes "<p>All is whole.</p>\n" else codes "<p>No block is worth reading again.</p>\n"
 
 -- that no block is worth reading again
-abbrev pub no_need_steps : Answer Found → List ℕ
-no_need_steps (found f) = markup (codes "<p>No block is worth reading again.</p>\n")
-no_need_steps (holes blocks) = markup (codes "<p>The volume does not open, and no block is worth reading again.</p>\n")
-no_need_steps (faulty f) = markup (codes "<p>The volume does not open, and no block to read again helps: the manual of udfsalvage says what this fault means.</p>\n")
+abbrev pub no_need_html : GivenWords → CalledWords → Profile → Table → ℕ → Report → Answer Found → List ℕ
+no_need_html g called rules table last r (found f) = markup (whole_words (is_all_whole r))
+no_need_html g called rules table last r (holes blocks) = markup (codes "<p>The volume does not open, and no block is worth reading again.</p>\n")
+no_need_html g called rules table last r (faulty f) = fault_html g called last (widening_by rules (state_of table) last)
 
 -- what to read again, if anything
-abbrev pub again_steps : Answer Found → Profile → ℕ → ℕ → List ℕ → List ℕ
-again_steps volume rules last disputed [] = no_need_steps volume
-again_steps volume rules last disputed (n ∷ ns) = needed_steps rules last disputed
+abbrev pub again_html : GivenWords → CalledWords → Profile → Table → ℕ → Report → List ℕ → List ℕ
+again_html g called rules table last r [] = no_need_html g called rules table last r r.volume
+again_html g called rules table last r (n ∷ ns) = needed_html g called rules last (pass_number g (disc_of table last r.reread).known) (disc_of table last r.reread).needed_in_conflict
 
 -- the command that writes the files
-abbrev pub extract_steps : Profile → ℕ → List ℕ
-extract_steps rules last =
-    markup (codes "<p>The whole files can be written out at any time:</p>\n<pre>udfsalvage extract --last ") ++ end_words rules last ++ markup (codes " --to files ...</pre>\n")
+unfoldable pub extract_html : GivenWords → Profile → ℕ → List ℕ
+extract_html g rules last = markup (codes "<p>The whole files can be written out at any time:</p>\n") ++ commands_html (extract_command g rules last)
 
 -- there are files only of a volume that opens
-abbrev pub files_steps : Answer Found → Profile → ℕ → List ℕ
-files_steps (found f) rules last = extract_steps rules last
-files_steps (holes blocks) rules last = []
-files_steps (faulty f) rules last = []
+abbrev pub files_steps : GivenWords → Answer Found → Profile → ℕ → List ℕ
+files_steps g (found f) rules last = extract_html g rules last
+files_steps g (holes blocks) rules last = []
+files_steps g (faulty f) rules last = []
 
 -- what to do next
-abbrev pub next_html : Answer Found → Profile → ℕ → ℕ → List ℕ → List ℕ
-next_html volume rules last disputed reread =
-    markup (codes "<h2>What to do next</h2>\n") ++ again_steps volume rules last disputed reread ++ files_steps volume rules last
+unfoldable pub next_html : GivenWords → CalledWords → Profile → Table → ℕ → Report → List ℕ
+next_html g called rules table last r =
+    markup (codes "<h2>What to do next</h2>\n") ++ again_html g called rules table last r r.reread ++ files_steps g r.volume rules last

@@ -1,7 +1,7 @@
 -- The summary at the head of the page.
 --     title_html volume                what the page is of: the volume's name, where it opens
 --     overview_html rules table last r   what is found of a volume, and the blocks of its disc, a division a line
-use Rattle.std.specs.Prelude.{ℕ, ◌-◌, ◌==◌, ◌&&◌, nat_le, List, [], ◌++◌, Option, Some, None, codes, if◌then◌else◌}
+use Rattle.std.specs.Prelude.{ℕ, ◌-◌, ◌==◌, ◌&&◌, nat_le, List, [], ◌++◌, Option, Some, None, codes, length, if◌then◌else◌}
 use Rattle.udfs_lattice.specs.Tables.{Table, state_of}
 use Rattle.udfs_volume.specs.declared.profiles.Profile.{Profile}
 use Rattle.udfs_volume.specs.Answers.{Answer, found, holes, faulty}
@@ -12,6 +12,7 @@ use Rattle.udfs_overview.specs.DiscTallies.{disc_of, unnamed_of}
 use Rattle.udfs_overview.specs.Figures.{grouped}
 use Rattle.udfs_overview.specs.LeftOut.{left_out_line, left_out_types}
 use Rattle.udfs_overview.specs.MovedTags.{moved_count, moved_line}
+use Rattle.udfs_overview.specs.Sentences.{sentence}
 use Rattle.udfs_overview.specs.Summaries.{torn_folder}
 use Rattle.udfs_overview.specs.SummaryTexts.{disc_line, files_line, others_line, unnamed_line}
 use Rattle.udfs_overview.specs.Tallies.{tally_of}
@@ -71,7 +72,7 @@ open_html f last =
 
 -- the lines of a volume that opens
 abbrev pub opened_html : Found → ℕ → Report → List ℕ
-opened_html f last r = open_html f last ++ found_html (tally_of r.nodes) (torn_folder r.nodes) (left_out_types r.nodes) (unnamed_of r.unnamed)
+opened_html f last r = open_html f last ++ html_lines (sentence (tally_of r.nodes) (length r.reread)) ++ found_html (tally_of r.nodes) (torn_folder r.nodes) (left_out_types r.nodes) (unnamed_of r.unnamed)
 
 -- the lines of the volume: of one that does not open, why
 abbrev pub volume_html : Answer Found → ℕ → Report → List ℕ

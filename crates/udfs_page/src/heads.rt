@@ -1,10 +1,11 @@
 //! The head of the page. It contains its style, no script, and loads nothing from elsewhere. Each function appends to a text; if memory
 //! runs out, a part may be appended.
 
-ghost use Rattle.std.specs.Prelude.{◌≡◌, ◌++◌, OnOk};
+ghost use Rattle.std.specs.Prelude.{◌≡◌, ◌++◌, OnOk, option_map};
 ghost use Rattle.std.specs.String.{string_bytes};
-ghost use Rattle.udfs_page.specs.Heads.{head_back, head_front, style_base, style_picture, style_text, style_tree};
+ghost use Rattle.udfs_page.specs.Heads.{head_back, head_front, heading_html, style_base, style_picture, style_text, style_tree, titled_html};
 
+use crate::escapes::push_html;
 use crate::markups::push_markup;
 use udfs_osta::OutOfMemory;
 
@@ -127,8 +128,27 @@ pub(crate) fn push_head_back(text: &mut String) -> Result<(), OutOfMemory>
 {
     push_markup(text, "</title>\n<style>\n")?;
     push_style(text)?;
-    push_markup(
-        text,
-        "</style>\n</head>\n<body>\n<h1>What can be salvaged</h1>\n",
-    )
+    push_markup(text, "</style>\n</head>\n<body>\n<h1>")
+}
+
+/// What the page is called, before what it is of.
+pub(crate) fn push_titled(text: &mut String, title: Option<&str>) -> Result<(), OutOfMemory>
+    ensures { OnOk result (string_bytes text.new ≡ string_bytes text.old ++ titled_html (option_map (λ title. title.now) title.entry)) }
+{
+    match title {
+        None => Ok(()),
+        Some(title) => {
+            push_html(text, title)?;
+            push_markup(text, ": ")
+        }
+    }
+}
+
+/// The heading.
+#[tactic(auto, unfolding(crate::specs::Heads::heading_html))]
+pub(crate) fn push_heading(text: &mut String, title: Option<&str>) -> Result<(), OutOfMemory>
+    ensures { OnOk result (string_bytes text.new ≡ string_bytes text.old ++ heading_html (option_map (λ title. title.now) title.entry)) }
+{
+    push_titled(text, title)?;
+    push_markup(text, "What can be salvaged</h1>\n")
 }

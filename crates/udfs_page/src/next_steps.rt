@@ -1,142 +1,385 @@
-//! What to do next. Each function appends to a text; if memory runs out, a part may be appended.
+//! What to do next, as commands with the arguments that were given. Each function appends to a text; if memory runs out, a part may be appended.
 
-ghost use Rattle.std.specs.Prelude.{◌≡◌, ◌++◌, OnOk};
+ghost use Rattle.std.specs.Prelude.{◌≡◌, ◌++◌, [], OnOk, option_map};
 ghost use Rattle.std.specs.String.{string_bytes};
 ghost use Rattle.udfs_salvage.specs.Found.{volume_now};
-ghost use Rattle.udfs_page.specs.NextSteps.{again_steps, end_words, extract_steps, files_steps, forget_steps, needed_steps, next_html, no_need_steps, reread_steps};
+ghost use Rattle.udfs_salvage.specs.Surveys.{survey_now};
+ghost use Rattle.udfs_overview.specs.DiscTallies.{disc_of};
+ghost use Rattle.udfs_overview.specs.NextCommands.{cleaned, joined, needed_steps};
+ghost use Rattle.udfs_overview.specs.Repeating.{given_now, pass_number};
+ghost use Rattle.udfs_overview.specs.Widenings.{widening_text};
+ghost use Rattle.udfs_page.specs.Escapes.{html_text};
+ghost use Rattle.udfs_page.specs.Markups.{markup};
+ghost use Rattle.udfs_page.specs.Naming.{called_now};
+ghost use Rattle.udfs_page.specs.NextSteps.{again_html, commands_html, extract_html, fault_html, files_steps, needed_html, needed_words, next_html, no_need_html, page_command, page_end, page_front, renewed, title_words, whole_words, wide_html};
 
-use crate::markups::{push_figure, push_markup};
+use crate::escapes::push_html;
+use crate::markups::push_markup;
+use crate::naming::Called;
+use std::alloc::Global;
 use udfs_osta::OutOfMemory;
-use udfs_overview::rules_words;
+use udfs_overview::{
+    DiscTally, Given, Margins, Pass, Widening, cleaned, count_disc, is_all_whole, pass_number,
+    push_disc_words, push_extract, push_inputs_end, push_needed_steps, push_shell_path,
+    push_shell_word, push_widening, table_path, widening_by,
+};
 use udfs_salvage::{Survey, Volume};
 use udfs_volume::Profile;
 
-/// A last block and rules, as arguments of a command.
-fn push_end(text: &mut String, profile: Profile, last: u32) -> Result<(), OutOfMemory>
-    ensures { OnOk result (string_bytes text.new ≡ string_bytes text.old ++ end_words profile last) }
+/// The title as an argument, if there is one.
+#[tactic(auto, unfolding(crate::specs::NextSteps::title_words))]
+fn push_title_words(text: &mut String, title: Option<&str>) -> Result<(), OutOfMemory>
+    ensures { OnOk result (string_bytes text.new ≡ string_bytes text.old ++ title_words (option_map (λ title. title.now) title.entry)) }
 {
-    push_figure(text, last as u128)?;
-    push_markup(text, rules_words(profile))
+    match title {
+        None => Ok(()),
+        Some(title) => {
+            push_markup(text, " --title ")?;
+            push_shell_word(text, title)
+        }
+    }
 }
 
-/// The commands that read the needed blocks again.
-fn push_reread_steps(text: &mut String, profile: Profile, last: u32) -> Result<(), OutOfMemory>
-    ensures { OnOk result (string_bytes text.new ≡ string_bytes text.old ++ reread_steps profile last) }
-{
-    push_markup(
-        text,
-        "<p>Blocks are needed that are not known. Read just these again, with this drive or another, where <code>...</code> stands for the readings that this page is made from:</p>\n<pre>udfsalvage reread --last ",
-    )?;
-    push_end(text, profile, last)?;
-    push_markup(
-        text,
-        " --mapfile want.map ...\nddrescue -b2048 -m want.map /dev/sr0 next.img next.map</pre>\n<p>Then make the page anew, with the new reading beside the old ones:</p>\n<pre>udfsalvage page --last ",
-    )?;
-    push_end(text, profile, last)?;
-    push_markup(
-        text,
-        " --out page.html ... --ddrescue next.img next.map</pre>\n",
-    )
-}
-
-/// The same, where blocks in conflict have to be forgotten first.
-fn push_forget_steps(text: &mut String, profile: Profile, last: u32) -> Result<(), OutOfMemory>
-    ensures { OnOk result (string_bytes text.new ≡ string_bytes text.old ++ forget_steps profile last) }
-{
-    push_markup(
-        text,
-        "<p>Blocks in conflict are needed: of each, two readings differ. Forget them first, where <code>...</code> stands for the readings that this page is made from, and then read what is needed again, with this drive or another:</p>\n<pre>udfsalvage forget --conflicts --out clean.tab ...\nudfsalvage reread --last ",
-    )?;
-    push_end(text, profile, last)?;
-    push_markup(
-        text,
-        " --mapfile want.map clean.tab\nddrescue -b2048 -m want.map /dev/sr0 next.img next.map</pre>\n<p>Then make the page anew, with the new reading and none of the old ones:</p>\n<pre>udfsalvage page --last ",
-    )?;
-    push_end(text, profile, last)?;
-    push_markup(
-        text,
-        " --out page.html clean.tab --ddrescue next.img next.map</pre>\n",
-    )
-}
-
-/// What to read again, of which `disputed` blocks are in conflict.
-fn push_needed_steps(
+/// How the disc is read, and how the page is called.
+#[tactic(auto, unfolding(crate::specs::NextSteps::page_front))]
+fn push_page_front(
     text: &mut String,
+    given: &Given<'_>,
+    called: &Called<'_>,
     profile: Profile,
     last: u32,
-    disputed: usize,
 ) -> Result<(), OutOfMemory>
-    ensures { OnOk result (string_bytes text.new ≡ string_bytes text.old ++ needed_steps profile last disputed) }
+    ensures { OnOk result (string_bytes text.new ≡ string_bytes text.old ++ page_front (given_now given.now) (called_now called.now) profile last) }
+{
+    push_markup(text, "udfsalvage page")?;
+    push_disc_words(text, given, profile, last)?;
+    push_title_words(text, called.title)
+}
+
+/// Where it is written, and the inputs.
+#[tactic(auto, unfolding(crate::specs::NextSteps::page_end))]
+fn push_page_end(
+    text: &mut String,
+    given: &Given<'_>,
+    called: &Called<'_>,
+) -> Result<(), OutOfMemory>
+    ensures { OnOk result (string_bytes text.new ≡ string_bytes text.old ++ page_end (given_now given.now) (called_now called.now)) }
+{
+    push_markup(text, " --out ")?;
+    push_shell_path(text, called.out)?;
+    push_inputs_end(text, given)
+}
+
+/// The command that makes a page.
+#[tactic(auto, unfolding(crate::specs::NextSteps::page_command))]
+fn push_page_command(
+    text: &mut String,
+    given: &Given<'_>,
+    called: &Called<'_>,
+    profile: Profile,
+    last: u32,
+) -> Result<(), OutOfMemory>
+    ensures { OnOk result (string_bytes text.new ≡ string_bytes text.old ++ page_command (given_now given.now) (called_now called.now) profile last) }
+{
+    push_page_front(text, given, called, profile, last)?;
+    push_page_end(text, given, called)
+}
+
+/// Commands, in a box.
+#[tactic(auto, unfolding(crate::specs::NextSteps::commands_html))]
+fn push_commands(text: &mut String, commands: &str) -> Result<(), OutOfMemory>
+    ensures { OnOk result (string_bytes text.new ≡ string_bytes text.old ++ commands_html commands.now) }
+{
+    push_markup(text, "<pre>")?;
+    push_html(text, commands)?;
+    push_markup(text, "</pre>\n")
+}
+
+/// What is said of blocks that are needed, of which so many are in conflict.
+fn push_needed_words(text: &mut String, disputed: usize) -> Result<(), OutOfMemory>
+    ensures { OnOk result (string_bytes text.new ≡ string_bytes text.old ++ markup (needed_words disputed)) }
 {
     if disputed == 0 {
-        push_reread_steps(text, profile, last)
+        push_markup(
+            text,
+            "<p>Blocks are needed that are not known. Read just these again, with this drive or another, and join the pass with what was read:</p>\n",
+        )
     } else {
-        push_forget_steps(text, profile, last)
+        push_markup(
+            text,
+            "<p>Blocks in conflict are needed: of each, two readings differ. Forget them first, then read what is needed again, with this drive or another, and join the pass with the rest:</p>\n",
+        )
+    }
+}
+
+/// The commands that read again what is needed, in a box.
+fn push_needed_commands(
+    alloc: Global,
+    text: &mut String,
+    given: &Given<'_>,
+    pass: Pass,
+    disputed: usize,
+) -> Result<(), OutOfMemory>
+    ensures { OnOk result (string_bytes text.new ≡ string_bytes text.old ++ commands_html (needed_steps [] [] (given_now given.now) pass.profile pass.last pass.number disputed)) }
+{
+    let mut commands = String::new(alloc);
+    let margins = Margins {
+        first: "",
+        other: "",
+    };
+    push_needed_steps(&mut commands, margins, given, pass, disputed)?;
+    push_commands(text, &commands)
+}
+
+/// The command that makes the page by such arguments, in a box.
+fn push_page_box(
+    alloc: Global,
+    text: &mut String,
+    given: &Given<'_>,
+    called: &Called<'_>,
+    profile: Profile,
+    last: u32,
+) -> Result<(), OutOfMemory>
+    ensures { OnOk result (string_bytes text.new ≡ string_bytes text.old ++ commands_html (page_command (given_now given.now) (called_now called.now) profile last)) }
+{
+    let mut commands = String::new(alloc);
+    push_page_command(&mut commands, given, called, profile, last)?;
+    push_commands(text, &commands)
+}
+
+/// The command that makes the page of the table with a new pass.
+fn push_joined_box(
+    alloc: Global,
+    text: &mut String,
+    given: &Given<'_>,
+    called: &Called<'_>,
+    profile: Profile,
+    last: u32,
+) -> Result<(), OutOfMemory>
+    ensures { OnOk result (string_bytes text.new ≡ string_bytes text.old ++ commands_html (page_command (joined (given_now given.now)) (called_now called.now) profile last)) }
+{
+    let files = [table_path(given.files)];
+    let joined = Given {
+        files: &files,
+        parts: &[],
+        size: given.size,
+        force: false,
+    };
+    push_page_box(alloc, text, &joined, called, profile, last)
+}
+
+/// The same, where so many blocks in conflict are forgotten first.
+fn push_renewed_box(
+    alloc: Global,
+    text: &mut String,
+    given: &Given<'_>,
+    called: &Called<'_>,
+    pass: Pass,
+    disputed: usize,
+) -> Result<(), OutOfMemory>
+    ensures { OnOk result (string_bytes text.new ≡ string_bytes text.old ++ commands_html (page_command (renewed (given_now given.now) disputed) (called_now called.now) pass.profile pass.last)) }
+{
+    if disputed == 0 {
+        push_joined_box(alloc, text, given, called, pass.profile, pass.last)
+    } else {
+        let clean = cleaned(given);
+        push_joined_box(alloc, text, &clean, called, pass.profile, pass.last)
+    }
+}
+
+/// What to read again, of which `disputed` blocks are in conflict, and the page of the table with the new pass.
+#[tactic(auto, unfolding(crate::specs::NextSteps::needed_html))]
+fn push_needed(
+    alloc: Global,
+    text: &mut String,
+    given: &Given<'_>,
+    called: &Called<'_>,
+    pass: Pass,
+    disputed: usize,
+) -> Result<(), OutOfMemory>
+    ensures { OnOk result (string_bytes text.new ≡ string_bytes text.old ++ needed_html (given_now given.now) (called_now called.now) pass.profile pass.last pass.number disputed) }
+{
+    push_needed_words(text, disputed)?;
+    push_needed_commands(alloc, text, given, pass, disputed)?;
+    push_markup(
+        text,
+        "<p>Then make the page anew, and do what it says:</p>\n",
+    )?;
+    push_renewed_box(alloc, text, given, called, pass, disputed)
+}
+
+/// What is said of a volume that the wide rules read.
+fn push_wide_words(alloc: Global, text: &mut String, widening: Widening) -> Result<(), OutOfMemory>
+    ensures { OnOk result (string_bytes text.new ≡ string_bytes text.old ++ html_text (widening_text widening)) }
+{
+    let mut words = String::new(alloc);
+    push_widening(&mut words, widening)?;
+    push_html(text, &words)
+}
+
+/// The page by the wide rules, of a volume that these read.
+#[tactic(auto, unfolding(crate::specs::NextSteps::wide_html))]
+fn push_wide(
+    alloc: Global,
+    text: &mut String,
+    given: &Given<'_>,
+    called: &Called<'_>,
+    last: u32,
+    widening: Widening,
+) -> Result<(), OutOfMemory>
+    ensures { OnOk result (string_bytes text.new ≡ string_bytes text.old ++ wide_html (given_now given.now) (called_now called.now) last widening) }
+{
+    push_markup(text, "<p>")?;
+    push_wide_words(alloc, text, widening)?;
+    push_markup(text, ".</p>\n")?;
+    push_page_box(alloc, text, given, called, Profile::Wide, last)
+}
+
+/// What is said of a volume with a fault.
+fn push_fault(
+    alloc: Global,
+    text: &mut String,
+    given: &Given<'_>,
+    called: &Called<'_>,
+    last: u32,
+    widening: Widening,
+) -> Result<(), OutOfMemory>
+    ensures { OnOk result (string_bytes text.new ≡ string_bytes text.old ++ fault_html (given_now given.now) (called_now called.now) last widening) }
+{
+    match widening {
+        Widening::No => push_markup(
+            text,
+            "<p>The volume does not open, and no block to read again helps: the manual of udfsalvage says what this fault means.</p>\n",
+        ),
+        Widening::Wants | Widening::Reads(_) => {
+            push_wide(alloc, text, given, called, last, widening)
+        }
+    }
+}
+
+/// That all is whole, or that no block is worth reading again.
+fn push_whole_words(text: &mut String, whole: bool) -> Result<(), OutOfMemory>
+    ensures { OnOk result (string_bytes text.new ≡ string_bytes text.old ++ markup (whole_words whole)) }
+{
+    if whole {
+        push_markup(text, "<p>All is whole.</p>\n")
+    } else {
+        push_markup(text, "<p>No block is worth reading again.</p>\n")
     }
 }
 
 /// That no block is worth reading again.
-fn push_no_need_steps(text: &mut String, volume: &Volume) -> Result<(), OutOfMemory>
-    ensures { OnOk result (string_bytes text.new ≡ string_bytes text.old ++ no_need_steps (volume_now volume.now)) }
+fn push_no_need(
+    alloc: Global,
+    text: &mut String,
+    given: &Given<'_>,
+    called: &Called<'_>,
+    survey: &Survey<'_>,
+) -> Result<(), OutOfMemory>
+    ensures { OnOk result (string_bytes text.new ≡ string_bytes text.old
+        ++ no_need_html (given_now given.now) (called_now called.now) survey.now.profile survey.now.table.now survey.now.last (survey_now survey.now) (volume_now survey.now.volume)) }
 {
-    match volume {
-        Volume::Open(_) => push_markup(text, "<p>No block is worth reading again.</p>\n"),
+    match &survey.volume {
+        Volume::Open(_) => push_whole_words(text, is_all_whole(alloc, survey)?),
         Volume::Holes(_) => push_markup(
             text,
             "<p>The volume does not open, and no block is worth reading again.</p>\n",
         ),
-        Volume::Fault(_) => push_markup(
-            text,
-            "<p>The volume does not open, and no block to read again helps: the manual of udfsalvage says what this fault means.</p>\n",
-        ),
+        Volume::Fault(_) => {
+            let found = widening_by(alloc, survey.table, survey.last, survey.profile)?;
+            push_fault(alloc, text, given, called, survey.last, found)
+        }
     }
 }
 
-/// What to read again, if anything.
-fn push_again_steps(
+/// What to read again, where something is worth it.
+fn push_worth(
+    alloc: Global,
     text: &mut String,
+    given: &Given<'_>,
+    called: &Called<'_>,
     survey: &Survey<'_>,
-    disputed: usize,
+    disc: &DiscTally,
 ) -> Result<(), OutOfMemory>
-    ensures { OnOk result (string_bytes text.new ≡ string_bytes text.old ++ again_steps (volume_now survey.now.volume) survey.now.profile survey.now.last disputed survey.now.reread.items) }
+    ensures { OnOk result (string_bytes text.new ≡ string_bytes text.old
+        ++ needed_html (given_now given.now) (called_now called.now) survey.now.profile survey.now.last (pass_number (given_now given.now) disc.now.known) disc.now.needed_in_conflict) }
+{
+    let pass = Pass {
+        profile: survey.profile,
+        last: survey.last,
+        number: pass_number(alloc, given, disc.known)?,
+    };
+    push_needed(alloc, text, given, called, pass, disc.needed_in_conflict)
+}
+
+/// What to read again, if anything.
+fn push_again(
+    alloc: Global,
+    text: &mut String,
+    given: &Given<'_>,
+    called: &Called<'_>,
+    survey: &Survey<'_>,
+    disc: &DiscTally,
+) -> Result<(), OutOfMemory>
+    requires { disc.now ≡ disc_of survey.now.table.now survey.now.last survey.now.reread.items }
+    ensures { OnOk result (string_bytes text.new ≡ string_bytes text.old
+        ++ again_html (given_now given.now) (called_now called.now) survey.now.profile survey.now.table.now survey.now.last (survey_now survey.now) survey.now.reread.items) }
 {
     match survey.reread.as_slice() {
-        [] => push_no_need_steps(text, &survey.volume),
-        _ => push_needed_steps(text, survey.profile, survey.last, disputed),
+        [] => push_no_need(alloc, text, given, called, survey),
+        _ => push_worth(alloc, text, given, called, survey, disc),
     }
 }
 
 /// The command that writes the files.
-fn push_extract_steps(text: &mut String, profile: Profile, last: u32) -> Result<(), OutOfMemory>
-    ensures { OnOk result (string_bytes text.new ≡ string_bytes text.old ++ extract_steps profile last) }
+#[tactic(auto, unfolding(crate::specs::NextSteps::extract_html))]
+fn push_extract_box(
+    alloc: Global,
+    text: &mut String,
+    given: &Given<'_>,
+    profile: Profile,
+    last: u32,
+) -> Result<(), OutOfMemory>
+    ensures { OnOk result (string_bytes text.new ≡ string_bytes text.old ++ extract_html (given_now given.now) profile last) }
 {
+    let mut commands = String::new(alloc);
+    push_extract(&mut commands, given, profile, last)?;
     push_markup(
         text,
-        "<p>The whole files can be written out at any time:</p>\n<pre>udfsalvage extract --last ",
+        "<p>The whole files can be written out at any time:</p>\n",
     )?;
-    push_end(text, profile, last)?;
-    push_markup(text, " --to files ...</pre>\n")
+    push_commands(text, &commands)
 }
 
 /// The command that writes the files of a volume that opens.
-fn push_files_steps(text: &mut String, survey: &Survey<'_>) -> Result<(), OutOfMemory>
-    ensures { OnOk result (string_bytes text.new ≡ string_bytes text.old ++ files_steps (volume_now survey.now.volume) survey.now.profile survey.now.last) }
+fn push_files_steps(
+    alloc: Global,
+    text: &mut String,
+    given: &Given<'_>,
+    survey: &Survey<'_>,
+) -> Result<(), OutOfMemory>
+    ensures { OnOk result (string_bytes text.new ≡ string_bytes text.old ++ files_steps (given_now given.now) (volume_now survey.now.volume) survey.now.profile survey.now.last) }
 {
     match &survey.volume {
-        Volume::Open(_) => push_extract_steps(text, survey.profile, survey.last),
+        Volume::Open(_) => push_extract_box(alloc, text, given, survey.profile, survey.last),
         Volume::Holes(_) | Volume::Fault(_) => Ok(()),
     }
 }
 
-/// What to do next, where `disputed` of the blocks to read again are in conflict.
+/// What to do next, of a page that is called so.
+#[tactic(auto, unfolding(crate::specs::NextSteps::next_html))]
 pub(crate) fn push_next(
+    alloc: Global,
     text: &mut String,
+    given: &Given<'_>,
+    called: &Called<'_>,
     survey: &Survey<'_>,
-    disputed: usize,
 ) -> Result<(), OutOfMemory>
-    ensures { OnOk result (string_bytes text.new ≡ string_bytes text.old ++ next_html (volume_now survey.now.volume) survey.now.profile survey.now.last disputed survey.now.reread.items) }
+    ensures { OnOk result (string_bytes text.new ≡ string_bytes text.old
+        ++ next_html (given_now given.now) (called_now called.now) survey.now.profile survey.now.table.now survey.now.last (survey_now survey.now)) }
 {
+    let disc = count_disc(survey);
     push_markup(text, "<h2>What to do next</h2>\n")?;
-    push_again_steps(text, survey, disputed)?;
-    push_files_steps(text, survey)
+    push_again(alloc, text, given, called, survey, &disc)?;
+    push_files_steps(alloc, text, given, survey)
 }

@@ -10,6 +10,7 @@ ghost use Rattle.udfs_overview.specs.Disagreements.{apart_lines};
 ghost use Rattle.udfs_overview.specs.DiscTallies.{disc_of};
 ghost use Rattle.udfs_overview.specs.LeftOut.{left_out_line};
 ghost use Rattle.udfs_overview.specs.MovedTags.{moved_count, moved_line};
+ghost use Rattle.udfs_overview.specs.Sentences.{sentence};
 ghost use Rattle.udfs_overview.specs.SummaryTexts.{disc_line, files_line, others_line, unnamed_line};
 ghost use Rattle.udfs_overview.specs.TornLists.{shown_path};
 ghost use Rattle.udfs_overview.specs.VolumeLines.{label_text, volume_line};
@@ -24,8 +25,8 @@ use udfs_osta::{Label, OutOfMemory};
 use udfs_overview::{
     Tally, UnnamedTally, count_disc, count_moved, count_nodes, count_unnamed, first_torn_folder,
     left_out_types, push_apart, push_disc, push_disc_size, push_files, push_grouped, push_label,
-    push_left_out, push_moved, push_others, push_revision, push_shown_path, push_unnamed,
-    push_volume,
+    push_left_out, push_moved, push_others, push_revision, push_sentence, push_shown_path,
+    push_unnamed, push_volume,
 };
 use udfs_salvage::{OpenVolume, Survey, Volume};
 use udfs_walk::Path;
@@ -180,6 +181,20 @@ fn push_file_lines(alloc: Global, text: &mut String, tally: &Tally) -> Result<()
     push_lines(text, &lines)
 }
 
+/// The sentence on top.
+fn push_sentence_lines(
+    alloc: Global,
+    text: &mut String,
+    tally: &Tally,
+    needed: usize,
+) -> Result<(), OutOfMemory>
+    ensures { OnOk result (string_bytes text.new ≡ string_bytes text.old ++ html_lines (sentence tally.now needed)) }
+{
+    let mut lines = String::new(alloc);
+    push_sentence(&mut lines, tally, needed as u64)?;
+    push_lines(text, &lines)
+}
+
 /// The line of links and devices, of faults and of loops.
 fn push_other_lines(alloc: Global, text: &mut String, tally: &Tally) -> Result<(), OutOfMemory>
     ensures { OnOk result (string_bytes text.new ≡ string_bytes text.old ++ html_lines (others_line tally.now)) }
@@ -291,6 +306,7 @@ fn push_opened(
     let types = left_out_types(alloc, survey)?;
     let unnamed = count_unnamed(survey);
     push_open(alloc, text, opened, survey.last)?;
+    push_sentence_lines(alloc, text, &tally, survey.reread.len())?;
     let path = first_torn_folder(survey);
     push_found(alloc, text, &tally, path, &types, &unnamed)
 }

@@ -1,10 +1,10 @@
 //! The page of the report that a survey represents.
 
-ghost use Rattle.std.specs.Prelude.{◌≡◌, ◌++◌, ◌+◌, ℕ, List, OnOk, map};
+ghost use Rattle.std.specs.Prelude.{◌≡◌, ◌++◌, ◌+◌, ℕ, List, OnOk, map, option_map};
 ghost use Rattle.std.specs.String.{string_bytes};
 ghost use Rattle.udfs_space.specs.Views.{view_now};
 ghost use Rattle.udfs_walk.specs.Bare.{full_node};
-ghost use Rattle.udfs_lattice.specs.Tables.{Table};
+ghost use Rattle.udfs_lattice.specs.Tables.{Table, state_of};
 ghost use Rattle.udfs_volume.specs.declared.profiles.Profile.{Profile};
 ghost use Rattle.udfs_salvage.specs.Found.{volume_now};
 ghost use Rattle.udfs_salvage.specs.Reports.{Report};
@@ -12,13 +12,16 @@ ghost use Rattle.udfs_salvage.specs.Printing.{PassesOn, Prints};
 ghost use Rattle.udfs_salvage.specs.Surveys.{survey_now};
 ghost use Rattle.udfs_page.specs.Arcs.{arcs_of};
 ghost use Rattle.udfs_page.specs.Heads.{head_text, page_mark};
+ghost use Rattle.udfs_overview.specs.Repeating.{GivenWords, given_now};
+ghost use Rattle.udfs_page.specs.Naming.{CalledWords, called_now};
 ghost use Rattle.udfs_page.specs.Overviews.{title_html};
 ghost use Rattle.udfs_page.specs.Pages.{disc_html, files_html, nodes_of, page_html, torn_of};
 ghost use Rattle.udfs_page.specs.Pictures.{picture_html};
 
 use crate::disc_arcs::arcs;
-use crate::heads::{push_head_back, push_head_front};
+use crate::heads::{push_head_back, push_head_front, push_heading, push_titled};
 use crate::markups::push_markup;
+use crate::naming::Called;
 use crate::next_steps::push_next;
 use crate::overviews::{push_overview, push_title};
 use crate::pictures::push_picture;
@@ -27,19 +30,27 @@ use crate::trees::put_tree;
 use std::alloc::Global;
 use udfs_lattice::BlockTable;
 use udfs_osta::OutOfMemory;
-use udfs_overview::{count_disc, torn_files};
+use udfs_overview::{Given, torn_files};
 use udfs_reading::Sink;
 use udfs_salvage::{RunError, Survey, Volume, flush};
 use udfs_space::View;
 use udfs_walk::Node;
 
 /// The head, with the title of the page.
-fn push_head(alloc: Global, text: &mut String, volume: &Volume) -> Result<(), OutOfMemory>
-    ensures { OnOk result (string_bytes text.new ≡ string_bytes text.old ++ head_text (title_html (volume_now volume.now))) }
+#[tactic(auto, unfolding(crate::specs::Heads::head_text))]
+fn push_head(
+    alloc: Global,
+    text: &mut String,
+    title: Option<&str>,
+    volume: &Volume,
+) -> Result<(), OutOfMemory>
+    ensures { OnOk result (string_bytes text.new ≡ string_bytes text.old ++ head_text (option_map (λ title. title.now) title.entry) (title_html (volume_now volume.now))) }
 {
     push_head_front(text)?;
+    push_titled(text, title)?;
     push_title(alloc, text, volume)?;
-    push_head_back(text)
+    push_head_back(text)?;
+    push_heading(text, title)
 }
 
 /// The picture of the disc.
@@ -57,12 +68,18 @@ fn push_arcs(
 }
 
 /// What the page says of the disc.
-fn push_about_disc(alloc: Global, text: &mut String, survey: &Survey<'_>) -> Result<(), OutOfMemory>
-    ensures { OnOk result (string_bytes text.new ≡ string_bytes text.old ++ disc_html survey.now.profile survey.now.table.now survey.now.last (survey_now survey.now)) }
+fn push_about_disc(
+    alloc: Global,
+    text: &mut String,
+    given: &Given<'_>,
+    called: &Called<'_>,
+    survey: &Survey<'_>,
+) -> Result<(), OutOfMemory>
+    ensures { OnOk result (string_bytes text.new ≡ string_bytes text.old ++ disc_html (given_now given.now) (called_now called.now) survey.now.profile survey.now.table.now survey.now.last (survey_now survey.now)) }
 {
     push_overview(alloc, text, survey)?;
     push_arcs(alloc, text, survey.table, survey.last, &survey.reread)?;
-    push_next(text, survey, count_disc(survey).needed_in_conflict)
+    push_next(alloc, text, given, called, survey)
 }
 
 /// The torn files among nodes that are given without their blocks and holes.
@@ -87,7 +104,7 @@ fn put_about_nodes<W: Sink>(
     nodes: &[Node],
 ) -> Result<(), RunError>
     ensures { PassesOn (W.stream sink.old) (W.stream sink.new) (string_bytes text.old) (string_bytes text.new)
-        (nodes_of (map (full_node (view_now view.entry)) nodes.now)) result }
+        (nodes_of (view_now view.entry) (map (full_node (view_now view.entry)) nodes.now)) result }
 {
     push_torn_files(alloc, text, view, nodes)?;
     put_tree(alloc, text, sink, view, nodes)
@@ -101,7 +118,7 @@ fn put_about_files<W: Sink>(
     survey: &Survey<'_>,
 ) -> Result<(), RunError>
     ensures { PassesOn (W.stream sink.old) (W.stream sink.new) (string_bytes text.old) (string_bytes text.new)
-        (files_html (volume_now survey.now.volume) (survey_now survey.now)) result }
+        (files_html (state_of survey.now.table.now) (volume_now survey.now.volume) (survey_now survey.now)) result }
 {
     match &survey.volume {
         Volume::Open(opened) => {
@@ -113,11 +130,17 @@ fn put_about_files<W: Sink>(
 }
 
 /// All before what the page says of the nodes.
-fn push_front(alloc: Global, text: &mut String, survey: &Survey<'_>) -> Result<(), OutOfMemory>
-    ensures { OnOk result (string_bytes text.new ≡ string_bytes text.old ++ (head_text (title_html (volume_now survey.now.volume)) ++ disc_html survey.now.profile survey.now.table.now survey.now.last (survey_now survey.now))) }
+fn push_front(
+    alloc: Global,
+    text: &mut String,
+    given: &Given<'_>,
+    called: &Called<'_>,
+    survey: &Survey<'_>,
+) -> Result<(), OutOfMemory>
+    ensures { OnOk result (string_bytes text.new ≡ string_bytes text.old ++ (head_text (called_now called.now).title (title_html (volume_now survey.now.volume)) ++ disc_html (given_now given.now) (called_now called.now) survey.now.profile survey.now.table.now survey.now.last (survey_now survey.now))) }
 {
-    push_head(alloc, text, &survey.volume)?;
-    push_about_disc(alloc, text, survey)
+    push_head(alloc, text, called.title, &survey.volume)?;
+    push_about_disc(alloc, text, given, called, survey)
 }
 
 /// All of it.
@@ -125,34 +148,42 @@ fn put_page<W: Sink>(
     alloc: Global,
     text: &mut String,
     sink: &mut W,
+    given: &Given<'_>,
+    called: &Called<'_>,
     survey: &Survey<'_>,
 ) -> Result<(), RunError>
     ensures { PassesOn (W.stream sink.old) (W.stream sink.new) (string_bytes text.old) (string_bytes text.new)
-        (page_html survey.now.profile survey.now.table.now survey.now.last (survey_now survey.now)) result }
+        (page_html (given_now given.now) (called_now called.now) survey.now.profile survey.now.table.now survey.now.last (survey_now survey.now)) result }
 {
-    push_front(alloc, text, survey)?;
+    push_front(alloc, text, given, called, survey)?;
     put_about_files(alloc, text, sink, survey)?;
     push_markup(text, "</body>\n</html>\n")?;
     Ok(())
 }
 
-/// Writes the page of the report that a survey represents: a whole HTML file, with what is found of the volume, the disc as a picture, what to do
+/// Writes the page of the report that a survey represents, where these arguments were given and the page is called so: a whole HTML file, with what is found of the volume, the disc as a picture, what to do
 /// next, the torn files of which most is lost, and all files inside their folders. No name can begin or end an element in it. It is written in pieces: the
 /// blocks and holes of one node are held at a time, and no more text of the nodes than a piece and that of one of them.
 ///
 /// # Errors
 ///
 /// `Write` if and only if the sink failed, `OutOfMemory` if memory ran out. In both cases a prefix of the page, possibly empty, was written.
-pub fn write_page<W: Sink>(alloc: Global, survey: &Survey<'_>, sink: &mut W) -> Result<(), RunError>
+pub fn write_page<W: Sink>(
+    alloc: Global,
+    given: &Given<'_>,
+    called: &Called<'_>,
+    survey: &Survey<'_>,
+    sink: &mut W,
+) -> Result<(), RunError>
     ensures { Prints (W.stream sink.old) (W.stream sink.new)
-        (page_html survey.now.profile survey.now.table.now survey.now.last (survey_now survey.now)) result }
+        (page_html (given_now given.now) (called_now called.now) survey.now.profile survey.now.table.now survey.now.last (survey_now survey.now)) result }
 {
     let mut text = String::new(alloc);
-    put_page(alloc, &mut text, sink, survey)?;
+    put_page(alloc, &mut text, sink, given, called, survey)?;
     flush(&mut text, sink)
 }
 
 /// Each page begins with the mark by which it is known. This is a law about pages; the call does nothing.
 pub fn pages_begin_so()
-    ensures { (rules : Profile) → (table : Table) → (last : ℕ) → (report : Report) → (rest : List ℕ) × (page_html rules table last report ≡ page_mark ++ rest) }
+    ensures { (given : GivenWords) → (called : CalledWords) → (rules : Profile) → (table : Table) → (last : ℕ) → (report : Report) → (rest : List ℕ) × (page_html given called rules table last report ≡ page_mark ++ rest) }
 {}

@@ -3,7 +3,10 @@
 use std::alloc::{AllocError, Global};
 use udfs_common::files::Files;
 use udfs_lattice::BlockTable;
-use udfs_overview::{left_out_remark, push_anchors_text, push_volume, spares_disagree};
+use udfs_overview::{
+    Widening, left_out_remark, push_anchors_text, push_volume, push_widening, spares_disagree,
+    widening_by,
+};
 use udfs_salvage::{Listing, Survey, Volume};
 use udfs_volume::differences::{anchors_apart, copies_differ};
 use udfs_volume::sequences::sequence;
@@ -37,18 +40,19 @@ fn revision_of(alloc: Global, told: Told<'_>) -> Option<u16> {
     Some(u16::from_le_bytes([block[240], block[241]]))
 }
 
-/// What is said of a volume whose domain the rules do not take.
+/// What is said of a volume whose domain the rules do not take, as its summary says it where the wide rules do.
 fn of_domain(alloc: Global, told: Told<'_>) -> Result<String, AllocError> {
+    let found = widening_by(alloc, told.table, told.last, told.profile)?;
+    if found != Widening::No {
+        let mut line = String::from_str(alloc, "volume: ")?;
+        push_widening(&mut line, found)?;
+        return Ok(line);
+    }
     let Some(revision) = revision_of(alloc, told) else {
         return String::from_str(alloc, "volume: its domain is not that of UDF");
     };
     let whole = revision / 256;
     let part = revision % 256;
-    if told.profile == Profile::Strict && Profile::Wide.accepts_revision(revision) {
-        return format!(in alloc;
-            "volume: UDF {whole:x}.{part:02x}, not 1.50 or 2.01: try --profile wide"
-        );
-    }
     format!(in alloc; "volume: UDF {whole:x}.{part:02x}, which is not read")
 }
 

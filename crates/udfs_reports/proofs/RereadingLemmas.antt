@@ -4,15 +4,22 @@ use Rattle.std.specs.Prelude.{Contains}
 use Rattle.std.specs.List.Sorted.{IsNonDecreasing}
 use Rattle.udfs_lattice.proofs.Inclusion.{here, here_or_there, in_nothing, there}
 use Rattle.udfs_lattice.specs.States.{is_known}
-use Rattle.udfs_lattice.specs.Tables.{Table, state_of}
+use Rattle.udfs_lattice.specs.Tables.{Table}
 use Rattle.udfs_lattice.specs.Volumes.{Blocks, IsUnread, ascending, not_known}
+use Rattle.udfs_reading.specs.Device.{Stream}
+use Rattle.udfs_reading.specs.Writing.{Failed, Wrote}
 use Rattle.udfs_rescue.specs.Writing.{domain_text}
-use Rattle.udfs_salvage.specs.Reports.{IsOutOfRange, IsReportBy, Report, all_whole}
+use Rattle.udfs_salvage.specs.RereadTexts.{number_lines}
+use Rattle.udfs_salvage.specs.Reports.{IsOutOfRange, Report, all_whole}
+use Rattle.udfs_volume.specs.declared.profiles.Profile.{Profile}
+use Rattle.udfs_common.specs.declared.refusal.Refusal.TheVariants.{Output}
 use Rattle.udfs_volume.specs.Seen.{IsRising}
 use Rattle.udfs_volume.proofs.PublicLaws.{ascending_rises}
+use Rattle.udfs_words.specs.Requests.{texts}
 use Rattle.udfs_words.specs.declared.request.RereadRequest.{RereadRequest}
 use Rattle.udfs_reports.specs.Comparing.{compared}
-use Rattle.udfs_reports.specs.Rereading.{AreMapped, IsDomain, domain_line}
+use Rattle.udfs_reports.specs.Paths.{IsListingFor}
+use Rattle.udfs_reports.specs.Rereading.{AreMapped, IsDomain, IsRefusedNumbers, TellsNumbers, domain_line}
 
 stands_in : (xs : List ℕ) (j : ℕ) (d : ℕ) → j < length xs → Contains xs (slice_index_or xs j d)
 stands_in [] j d lt = absurd (omega (arith, lt))
@@ -78,17 +85,39 @@ unread_rise blocks ns rises = passed_rise (λ n. not (is_known (blocks n))) ns r
 pub unread_are : (blocks : Blocks) (ns : List ℕ) → IsUnread blocks (not_known blocks ns)
 unread_are blocks ns n i = is_no (is_known (blocks n)) (passed (λ n. not (is_known (blocks n))) ns n i)
 
+-- ---- numbers
+
+-- printed of a listing
+pub told_of : (only : List (List ℕ)) (profile : Profile) (last : ℕ) (table : Table) (kept : Report) (blocks : List ℕ) (old new : Stream) (whole : Bool) → IsListingFor only profile last table kept → blocks ≡ kept.reread → Wrote old new (number_lines blocks) →
+    whole ≡ all_whole kept.nodes → TellsNumbers only profile last old new whole table
+told_of only profile last table kept blocks old new whole l are wrote says = record {
+  report = l.report;
+  is_report = l.is_report;
+  prints = subst (λ (bs : List ℕ). Wrote old new (number_lines bs)) (are ∙ l.blocks) wrote;
+  says = says ∙ ap all_whole l.nodes;
+}
+
+-- or begun
+pub begun_of : (only : List (List ℕ)) (profile : Profile) (last : ℕ) (table : Table) (kept : Report) (blocks : List ℕ) (old new : Stream) → IsListingFor only profile last table kept → blocks ≡ kept.reread → Failed old new (number_lines blocks) →
+    IsRefusedNumbers only profile last old new Output table
+begun_of only profile last table kept blocks old new l are failed = inr (record {
+  report = l.report;
+  is_report = l.is_report;
+  stopped = subst (λ (bs : List ℕ). Failed old new (number_lines bs)) (are ∙ l.blocks) failed;
+  told = refl;
+})
+
 -- ---- a mapfile
 
--- of a report, by its parts
-pub domain_of : (r : RereadRequest) (last : ℕ) (table : Table) (report : Report) (wanted known all bytes : List ℕ) (whole : Bool) → IsReportBy r.volume.profile (state_of table) last report → wanted ≡ report.reread → known ≡ compared r.witnesses table last report →
-    AreMapped r table last report all → bytes ≡ domain_text all last → whole ≡ all_whole report.nodes → IsDomain r last table bytes (domain_line r.group wanted (length known) (length all)) whole
-domain_of r last table report wanted known all bytes whole is_report wants knows mapped is says = record {
-  report = report;
-  is_report = is_report;
+-- of a listing, by its parts
+pub domain_of : (r : RereadRequest) (last : ℕ) (table : Table) (kept : Report) (wanted known all bytes : List ℕ) (whole : Bool) → IsListingFor (texts r.only.items) r.volume.profile last table kept → wanted ≡ kept.reread →
+    known ≡ compared r.witnesses table last kept.volume kept.reread → AreMapped r table last kept.volume kept.reread all → bytes ≡ domain_text all last → whole ≡ all_whole kept.nodes → IsDomain r last table bytes (domain_line r.group wanted (length known) (length all)) whole
+domain_of r last table kept wanted known all bytes whole l wants knows mapped is says = record {
+  report = l.report;
+  is_report = l.is_report;
   all = all;
-  are_mapped = mapped;
+  are_mapped = subst (λ (bs : List ℕ). AreMapped r table last l.report.volume bs all) l.blocks (subst (λ v. AreMapped r table last v kept.reread all) l.volume mapped);
   is = is;
-  says = ap₂ (λ (ws : List ℕ) (k : ℕ). domain_line r.group ws k (length all)) wants (ap (λ (ks : List ℕ). length ks) knows);
-  all_is_whole = says;
+  says = ap₂ (λ (ws : List ℕ) (k : ℕ). domain_line r.group ws k (length all)) (wants ∙ l.blocks) (ap (λ (ks : List ℕ). length ks) (knows ∙ ap₂ (λ v (bs : List ℕ). compared r.witnesses table last v bs) l.volume l.blocks));
+  all_is_whole = says ∙ ap all_whole l.nodes;
 }

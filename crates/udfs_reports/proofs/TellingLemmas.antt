@@ -22,5 +22,5 @@ stopped text profile last old new refusal table report error is stops told = inr
 -- what is said of the line of a mapfile that was to be printed
 pub unput : (Unmade : Type 0) (r : RereadRequest) (last : ℕ) (old new : Stream) (refusal : Refusal) (table : Table) (bytes text : List ℕ) (whole : Bool) → IsDomain r last table bytes text whole →
     ((new ≡ old) × (refusal ≡ Memory alloc_error)) ⊎ ((refusal ≡ Output) × Failed old new text) ⊎ (Wrote old new text × IsUnput Unmade refusal) → IsRefusedDomain Unmade r last old new refusal table
-unput Unmade r last old new refusal table bytes text whole is (inl none) = inl (none.0, inl none.1)
+unput Unmade r last old new refusal table bytes text whole is (inl none) = inl (none.0, inl (inl none.1))
 unput Unmade r last old new refusal table bytes text whole is (inr put) = inr (bytes, text, whole, is, put)

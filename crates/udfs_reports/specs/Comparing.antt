@@ -1,11 +1,10 @@
 -- The known blocks that are asked for beside those to read again, by which a pass of another disc shows.
 --     structures_of volume        where the file set and the root's entry of a volume that opens are
 --     beside compares wanted known    known blocks are asked for where they are to be compared and something is wanted
---     compared compares table last report     those that are asked for beside the blocks of a report
+--     compared compares table last volume wanted     those that are asked for beside blocks of a volume that are wanted
 use Rattle.std.specs.Prelude.{ℕ, Bool, true, false, List, [], ◌∷◌, ◌++◌, Option, Some, None}
 use Rattle.udfs_lattice.specs.Tables.{Table, state_of}
 use Rattle.udfs_salvage.specs.Found.{Found}
-use Rattle.udfs_salvage.specs.Reports.{Report}
 use Rattle.udfs_space.specs.Places.{place}
 use Rattle.udfs_volume.specs.Answers.{Answer, found, holes, faulty}
 use Rattle.udfs_witnesses.specs.Witnesses.{witnesses}
@@ -27,6 +26,6 @@ beside false wanted known = []
 beside true [] known = []
 beside true (n ∷ ns) known = known
 
--- the witnesses of a table's report
-abbrev pub compared : Bool → Table → ℕ → Report → List ℕ
-compared compares table last report = beside compares report.reread (witnesses (state_of table) last (structures_of report.volume))
+-- the witnesses beside blocks of a table's volume that are wanted
+abbrev pub compared : Bool → Table → ℕ → Answer Found → List ℕ → List ℕ
+compared compares table last volume wanted = beside compares wanted (witnesses (state_of table) last (structures_of volume))

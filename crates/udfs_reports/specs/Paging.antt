@@ -1,16 +1,17 @@
 -- What `page` writes of a volume.
+--     called_by          how the page is called, and where it is written
 --     IsPageOf           these bytes are the page of a table's report, and whether there are nodes and all are whole
 --     IsPage             these bytes are the page that is asked for, and whether there are nodes and all are whole
 --     IsFreePage         a page takes the place of no file but a page, and of none of the inputs
 --     IsSparedPage       why a page is not written: it would take the place of something else
 --     IsPageFree         the page that is asked for takes the place of nothing else
 --     PageRefused        why it was not put
-use Rattle.std.specs.Prelude.{◌≡◌, ◌⊎◌, ℕ, Bool, List, Option, alloc_error}
+use Rattle.std.specs.Prelude.{◌≡◌, ◌⊎◌, ℕ, Bool, List, Option, alloc_error, option_map}
 use Rattle.udfs_files.specs.Disk.{Fails}
 use Rattle.udfs_lattice.specs.Tables.{Table, state_of}
 use Rattle.udfs_salvage.specs.Reports.{Report, IsReportBy, all_whole}
-use Rattle.udfs_volume.specs.declared.profiles.Profile.{Profile}
 use Rattle.udfs_page.specs.Heads.{page_mark}
+use Rattle.udfs_page.specs.Naming.{CalledWords}
 use Rattle.udfs_page.specs.Pages.{page_html}
 use Rattle.udfs_words.specs.Requests.{texts}
 use Rattle.udfs_words.specs.declared.request.PageRequest.{PageRequest}
@@ -20,13 +21,18 @@ use Rattle.udfs_common.specs.Reach.{Reach}
 use Rattle.udfs_common.specs.Volumes.{IsNoVolume, OfVolume}
 use Rattle.udfs_common.specs.declared.refusal.Refusal.{Refusal}
 use Rattle.udfs_common.specs.declared.refusal.Refusal.TheVariants.{Memory, Output, Spared}
+use Rattle.udfs_reports.specs.Giving.{given_by}
 use Rattle.udfs_reports.specs.Telling.{IsRefusedPut}
 
--- these bytes are the page of the table's report by the rules of a profile, and whether there are nodes and all are whole
-pub record IsPageOf (profile : Profile) (last : ℕ) (whole : Bool) (bytes : List ℕ) (table : Table) : Type 0 where
+-- how the page is called, and where it is written
+abbrev pub called_by : PageRequest → CalledWords
+called_by r = record { title = option_map (λ text. text.now) r.title; out = r.out.now }
+
+-- these bytes are the page that is asked for of the table's report, and whether there are nodes and all are whole
+pub record IsPageOf (r : PageRequest) (last : ℕ) (whole : Bool) (bytes : List ℕ) (table : Table) : Type 0 where
   pub report : Report
-  pub is_report : IsReportBy profile (state_of table) last report
-  pub is : bytes ≡ page_html profile table last report
+  pub is_report : IsReportBy r.volume.profile (state_of table) last report
+  pub is : bytes ≡ page_html (given_by r.volume r.size) (called_by r) r.volume.profile table last report
   pub says : whole ≡ all_whole report.nodes
 
 -- a page takes the place of no input (`files`, and `parts`: the images and mapfiles among them), and, unless what is there may be no file (`in_place`), of no file but a page
@@ -40,7 +46,7 @@ IsSparedPage holds real files parts out = IsSparedOwn page_mark holds real files
 module _ {F I M S W : Type 0} (reach : Reach F I M S W) (old : F) where
   -- the page of what was read of the disc
   abbrev pub IsPage : PageRequest → Bool → List ℕ → Type 0
-  IsPage r whole bytes = OfVolume reach old r.volume (λ last. IsPageOf r.volume.profile last whole bytes)
+  IsPage r whole bytes = OfVolume reach old r.volume (λ last. IsPageOf r last whole bytes)
 
   -- where it is known what files hold
   abbrev pub IsPageFree : PageRequest → Type 0

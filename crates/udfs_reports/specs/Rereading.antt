@@ -1,9 +1,12 @@
 -- What a command prints of the blocks to read again, and the mapfile that it writes of them.
---     numbers_of          the lines of their numbers
+--     TellsNumbers        the lines of their numbers were printed
+--     IsRefusedNumbers    they were not, or a beginning of them, and why
+--     PrintsNumbers       the numbers that are asked for were printed, and whether there are nodes and all are whole
+--     PrintsNoNumbers     they were not, or a beginning of them, and why
 --     domain_line         their count and that of their runs, how many known blocks are asked for beside them, and of whole groups how many blocks in all
 --     AreAsked            the blocks to ask for of those of a list: these, or their whole groups
 --     AreMapped           the blocks of a mapfile: those to ask for, and the witnesses
---     IsDomain            the mapfile of a table's report, its line, and whether there are nodes and all are whole
+--     IsDomain            the mapfile of a table's report, its line, and whether there are nodes and all are whole that are asked for
 --     IsMapOf             these bytes are this mapfile, and its line was printed
 --     IsRefusedDomain     the mapfile was not put, and why
 --     IsMap               these bytes are the mapfile that is asked for, its line was printed, and whether there are nodes and all are whole
@@ -18,10 +21,13 @@ use Rattle.udfs_lattice.specs.Tables.{Table, state_of}
 use Rattle.udfs_reading.specs.Device.{Stream}
 use Rattle.udfs_reading.specs.Writing.{Failed, Wrote}
 use Rattle.udfs_lattice.specs.Volumes.{Blocks, ascending, not_known}
+use Rattle.udfs_volume.specs.Answers.{Answer}
 use Rattle.udfs_volume.specs.declared.profiles.Profile.{Profile}
 use Rattle.udfs_groups.specs.Groups.{AreGrouped}
 use Rattle.udfs_rescue.specs.Writing.{domain_text}
-use Rattle.udfs_salvage.specs.Reports.{Report, IsReportBy, all_whole}
+use Rattle.udfs_salvage.specs.Found.{Found}
+use Rattle.udfs_salvage.specs.InLine.{reread_for}
+use Rattle.udfs_salvage.specs.Reports.{Report}
 use Rattle.udfs_salvage.specs.RereadTexts.{number_lines}
 use Rattle.udfs_salvage.specs.Texts.{line}
 use Rattle.udfs_words.specs.Asking.{blocks_in}
@@ -35,12 +41,26 @@ use Rattle.udfs_common.specs.Refusing.{IsUnput}
 use Rattle.udfs_common.specs.Volumes.{IsNoVolume, OfVolume}
 use Rattle.udfs_common.specs.declared.refusal.Refusal.{Refusal}
 use Rattle.udfs_common.specs.declared.refusal.Refusal.TheVariants.{Memory, Output, Spared}
-use Rattle.udfs_remarks.specs.NoReports.{IsUntold}
 use Rattle.udfs_reports.specs.Comparing.{compared}
+use Rattle.udfs_reports.specs.Paths.{IsReportFor, IsUntoldFor, are_whole}
 
--- the lines of the numbers of a report's blocks to read again
-abbrev pub numbers_of : Profile → Table → ℕ → Report → List ℕ
-numbers_of profile table last report = number_lines report.reread
+-- the lines of the numbers of the blocks to read again for some paths were printed, and the result is whether all nodes at them, below them and above them are whole, and there are some
+pub record TellsNumbers (only : List (List ℕ)) (profile : Profile) (last : ℕ) (old new : Stream) (whole : Bool) (table : Table) : Type 0 where
+  pub report : Report
+  pub is_report : IsReportFor only profile last table report
+  pub prints : Wrote old new (number_lines (reread_for only report))
+  pub says : whole ≡ are_whole only report
+
+-- a beginning of them was printed, and then the sink failed
+pub record StopsNumbers (only : List (List ℕ)) (profile : Profile) (last : ℕ) (old new : Stream) (refusal : Refusal) (table : Table) : Type 0 where
+  pub report : Report
+  pub is_report : IsReportFor only profile last table report
+  pub stopped : Failed old new (number_lines (reread_for only report))
+  pub told : refusal ≡ Output
+
+-- nothing was printed, or a beginning
+abbrev pub IsRefusedNumbers : List (List ℕ) → Profile → ℕ → Stream → Stream → Refusal → Table → Type 0
+IsRefusedNumbers only profile last old new refusal table = ((new ≡ old) × IsUntoldFor only profile last refusal table) ⊎ StopsNumbers only profile last old new refusal table
 
 -- how many of these blocks do not follow on the one before them, the first of which is block n
 abbrev pub breaks : ℕ → List ℕ → ℕ
@@ -74,19 +94,19 @@ abbrev pub AreAsked : Option GroupSize → Blocks → ℕ → List ℕ → List 
 AreAsked None blocks last listed asked = asked ≡ listed
 AreAsked (Some size) blocks last listed asked = AreGrouped blocks last (blocks_in size) (not_known blocks listed) asked
 
--- the blocks of a mapfile: those that a report asks for, the witnesses, and nothing else
-abbrev pub AreMapped : RereadRequest → Table → ℕ → Report → List ℕ → Type 0
-AreMapped r table last report all = (asked : List ℕ) × AreAsked r.group (state_of table) last report.reread asked × (all ≡ ascending (compared r.witnesses table last report ++ asked))
+-- the blocks of a mapfile: those to ask for where some of a volume are wanted, the witnesses, and nothing else
+abbrev pub AreMapped : RereadRequest → Table → ℕ → Answer Found → List ℕ → List ℕ → Type 0
+AreMapped r table last volume wanted all = (asked : List ℕ) × AreAsked r.group (state_of table) last wanted asked × (all ≡ ascending (compared r.witnesses table last volume wanted ++ asked))
 
--- the mapfile of the table's report, the line that is printed of it, and whether there are nodes and all are whole
+-- the mapfile of the table's report for the paths that are asked for, the line that is printed of it, and whether all nodes at them, below them and above them are whole, and there are some
 pub record IsDomain (r : RereadRequest) (last : ℕ) (table : Table) (bytes text : List ℕ) (whole : Bool) : Type 0 where
   pub report : Report
-  pub is_report : IsReportBy r.volume.profile (state_of table) last report
+  pub is_report : IsReportFor (texts r.only.items) r.volume.profile last table report
   pub all : List ℕ
-  pub are_mapped : AreMapped r table last report all
+  pub are_mapped : AreMapped r table last report.volume (reread_for (texts r.only.items) report) all
   pub is : bytes ≡ domain_text all last
-  pub says : text ≡ domain_line r.group report.reread (length (compared r.witnesses table last report)) (length all)
-  pub all_is_whole : whole ≡ all_whole report.nodes
+  pub says : text ≡ domain_line r.group (reread_for (texts r.only.items) report) (length (compared r.witnesses table last report.volume (reread_for (texts r.only.items) report))) (length all)
+  pub all_is_whole : whole ≡ are_whole (texts r.only.items) report
 
 -- these bytes are the mapfile, and its line was printed
 abbrev pub IsMapOf : RereadRequest → ℕ → Stream → Stream → Bool → List ℕ → Table → Type 0
@@ -94,10 +114,18 @@ IsMapOf r last before after whole bytes table = (text : List ℕ) × IsDomain r 
 
 -- there was no report, and nothing was printed; or the line of a mapfile was not printed whole, or it was and the mapfile was not put
 abbrev pub IsRefusedDomain : Type 0 → RereadRequest → ℕ → Stream → Stream → Refusal → Table → Type 0
-IsRefusedDomain Unmade r last old new refusal table = ((new ≡ old) × IsUntold r.volume.profile last refusal table) ⊎ ((bytes : List ℕ) × (text : List ℕ) × (whole : Bool) × IsDomain r last table bytes text whole ×
+IsRefusedDomain Unmade r last old new refusal table = ((new ≡ old) × IsUntoldFor (texts r.only.items) r.volume.profile last refusal table) ⊎ ((bytes : List ℕ) × (text : List ℕ) × (whole : Bool) × IsDomain r last table bytes text whole ×
     (((refusal ≡ Output) × Failed old new text) ⊎ (Wrote old new text × IsUnput Unmade refusal)))
 
 module _ {F I M S W : Type 0} (reach : Reach F I M S W) (old : F) where
+  -- the numbers that are asked for were printed
+  abbrev pub PrintsNumbers : RereadRequest → Stream → Stream → Bool → Type 0
+  PrintsNumbers r before after whole = OfVolume reach old r.volume (λ last. TellsNumbers (texts r.only.items) r.volume.profile last before after whole)
+
+  -- it is not known where the disc ends, or the inputs were not joined, and nothing was printed; or nothing was, or a beginning
+  abbrev pub PrintsNoNumbers : RereadRequest → Stream → Stream → Refusal → Type 0
+  PrintsNoNumbers r before after refusal = ((after ≡ before) × IsNoVolume reach old r.volume refusal) ⊎ OfVolume reach old r.volume (λ last. IsRefusedNumbers (texts r.only.items) r.volume.profile last before after refusal)
+
   -- the mapfile of what was read of the disc, and its line
   abbrev pub IsMap : RereadRequest → Stream → Stream → Bool → List ℕ → Type 0
   IsMap r before after whole bytes = OfVolume reach old r.volume (λ last. IsMapOf r last before after whole bytes)

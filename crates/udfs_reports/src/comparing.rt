@@ -161,8 +161,8 @@ pub fn asked_in(
     requires to { last ≤ 4194303 }
     requires rising { IsRising (listing_now listing.now).reread }
     ensures wanted { IfOk result (λ asked. asked.wanted.items ≡ (listing_now listing.now).reread) }
-    ensures known { IfOk result (λ asked. asked.known.items ≡ compared request.now.witnesses table.now last (listing_now listing.now)) }
-    ensures blocks { IfOk result (λ asked. AreMapped request.now table.now last (listing_now listing.now) asked.blocks.items) }
+    ensures known { IfOk result (λ asked. asked.known.items ≡ compared request.now.witnesses table.now last (listing_now listing.now).volume (listing_now listing.now).reread) }
+    ensures blocks { IfOk result (λ asked. AreMapped request.now table.now last (listing_now listing.now).volume (listing_now listing.now).reread asked.blocks.items) }
     ensures rises { IfOk result (λ asked. IsNonDecreasing asked.blocks.items) }
     ensures refused { IfErr result (λ refusal. refusal ≡ Refusal.Memory alloc_error) }
 {

@@ -3,8 +3,10 @@
 #![tactic(auto)]
 
 mod comparing;
+pub mod giving;
 pub mod list;
 pub mod page;
+mod paths;
 pub mod report;
 pub mod reread;
 pub mod reread_map;

@@ -3,6 +3,8 @@
 ghost use Rattle.std.specs.Prelude.{◌≡◌, IfOk, IfErr, OnOk, map};
 ghost use Rattle.std.specs.Io.KnownBytes.{Appends};
 ghost use Rattle.udfs_files.specs.Disk.{Fails};
+ghost use Rattle.udfs_overview.specs.Repeating.{given_now};
+ghost use Rattle.udfs_page.specs.Naming.{called_now};
 ghost use Rattle.udfs_page.specs.Pages.{page_html};
 ghost use Rattle.udfs_salvage.specs.Surveys.{survey_now};
 ghost use Rattle.udfs_common.specs.Guarding.{MayNotBeSeen};
@@ -11,6 +13,7 @@ ghost use Rattle.udfs_common.specs.Refusing.{IsUnput};
 ghost use Rattle.udfs_reports.specs.Paging.{IsFreePage, IsPage, IsPageFree, IsPageOf, IsSparedPage, PageRefused};
 ghost use Rattle.udfs_reports.specs.Telling.{IsRefusedPut};
 
+use crate::giving::given_by;
 use std::alloc::{AllocError, Global};
 use udfs_common::files::Files;
 use udfs_common::guard::{Outlook, look_at_own};
@@ -20,11 +23,11 @@ use udfs_common::refusal::Refusal;
 use udfs_common::volumes::{joined_volume, unwritten_volume};
 use udfs_files::{Job, Stage};
 use udfs_lattice::BlockTable;
-use udfs_page::write_page;
+use udfs_overview::Given;
+use udfs_page::{Called, write_page};
 use udfs_reading::Sink;
 use udfs_remarks::looking::surveyed;
 use udfs_salvage::{RunError, Survey};
-use udfs_volume::Profile;
 use udfs_words::request::PageRequest;
 
 /// The beginning of a page that this program wrote.
@@ -44,6 +47,10 @@ enum PageError {
 struct PageText<'a, 'r> {
     /// Where memory is taken from.
     alloc: Global,
+    /// The arguments by which the disc is read.
+    given: &'a Given<'a>,
+    /// How the page is called.
+    called: &'a Called<'a>,
     /// What was found.
     survey: &'a Survey<'r>,
 }
@@ -53,12 +60,12 @@ impl<'a, 'r> Job for PageText<'a, 'r> {
 
     type Refusal = PageError;
 
-    ghost wrote = { λ job old new. Appends old new (page_html job.survey.now.profile job.survey.now.table.now job.survey.now.last (survey_now job.survey.now)) };
+    ghost wrote = { λ job old new. Appends old new (page_html (given_now job.given.now) (called_now job.called.now) job.survey.now.profile job.survey.now.table.now job.survey.now.last (survey_now job.survey.now)) };
 
     ghost blames_sink = { λ _ error. error ≡ page_error.NotWritten };
 
     fn write_to<W: Sink>(&self, sink: &mut W) -> Result<(), PageError> {
-        match write_page(self.alloc, self.survey, sink) {
+        match write_page(self.alloc, self.given, self.called, self.survey, sink) {
             Ok(()) => Ok(()),
             Err(RunError::Write) => Err(PageError::NotWritten),
             // Its only other error is out of memory.
@@ -87,14 +94,21 @@ fn look_at_page<F: Files>(
 /// written, so that memory can run out in the middle: then the new file is removed again.
 fn put_page<F: Files>(
     alloc: Global,
+    given: &Given<'_>,
+    called: &Called<'_>,
     survey: &Survey<'_>,
     path: &str,
     files: &mut F,
 ) -> Result<(), Refusal>
-    ensures puts { PutsAs ⟦<F as Known>⟧.reach (λ said bytes. bytes ≡ page_html survey.now.profile survey.now.table.now survey.now.last (survey_now survey.now)) path.now files.old files.new result }
+    ensures puts { PutsAs ⟦<F as Known>⟧.reach (λ said bytes. bytes ≡ page_html (given_now given.now) (called_now called.now) survey.now.profile survey.now.table.now survey.now.last (survey_now survey.now)) path.now files.old files.new result }
     ensures why { IfErr result (IsUnput (PutFails ⟦<F as Known>⟧.reach path.now files.old)) }
 {
-    let page = PageText { alloc, survey };
+    let page = PageText {
+        alloc,
+        given,
+        called,
+        survey,
+    };
     match put_job(alloc, &page, path, files) {
         Ok(Ok(())) => Ok(()),
         Ok(Err(PageError::OutOfMemory)) => Err(Refusal::Memory(AllocError)),
@@ -106,21 +120,25 @@ fn put_page<F: Files>(
 /// Puts the page of a table's volume by the rules of a profile at a path, and returns whether there are files and all of them are whole.
 fn page_of<F: Files>(
     alloc: Global,
+    request: &PageRequest<'_>,
     table: &BlockTable,
     last: u32,
-    profile: Profile,
-    path: &str,
     files: &mut F,
 ) -> Result<bool, Refusal>
-    ensures puts { PutsAs ⟦<F as Known>⟧.reach (λ whole bytes. IsPageOf profile last whole bytes table.now) path.now files.old files.new result }
-    ensures why { IfErr result (λ refusal. IsRefusedPut (PutFails ⟦<F as Known>⟧.reach path.now files.old) profile last refusal table.now) }
+    ensures puts { PutsAs ⟦<F as Known>⟧.reach (λ whole bytes. IsPageOf request.now last whole bytes table.now) request.now.out.now files.old files.new result }
+    ensures why { IfErr result (λ refusal. IsRefusedPut (PutFails ⟦<F as Known>⟧.reach request.now.out.now files.old) request.now.volume.profile last refusal table.now) }
 {
     files.begin(Stage::Walking);
-    let survey = match surveyed(alloc, table, last, profile) {
+    let survey = match surveyed(alloc, table, last, request.volume.profile) {
         Ok(survey) => survey,
         Err(refusal) => return Err(refusal),
     };
-    match put_page(alloc, &survey, path, files) {
+    let given = given_by(&request.volume, request.size);
+    let called = Called {
+        title: request.title,
+        out: request.out,
+    };
+    match put_page(alloc, &given, &called, &survey, request.out, files) {
         Ok(()) => Ok(survey.all_whole()),
         Err(refusal) => Err(refusal),
     }
@@ -156,14 +174,7 @@ pub fn page<F: Files>(
         Ok(disc) => disc,
         Err(refusal) => return Err(refusal),
     };
-    match page_of(
-        alloc,
-        &disc.table,
-        disc.last,
-        volume.profile,
-        request.out,
-        files,
-    ) {
+    match page_of(alloc, request, &disc.table, disc.last, files) {
         Ok(whole) => Ok(whole),
         Err(refusal) => Err(refusal),
     }

@@ -10,6 +10,7 @@ ghost use Rattle.udfs_common.specs.Refusing.{IsUnput};
 ghost use Rattle.udfs_reports.specs.Rereading.{IsMap, IsMapFree, IsMapOf, IsMapSpared, IsMapUnseen, IsRefusedDomain, MapRefused, breaks, domain_line, group_words, known_words, runs_in, wanted_words};
 
 use crate::comparing::{Asked, asked_in};
+use crate::paths::listed_for;
 use std::alloc::{AllocError, Global};
 use udfs_common::files::Files;
 use udfs_common::guard::{Outlook, look_at_map};
@@ -20,7 +21,6 @@ use udfs_common::volumes::{joined_volume, unwritten_volume};
 use udfs_files::{Content, Stage};
 use udfs_lattice::BlockTable;
 use udfs_reading::{Sink, WriteFault, write_all};
-use udfs_remarks::looking::listed;
 use udfs_remarks::remarks::remark_on_listing;
 use udfs_rescue::write_domain;
 use udfs_words::group::GroupSize;
@@ -176,9 +176,9 @@ fn put_domain<F: Files, O: Sink>(
     }
 }
 
-/// Puts the mapfile of the blocks of a table's volume that are worth reading again at a path, or of whole groups of them, and prints how many they are. Where
-/// the request asks for it and some are, known blocks are wanted beside them, by which a pass of another disc shows. It returns whether there are files and
-/// all of them are whole.
+/// Puts the mapfile of the blocks of a table's volume that are worth reading again for the paths of a request at a path, or of whole groups of them, and prints
+/// how many they are. Where the request asks for it and some are, known blocks are wanted beside them, by which a pass of another disc shows. It returns whether
+/// all nodes at those paths, below them and above them are whole, and there are some.
 #[tactic(auto, using(crate::proofs::RereadingLemmas::in_range, crate::proofs::RereadingLemmas::from_range))]
 fn map_of<F: Files, O: Sink>(
     alloc: Global,
@@ -193,7 +193,7 @@ fn map_of<F: Files, O: Sink>(
     ensures why { IfErr result (λ refusal. IsRefusedDomain (PutFails ⟦<F as Known>⟧.reach path.now files.old) request.now last (O.stream out.old) (O.stream out.new) refusal table.now) }
 {
     files.begin(Stage::Walking);
-    let listing = match listed(alloc, table, last, request.volume.profile) {
+    let listing = match listed_for(alloc, table, last, request) {
         Ok(listing) => listing,
         Err(refusal) => return Err(refusal),
     };
@@ -226,12 +226,14 @@ fn look_at_asked<F: Files>(
 }
 
 /// Prints how many blocks are worth reading again of the volume that is asked for, and then puts their mapfile at a path, whole or not at all. It returns
-/// whether there are files and all of them are whole. All inputs are opened in order before one is read, and the mapfile is begun only after all are joined.
+/// whether there are files and all of those that are asked for are whole, with the folders above them. All inputs are opened in order before one is read, and the
+/// mapfile is begun only after all are joined.
 ///
 /// # Errors
 ///
 /// `Spared` where the mapfile would take the place of an image or a mapfile of the inputs, or of a file that is no map of blocks to read again, and `Output` where
-/// that could not be found out; then where it is not known where the disc ends, or the inputs were not joined, or there is no report, or the line was not printed;
+/// that could not be found out; then where it is not known where the disc ends, or the inputs were not joined, or there is no report, or a path is no node's
+/// (`NoNode`), or the line was not printed;
 /// and then those of [`put_file`].
 pub fn reread_map<F: Files, O: Sink>(
     alloc: Global,

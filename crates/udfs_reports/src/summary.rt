@@ -1,5 +1,6 @@
 //! What `summary` prints: what a person wants to know of a volume.
 
+ghost use Rattle.udfs_overview.specs.Repeating.{given_now};
 ghost use Rattle.udfs_overview.specs.Summaries.{summary_text};
 
 use crate::telling::Telling;
@@ -8,7 +9,7 @@ use udfs_common::files::Files;
 use udfs_common::refusal::Refusal;
 use udfs_files::Stage;
 use udfs_lattice::BlockTable;
-use udfs_overview::write_summary;
+use udfs_overview::{Given, write_summary};
 use udfs_reading::Sink;
 use udfs_remarks::looking::surveyed;
 use udfs_remarks::no_reports::refused_run;
@@ -16,10 +17,13 @@ use udfs_volume::Profile;
 
 /// The summary. It says itself why a volume does not open, and whether sparing copies disagree, so nothing is remarked beside it.
 #[derive(Clone, Copy)]
-pub struct Summary;
+pub struct Summary<'a> {
+    /// The arguments by which the disc is read, as the commands that are named repeat them.
+    pub given: Given<'a>,
+}
 
-impl Telling for Summary {
-    ghost text = { λ _. summary_text };
+impl<'a> Telling for Summary<'a> {
+    ghost text = { λ summary. summary_text (given_now summary.given) };
 
     fn tell<F: Files, O: Sink>(
         &self,
@@ -35,7 +39,7 @@ impl Telling for Summary {
             Ok(survey) => survey,
             Err(refusal) => return Err(refusal),
         };
-        match write_summary(alloc, &survey, out) {
+        match write_summary(alloc, &self.given, &survey, out) {
             Ok(()) => Ok(survey.all_whole()),
             Err(error) => Err(refused_run(error)),
         }

@@ -12,14 +12,15 @@ use Rattle.udfs_volume.specs.declared.profiles.Profile.{Profile}
 use Rattle.udfs_volume.specs.declared.profiles.Profile.TheVariants.{Strict, Wide}
 use Rattle.udfs_volume.specs.Answers.{Answer, found, holes, faulty}
 use Rattle.udfs_volume.specs.Layout.{Partition}
+use Rattle.udfs_space.specs.Places.{view}
 use Rattle.udfs_walk.specs.NodeFields.{NodeFields}
 use Rattle.udfs_walk.specs.declared.answers.Unnamed.{Unnamed}
 use Rattle.udfs_salvage.specs.Found.{Found}
 use Rattle.udfs_salvage.specs.Reports.{Report}
 use Rattle.udfs_salvage.specs.Texts.{has_two}
 use Rattle.udfs_walk.specs.Rereads.{holes_of, missing_of}
-use Rattle.udfs_salvage.specs.JsonNodes.{count, hole_data, list_data, node_data, size_data, time_data, unnamed_data}
-use Rattle.udfs_salvage.specs.JsonReports.{label_data, label_data_of, map_name, open_members, packet_length_of, report_data_by, reread_data, volume_data, with_map_members, with_packet}
+use Rattle.udfs_salvage.specs.JsonNodes.{count, hole_data, list_data, node_data, node_in, size_data, tail_in, time_data, unnamed_data}
+use Rattle.udfs_salvage.specs.JsonReports.{label_data, label_data_of, map_name, nodes_data, open_members, packet_length_of, report_data_by, reread_data, volume_data, with_map_members, with_packet}
 
 pub none_in : {A : Type 0} (f : A → Data) (xs : List A) → ((x : A) → has_float (f x) ≡ false) → has_float (list_data f xs) ≡ false
 none_in f [] h = refl
@@ -33,9 +34,16 @@ size_none : (s : Option ℕ) → has_float (size_data s) ≡ false
 size_none None = refl
 size_none (Some n) = refl
 
-pub node_none : (n : NodeFields) → has_float (node_data n) ≡ false
+pub node_none : (tail : Bool) (n : NodeFields) → has_float (node_data tail n) ≡ false
 unfolding node_data
-node_none n = rw (none_in hole_data (holes_of n.standing) (λ x. refl), none_in count (missing_of n.standing) (λ x. refl), time_none n.stamp, size_none n.size) refl
+node_none true n = rw (none_in hole_data (holes_of n.standing) (λ x. refl), none_in count (missing_of n.standing) (λ x. refl), time_none n.stamp, size_none n.size) refl
+node_none false n = rw (none_in hole_data (holes_of n.standing) (λ x. refl), none_in count (missing_of n.standing) (λ x. refl), time_none n.stamp, size_none n.size) refl
+
+-- nor of its nodes
+nodes_none : (P : Profile) (M : Blocks) (a : Answer Found) (ns : List NodeFields) → has_float (nodes_data P M a ns) ≡ false
+nodes_none P M (found f) ns = none_in (node_in P (view M f.space)) ns (λ n. node_none (tail_in P (view M f.space) n.icb) n)
+nodes_none P M (holes unread) ns = none_in (node_data false) ns (node_none false)
+nodes_none P M (faulty fault) ns = none_in (node_data false) ns (node_none false)
 
 pub unnamed_none : (two : Bool) (u : Unnamed) → has_float (unnamed_data two u) ≡ false
 unfolding unnamed_data
@@ -73,14 +81,14 @@ pub report_none : (P : Profile) (t : Table) (last : ℕ) (r : Report) → has_fl
 unfolding report_data_by
 report_none Strict t last r = rw (
   label_of_none r.volume,
-  none_in node_data r.nodes node_none,
+  nodes_none Strict (state_of t) r.volume r.nodes,
   none_in (reread_data (state_of t)) r.reread (reread_none (state_of t)),
   none_in (unnamed_data (has_two r.volume)) r.unnamed (unnamed_none (has_two r.volume)),
   volume_none r.volume,
 ) refl
 report_none Wide t last r = rw (
   label_of_none r.volume,
-  none_in node_data r.nodes node_none,
+  nodes_none Wide (state_of t) r.volume r.nodes,
   none_in (reread_data (state_of t)) r.reread (reread_none (state_of t)),
   none_in (unnamed_data (has_two r.volume)) r.unnamed (unnamed_none (has_two r.volume)),
   volume_none r.volume,

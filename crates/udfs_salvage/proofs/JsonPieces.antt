@@ -26,9 +26,9 @@ use Rattle.udfs_salvage.specs.Surveys.{full_entries, full_nodes}
 use Rattle.udfs_salvage.specs.NodeTexts.{kind_name, path_name}
 use Rattle.udfs_salvage.specs.Texts.{has_two, line}
 use Rattle.udfs_walk.specs.Rereads.{holes_of, missing_of}
-use Rattle.udfs_salvage.specs.JsonNodes.{count, hole_data, list_data, node_data, size_data, time_data, unnamed_data}
-use Rattle.udfs_salvage.specs.JsonReports.{json_text_by, label_data_of, report_data_by, reread_data, volume_data}
-use Rattle.udfs_salvage.specs.JsonPieces.{counts_piece, end_piece, entry_end, entry_front, kind_piece, more_values, node_end, node_front, reference_piece, report_end, report_front, reread_words, standing_piece, told_piece}
+use Rattle.udfs_salvage.specs.JsonNodes.{count, hole_data, list_data, node_data, node_in, size_data, tail_in, time_data, unnamed_data}
+use Rattle.udfs_salvage.specs.JsonReports.{json_text_by, label_data_of, nodes_data, report_data_by, reread_data, volume_data}
+use Rattle.udfs_salvage.specs.JsonPieces.{counts_piece, end_piece, entry_end, entry_front, kind_piece, more_values, node_end, node_front, object_end, reference_piece, report_end, report_front, reread_words, standing_piece, told_piece}
 use Rattle.udfs_salvage.proofs.FullTexts.{same_name}
 
 -- the values behind the first one, and the closing bracket
@@ -46,11 +46,14 @@ list_text f x xs = ap (λ t. 91 ∷ (compact_text (f x) ++ t)) (sym (more_text f
 in_row : (a b c holes d kind e missing rest : List ℕ) → (a ++ (b ++ c)) ++ ((holes ++ ((d ++ (kind ++ e)) ++ missing)) ++ rest) ≡ a ++ (b ++ (c ++ (holes ++ (d ++ (kind ++ (e ++ (missing ++ rest)))))))
 in_row a b c holes d kind e missing rest = simp append_assoc
 
-pub node_pieces : (n : NodeFields) → node_front n.hidden ++ (told_piece n.standing n.kind ++ node_end n) ≡ compact_text (node_data n)
+pub node_pieces : (tail : Bool) (n : NodeFields) → node_front n.hidden ++ (told_piece n.standing n.kind ++ node_end tail n) ≡ compact_text (node_data tail n)
 unfolding node_front kind_piece node_end end_piece standing_piece node_data serde_json_on_literals
-node_pieces n =
+node_pieces true n =
     in_row (codes "{\"hidden\":") (compact_text (boolean n.hidden)) (codes ",\"holes\":") (compact_text (list_data hole_data (holes_of n.standing))) (codes ",\"kind\":")
-    (compact_text (string (kind_name n.kind))) (codes ",\"missing\":") (compact_text (list_data count (missing_of n.standing))) (node_end n)
+    (compact_text (string (kind_name n.kind))) (codes ",\"missing\":") (compact_text (list_data count (missing_of n.standing))) (node_end true n)
+node_pieces false n =
+    in_row (codes "{\"hidden\":") (compact_text (boolean n.hidden)) (codes ",\"holes\":") (compact_text (list_data hole_data (holes_of n.standing))) (codes ",\"kind\":")
+    (compact_text (string (kind_name n.kind))) (codes ",\"missing\":") (compact_text (list_data count (missing_of n.standing))) (node_end false n)
 
 with_two : (a b c d rest : List ℕ) → a ++ (b ++ ((c ++ d) ++ rest)) ≡ a ++ (b ++ (c ++ (d ++ rest)))
 with_two a b c d rest = ap (λ x. a ++ (b ++ x)) (append_assoc c d rest)
@@ -62,7 +65,7 @@ entry_pieces true u =
     (compact_text (string (kind_name u.kind))) (codes ",\"missing\":") (compact_text (list_data count (missing_of u.standing))) (entry_end true u)
     ∙ ap (λ x. codes "{\"block\":" ++ (compact_text (count u.block) ++ (codes ",\"holes\":" ++ (compact_text (list_data hole_data (holes_of u.standing)) ++ (codes ",\"kind\":"
     ++ (compact_text (string (kind_name u.kind)) ++ (codes ",\"missing\":" ++ (compact_text (list_data count (missing_of u.standing)) ++ x))))))))
-    (with_two (codes ",\"modified\":") (compact_text (time_data (Some u.stamp))) (codes ",\"reference\":") (compact_text (count u.reference)) (end_piece (Some u.size) u.standing))
+    (with_two (codes ",\"modified\":") (compact_text (time_data (Some u.stamp))) (codes ",\"reference\":") (compact_text (count u.reference)) (end_piece false (Some u.size) u.standing))
 entry_pieces false u =
     in_row (codes "{\"block\":") (compact_text (count u.block)) (codes ",\"holes\":") (compact_text (list_data hole_data (holes_of u.standing))) (codes ",\"kind\":")
     (compact_text (string (kind_name u.kind))) (codes ",\"missing\":") (compact_text (list_data count (missing_of u.standing))) (entry_end false u)
@@ -70,38 +73,40 @@ entry_pieces false u =
 -- ---- nodes and entries whose blocks and holes are found where they are told
 
 -- the lists are no part of the end of an object
-same_end : (lists : TornFields) (size : Option ℕ) (s : Standing) → end_piece size (with_lists lists s) ≡ end_piece size s
+same_end : (lists : TornFields) (tail : Bool) (size : Option ℕ) (s : Standing) → end_piece tail size (with_lists lists s) ≡ end_piece tail size s
 unfolding end_piece standing_piece
-same_end lists size s = ap (λ t. codes ",\"size\":" ++ (compact_text (size_data size) ++ (codes ",\"standing\":" ++ (compact_text (string t) ++ codes "}")))) (same_name lists s)
+same_end lists tail size s = ap (λ t. codes ",\"size\":" ++ (compact_text (size_data size) ++ (codes ",\"standing\":" ++ (compact_text (string t) ++ object_end tail)))) (same_name lists s)
 
-same_node_end : (v : View) (n : NodeFields) → node_end (full_node v n) ≡ node_end n
+same_node_end : (v : View) (tail : Bool) (n : NodeFields) → node_end tail (full_node v n) ≡ node_end tail n
 unfolding node_end
-same_node_end v n =
+same_node_end v tail n =
     ap (λ t. codes ",\"modified\":" ++ (compact_text (time_data n.stamp) ++ (codes ",\"path\":" ++ (compact_text (string (path_name n.path)) ++ t))))
-    (same_end (lists_at v n.icb) n.size n.standing)
+    (same_end (lists_at v n.icb) tail n.size n.standing)
 
 same_entry_end : (v : View) (two : Bool) (u : Unnamed) → entry_end two (full_entry v u) ≡ entry_end two u
 unfolding entry_end
 same_entry_end v two u =
     ap (λ t. codes ",\"modified\":" ++ (compact_text (time_data (Some u.stamp)) ++ (reference_piece two u.reference ++ t)))
-    (same_end (lists_at v (address_of (icb_at u.reference u.block))) (Some u.size) u.standing)
+    (same_end (lists_at v (address_of (icb_at u.reference u.block))) false (Some u.size) u.standing)
 
 -- what stands before a node, and its pieces
-node_behind : (front : List ℕ) (v : View) (n : NodeFields) (s : Standing) → s ≡ with_lists (lists_at v n.icb) n.standing
-    → (front ++ node_front n.hidden) ++ (told_piece s n.kind ++ node_end n) ≡ front ++ compact_text (node_data (full_node v n))
-node_behind front v n s is =
-    append_assoc front (node_front n.hidden) (told_piece s n.kind ++ node_end n)
-    ∙ ap (λ t. front ++ (node_front n.hidden ++ (told_piece t n.kind ++ node_end n))) is
-    ∙ ap (λ t. front ++ (node_front n.hidden ++ (told_piece (with_lists (lists_at v n.icb) n.standing) n.kind ++ t))) (sym (same_node_end v n))
-    ∙ ap (λ t. front ++ t) (node_pieces (full_node v n))
+node_behind : (front : List ℕ) (v : View) (tail : Bool) (n : NodeFields) (s : Standing) → s ≡ with_lists (lists_at v n.icb) n.standing
+    → (front ++ node_front n.hidden) ++ (told_piece s n.kind ++ node_end tail n) ≡ front ++ compact_text (node_data tail (full_node v n))
+node_behind front v tail n s is =
+    append_assoc front (node_front n.hidden) (told_piece s n.kind ++ node_end tail n)
+    ∙ ap (λ t. front ++ (node_front n.hidden ++ (told_piece t n.kind ++ node_end tail n))) is
+    ∙ ap (λ t. front ++ (node_front n.hidden ++ (told_piece (with_lists (lists_at v n.icb) n.standing) n.kind ++ t))) (sym (same_node_end v tail n))
+    ∙ ap (λ t. front ++ t) (node_pieces tail (full_node v n))
 
 -- the same where the fields were read one by one
-pub full_node_pieces : (front : List ℕ) (v : View) (n : NodeFields) (hidden : Bool) (k : Kind) (s : Standing) → hidden ≡ n.hidden → k ≡ n.kind → s ≡ with_lists (lists_at v n.icb) n.standing
-    → (front ++ node_front hidden) ++ (told_piece s k ++ node_end n) ≡ front ++ compact_text (node_data (full_node v n))
-full_node_pieces front v n hidden k s same_hidden same_kind is =
-    ap (λ h. (front ++ node_front h) ++ (told_piece s k ++ node_end n)) same_hidden
-    ∙ ap (λ l. (front ++ node_front n.hidden) ++ (told_piece s l ++ node_end n)) same_kind
-    ∙ node_behind front v n s is
+pub full_node_pieces : (front : List ℕ) (P : Profile) (v : View) (n : NodeFields) (hidden : Bool) (k : Kind) (s : Standing) (tail : Bool) → hidden ≡ n.hidden → k ≡ n.kind
+    → s ≡ with_lists (lists_at v n.icb) n.standing → tail ≡ tail_in P v n.icb
+    → (front ++ node_front hidden) ++ (told_piece s k ++ node_end tail n) ≡ front ++ compact_text (node_in P v (full_node v n))
+full_node_pieces front P v n hidden k s tail same_hidden same_kind is marked =
+    ap (λ h. (front ++ node_front h) ++ (told_piece s k ++ node_end tail n)) same_hidden
+    ∙ ap (λ l. (front ++ node_front n.hidden) ++ (told_piece s l ++ node_end tail n)) same_kind
+    ∙ node_behind front v tail n s is
+    ∙ ap (λ t. front ++ compact_text (node_data t (full_node v n))) marked
 
 -- the same of an entry
 pub full_entry_pieces : (front : List ℕ) (v : View) (two : Bool) (u : Unnamed) (s : Standing) → s ≡ with_lists (lists_at v (address_of (icb_at u.reference u.block))) u.standing
@@ -117,9 +122,10 @@ pub full_list : {A B : Type 0} (f : B → Data) (g : A → B) (xs : List A) → 
 full_list f g xs = ap (λ ds. array (items_of ds)) (sym (map-map f g xs))
 
 -- where the volume opens, the nodes of a survey are told with what they lack
-pub survey_nodes : (M : Blocks) (a : Answer Found) (f : Found) (ns : List NodeFields) → a ≡ found f
-    → compact_text (list_data (λ n. node_data (full_node (view M f.space) n)) ns) ≡ compact_text (list_data node_data (full_nodes M a ns))
-survey_nodes M a f ns is = ap compact_text (full_list node_data (full_node (view M f.space)) ns) ∙ ap (λ x. compact_text (list_data node_data (full_nodes M x ns))) (sym is)
+pub survey_nodes : (P : Profile) (M : Blocks) (a : Answer Found) (f : Found) (ns : List NodeFields) → a ≡ found f
+    → compact_text (list_data (λ n. node_in P (view M f.space) (full_node (view M f.space) n)) ns) ≡ compact_text (nodes_data P M a (full_nodes M a ns))
+survey_nodes P M a f ns is =
+    ap compact_text (full_list (node_in P (view M f.space)) (full_node (view M f.space)) ns) ∙ ap (λ x. compact_text (nodes_data P M x (full_nodes M x ns))) (sym is)
 
 -- the same of its entries
 pub survey_entries : (M : Blocks) (a : Answer Found) (f : Found) (two : Bool) (us : List Unnamed) → a ≡ found f
@@ -141,7 +147,7 @@ in_line a nodes b rereads c unnamed d volume e z = simp append_assoc
 pub keys_of : (P : Profile) (t : Table) (last : ℕ) (r : Report) →
     codes "{\"conflict\":" ++ (compact_text (count (conflict_count t)) ++ (codes ",\"known\":" ++ (compact_text (count (known_count t))
     ++ (codes ",\"label\":" ++ (compact_text (label_data_of r.volume) ++ (codes ",\"last\":" ++ (compact_text (count last)
-    ++ (codes ",\"nodes\":" ++ (compact_text (list_data node_data r.nodes)
+    ++ (codes ",\"nodes\":" ++ (compact_text (nodes_data P (state_of t) r.volume r.nodes)
     ++ (reread_words P ++ (compact_text (list_data (reread_data (state_of t)) r.reread)
     ++ (codes ",\"unnamed\":" ++ (compact_text (list_data (unnamed_data (has_two r.volume)) r.unnamed)
     ++ (codes ",\"volume\":" ++ (compact_text (volume_data r.volume) ++ codes "}")))))))))))))))
@@ -151,14 +157,14 @@ keys_of Strict t last r = refl
 keys_of Wide t last r = refl
 
 pub report_pieces : (P : Profile) (t : Table) (last : ℕ) (r : Report) →
-    report_front t last r.volume ++ (compact_text (list_data node_data r.nodes)
+    report_front t last r.volume ++ (compact_text (nodes_data P (state_of t) r.volume r.nodes)
     ++ (reread_words P ++ (compact_text (list_data (reread_data (state_of t)) r.reread)
     ++ (codes ",\"unnamed\":" ++ (compact_text (list_data (unnamed_data (has_two r.volume)) r.unnamed)
     ++ (report_end r.volume ++ codes "\n"))))))
     ≡ line (json_text_by P t last r)
 unfolding report_front counts_piece report_end
 report_pieces P t last r =
-    let nodes = compact_text (list_data node_data r.nodes) in
+    let nodes = compact_text (nodes_data P (state_of t) r.volume r.nodes) in
     let rereads = compact_text (list_data (reread_data (state_of t)) r.reread) in
     let unnamed = compact_text (list_data (unnamed_data (has_two r.volume)) r.unnamed) in
     let volume = compact_text (volume_data r.volume) in

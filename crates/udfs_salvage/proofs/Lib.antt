@@ -36,3 +36,9 @@ pub mod PublicLaws
 pub mod UnnamedEntries
 pub mod ListedNodes
 pub mod KeptLists
+pub mod ChoosingLemmas
+pub mod AskedNames
+mod ChosenAll
+pub mod InLineNames
+pub mod InLineLists
+pub mod RereadingFor

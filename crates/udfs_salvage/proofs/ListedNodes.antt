@@ -16,7 +16,10 @@ use Rattle.udfs_salvage.specs.Reports.{all_whole}
 use Rattle.udfs_walk.specs.Unsettled.{is_whole}
 use Rattle.udfs_salvage.specs.UnnamedExtraction.{is_file, is_lost_file}
 use Rattle.udfs_salvage.specs.declared.extraction.Fill.{Fill}
-use Rattle.std.specs.Prelude.{nat_lt, ◌&&◌}
+use Rattle.std.specs.Prelude.{nat_lt, ◌&&◌, ◌||◌}
+use Rattle.std.specs.Str.{bytes_eq}
+use Rattle.udfs_salvage.specs.Choosing.{is_node}
+use Rattle.udfs_salvage.specs.NodeTexts.{path_name}
 
 -- the blocks and the holes do not say whether a node is written
 pub same_offered : (M : Blocks) (a : Answer Found) (at : LongAd) (s : Standing) (size : Option ℕ) (fill : Fill) → is_offered (standing_in M a at s) size fill ≡ is_offered s size fill
@@ -54,3 +57,8 @@ pub same_full : {A : Type 0} (f : A → A) (xs : List A) (i : ℕ) (x m : A) →
 same_full f [] i x m at is = let bad : None ≡ Some x = at in absurd (let z : ⊥ = cc in z)
 same_full f (y ∷ ys) zero x m at is = let e : f y ≡ x = cc in ap f is ∙ e
 same_full f (y ∷ ys) (suc i) x m at is = same_full f ys i x m at is
+
+-- nor whether a path is that of a node
+pub same_node : (M : Blocks) (a : Answer Found) (ns : List NodeFields) (word : List ℕ) → is_node (map (full_in M a) ns) word ≡ is_node ns word
+same_node M a [] word = refl
+same_node M a (n ∷ ns) word = ap (λ b. bytes_eq (path_name n.path) word || b) (same_node M a ns word)

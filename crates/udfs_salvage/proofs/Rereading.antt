@@ -36,39 +36,39 @@ use Rattle.udfs_salvage.proofs.RulesFound.{found_rules}
 use Rattle.udfs_salvage.proofs.VolumeLaw.{volume_law, tells_lawful}
 
 -- ---- the volume, and its complete view
-abbrev all_of : (P : Profile) (V : Volume) (N : ℕ) → IsLawfulBy P V N → View
+abbrev pub all_of : (P : Profile) (V : Volume) (N : ℕ) → IsLawfulBy P V N → View
 all_of P V N l = view (complete V N) l.is_volume.found_is.space
 
 -- what a table knows of it
-abbrev part_of : (P : Profile) (T : Blocks) (V : Volume) (N : ℕ) → IsLawfulBy P V N → View
+abbrev pub part_of : (P : Profile) (T : Blocks) (V : Volume) (N : ℕ) → IsLawfulBy P V N → View
 part_of P T V N l = view T l.is_volume.found_is.space
 
 -- a table that agrees knows a part of the complete view
-part_is : (P : Profile) (T : Blocks) (V : Volume) (N : ℕ) (l : IsLawfulBy P V N) → Agrees T V N → IsPartOf (part_of P T V N l) (all_of P V N l)
+pub part_is : (P : Profile) (T : Blocks) (V : Volume) (N : ℕ) (l : IsLawfulBy P V N) → Agrees T V N → IsPartOf (part_of P T V N l) (all_of P V N l)
 part_is P T V N l a = let by : FoundBy P (complete V N) N l.is_volume.found_is = found_by P (complete V N) N l.is_volume.found_is l.is_volume.finds in
     places_are_blocks_by P T V N l.is_volume.found_is.layout l.is_volume.found_is.space l.is_volume.volume_is by.layout_is by.space_is a
 
 -- the blocks of its partitions
-abbrev blocks_of : (P : Profile) (V : Volume) (N : ℕ) → IsLawfulBy P V N → PartitionBlocks
+abbrev pub blocks_of : (P : Profile) (V : Volume) (N : ℕ) → IsLawfulBy P V N → PartitionBlocks
 blocks_of P V N l = (read_as P V N l).opened.blocks
 
 -- what is in the tree is in the volume
-tree_up : (P : Profile) (V : Volume) (N : ℕ) (l : IsLawfulBy P V N) (path : List (List ℕ)) (file : TreeFile) → InTree (blocks_of P V N l) l.is_volume.found_is.root path file → IsInVolumeBy P V N path file
+pub tree_up : (P : Profile) (V : Volume) (N : ℕ) (l : IsLawfulBy P V N) (path : List (List ℕ)) (file : TreeFile) → InTree (blocks_of P V N l) l.is_volume.found_is.root path file → IsInVolumeBy P V N path file
 tree_up P V N l path file t = let s : ReadAs P V N l.is_volume.found_is = read_as P V N l in
     (s.opened, s.is_opened, subst (λ z. InTree s.opened.blocks z.root path file) (sym s.is_found) t)
 
 -- and what is in the volume is in its tree
-tree_down : (P : Profile) (V : Volume) (N : ℕ) (l : IsLawfulBy P V N) (path : List (List ℕ)) (file : TreeFile) → IsInVolumeBy P V N path file → InTree (blocks_of P V N l) l.is_volume.found_is.root path file
+pub tree_down : (P : Profile) (V : Volume) (N : ℕ) (l : IsLawfulBy P V N) (path : List (List ℕ)) (file : TreeFile) → IsInVolumeBy P V N path file → InTree (blocks_of P V N l) l.is_volume.found_is.root path file
 tree_down P V N l path file (o, is, t) = let s : ReadAs P V N l.is_volume.found_is = read_as P V N l in
     subst (λ z. InTree s.opened.blocks z.root path file) s.is_found (subst (λ z. InTree z.blocks z.root path file) (s.only o is) t)
 
 -- a group of the volume is needed for every path
-volume_up : (P : Profile) (V : Volume) (N : ℕ) (l : IsLawfulBy P V N) (path : List (List ℕ)) (g : List ℕ) → IsVolumeGroup V N l.is_volume.found_is g → IsNeededIn P V N path g
+pub volume_up : (P : Profile) (V : Volume) (N : ℕ) (l : IsLawfulBy P V N) (path : List (List ℕ)) (g : List ℕ) → IsVolumeGroup V N l.is_volume.found_is g → IsNeededIn P V N path g
 volume_up P V N l path g x = let s : ReadAs P V N l.is_volume.found_is = read_as P V N l in
     (s.opened, s.is_opened, for_volume (subst (λ z. IsVolumeGroup V N z g) (sym s.is_found) x))
 
 -- a group that a node of the tree needs is needed in the volume
-node_up : (P : Profile) (V : Volume) (N : ℕ) (l : IsLawfulBy P V N) (path : List (List ℕ)) (g : List ℕ) → Needs (all_of P V N l) (blocks_of P V N l) l.is_volume.found_is.root path g → IsNeededIn P V N path g
+pub node_up : (P : Profile) (V : Volume) (N : ℕ) (l : IsLawfulBy P V N) (path : List (List ℕ)) (g : List ℕ) → Needs (all_of P V N l) (blocks_of P V N l) l.is_volume.found_is.root path g → IsNeededIn P V N path g
 node_up P V N l path g x = let s : ReadAs P V N l.is_volume.found_is = read_as P V N l in
     (s.opened, s.is_opened, for_node (subst (λ z. Needs (view (complete V N) z.space) s.opened.blocks z.root path g) (sym s.is_found) x))
 
@@ -85,21 +85,21 @@ needs_down P V N l path g (o, is, n) = go (subst (λ z. NeedsOf V N z path g) (s
     go (for_node x) = inr (subst (λ z. Needs (view (complete V N) z.space) s.opened.blocks z.root path g) s.is_found x)
 
 -- the root is in the tree
-root_in_tree : (P : Profile) (V : Volume) (N : ℕ) → IsLawfulBy P V N → (file : TreeFile) × IsInVolumeBy P V N [] file
+pub root_in_tree : (P : Profile) (V : Volume) (N : ℕ) → IsLawfulBy P V N → (file : TreeFile) × IsInVolumeBy P V N [] file
 root_in_tree P V N l = let h : (file : TreeFile) × InTree (blocks_of P V N l) l.is_volume.found_is.root [] file =
     root_is_in_tree (all_of P V N l) (blocks_of P V N l) (read_as P V N l).is_whole l.is_volume.found_is.root (lawful_tree P V N l) in
     (h.0, tree_up P V N l [] h.0 h.1)
 
 -- ---- what the report of a lawful volume is
 -- its nodes, where each group of the volume has a known block; or no nodes, and what has to be read before there are any
-data IsOpenOrShut (T : Blocks) (V : Volume) (N : ℕ) (f : Found) (report : Report) : Type 0 where
+pub data IsOpenOrShut (T : Blocks) (V : Volume) (N : ℕ) (f : Found) (report : Report) : Type 0 where
   is_open : report.volume ≡ found f → AreNodes (view T f.space) f.root report.nodes → report.reread ≡ reread report.nodes
       → ((g : List ℕ) → IsVolumeGroup V N f g → HasKnown T g) → IsOpenOrShut T V N f report
   is_shut : (listed : List ℕ) → report.volume ≡ holes listed → report.reread ≡ listed
       → ListsGroup T (valid_anchors V N) (anchor_places N) (IsVolumeGroup V N f) listed → IsOpenOrShut T V N f report
 
 -- one of both it is
-open_or_shut : (P : Profile) (T : Blocks) (V : Volume) (N : ℕ) (l : IsLawfulBy P V N) → Agrees T V N → (report : Report) → IsReportBy P T N report → IsOpenOrShut T V N l.is_volume.found_is report
+pub open_or_shut : (P : Profile) (T : Blocks) (V : Volume) (N : ℕ) (l : IsLawfulBy P V N) → Agrees T V N → (report : Report) → IsReportBy P T N report → IsOpenOrShut T V N l.is_volume.found_is report
 open_or_shut P T V N l a report r = go report.volume refl (tells_lawful P T N report.volume r.volume_is V l.is_volume a) r.by_volume
   where
     f : Found
@@ -111,24 +111,24 @@ open_or_shut P T V N l a report r = go report.volume refl (tells_lawful P T N re
     go (faulty fault) e t b = absurd t
 
 -- a report of a volume that does not open has nothing whole
-shut_has_none : {A : Type 0} (T : Blocks) (report : Report) (listed : List ℕ) (path : List (List ℕ)) (file : TreeFile) → report.volume ≡ holes listed → IsReportedWhole T report path file → A
+pub shut_has_none : {A : Type 0} (T : Blocks) (report : Report) (listed : List ℕ) (path : List (List ℕ)) (file : TreeFile) → report.volume ≡ holes listed → IsReportedWhole T report path file → A
 shut_has_none T report listed path file h (f, e, x) = absurd (let t : holes listed ≡ found f = sym h ∙ e in let z : ⊥ = cc in z)
 
 -- what is whole in a report that opens is whole in its list
-listed_whole : (T : Blocks) (report : Report) (f : Found) (path : List (List ℕ)) (file : TreeFile) → report.volume ≡ found f → IsReportedWhole T report path file
+pub listed_whole : (T : Blocks) (report : Report) (f : Found) (path : List (List ℕ)) (file : TreeFile) → report.volume ≡ found f → IsReportedWhole T report path file
     → IsListedWhole (view T f.space) f.root report.nodes path file
 listed_whole T report f path file e (g, h, x) = subst (λ z. IsListedWhole (view T z.space) z.root report.nodes path file) (found_same g f (sym h ∙ e)) x
 
 -- ---- what is whole is met
 -- a file of the tree as which a node is whole, where all that it needs is known
-record IsWholeAndMet (P : Profile) (T : Blocks) (V : Volume) (N : ℕ) (report : Report) (path : List (List ℕ)) (file : TreeFile) : Type 0 where
-  other : TreeFile
-  in_volume : IsInVolumeBy P V N path other
-  is_met : IsMetBy P T V N path
-  alike : (m : NodeFields) (es : List Cell) → IsWholeAs P m other es → IsWholeAs P m file es
+pub record IsWholeAndMet (P : Profile) (T : Blocks) (V : Volume) (N : ℕ) (report : Report) (path : List (List ℕ)) (file : TreeFile) : Type 0 where
+  pub other : TreeFile
+  pub in_volume : IsInVolumeBy P V N path other
+  pub is_met : IsMetBy P T V N path
+  pub alike : (m : NodeFields) (es : List Cell) → IsWholeAs P m other es → IsWholeAs P m file es
 
 -- what is whole has a known block in each group, since what is whole over a part has
-whole_and_met : (P : Profile) (T : Blocks) (V : Volume) (N : ℕ) (l : IsLawfulBy P V N) → Agrees T V N → (report : Report) → IsReportBy P T N report → (path : List (List ℕ)) (file : TreeFile)
+pub whole_and_met : (P : Profile) (T : Blocks) (V : Volume) (N : ℕ) (l : IsLawfulBy P V N) → Agrees T V N → (report : Report) → IsReportBy P T N report → (path : List (List ℕ)) (file : TreeFile)
     → IsReportedWhole T report path file → IsWholeAndMet P T V N report path file
 whole_and_met P T V N l a report r path file w = go (open_or_shut P T V N l a report r)
   where
@@ -164,7 +164,7 @@ whole_and_met P T V N l a report r path file w = go (open_or_shut P T V N l a re
 
 -- ---- the list of blocks to read again
 -- each group of the volume has a block
-group_has : (P : Profile) (V : Volume) (N : ℕ) (l : IsLawfulBy P V N) (g : List ℕ) → IsVolumeGroup V N l.is_volume.found_is g → (n : ℕ) × Contains g n
+pub group_has : (P : Profile) (V : Volume) (N : ℕ) (l : IsLawfulBy P V N) (g : List ℕ) → IsVolumeGroup V N l.is_volume.found_is g → (n : ℕ) × Contains g n
 group_has P V N l g i = go (volume_law P (complete V N) V N l.is_volume (complete_agrees V N))
   where
     go : IsAnswerOf (complete V N) (valid_anchors V N) (anchor_places N) (IsVolumeGroup V N l.is_volume.found_is) (volume_by P (complete V N) N) (volume_by P (complete V N) N) → (n : ℕ) × Contains g n
@@ -266,7 +266,7 @@ stays_whole P T N report r V l a M other b q k path file w = go (met_is_reported
         (f, e, (i, n, cs, get, named, at, subst (λ p. IsWholeAs p n file cs) (sym rules) (x.alike n cs (subst (λ p. IsWholeAs p n x.other cs) rules is))))
 
 -- what neither of two tables knows, their join does not know
-unread_join : (a b : State) → is_known a ≡ false → is_known b ≡ false → is_known (join_of a b) ≡ false
+pub unread_join : (a b : State) → is_known a ≡ false → is_known b ≡ false → is_known (join_of a b) ≡ false
 unread_join Unknown b u v = v
 unread_join (Known x) b u v = absurd (let z : ⊥ = cc in z)
 unread_join Conflict b u v = refl

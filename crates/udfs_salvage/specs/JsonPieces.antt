@@ -37,17 +37,22 @@ kind_piece k = codes ",\"kind\":" ++ (compact_text (string (kind_name k)) ++ cod
 abbrev pub told_piece : Standing → Kind → List ℕ
 told_piece s k = compact_text (list_data hole_data (holes_of s)) ++ (kind_piece k ++ compact_text (list_data count (missing_of s)))
 
--- the standing, which ends an object
-unfoldable pub standing_piece : Standing → List ℕ
-standing_piece s = codes ",\"standing\":" ++ (compact_text (string (standing_name s)) ++ codes "}")
+-- what ends an object: the mark of a body that is read by the tail of its last extent, if it is, and the brace
+abbrev pub object_end : Bool → List ℕ
+object_end true = codes ",\"tail\":true}"
+object_end false = codes "}"
+
+-- the standing, and the end of the object
+unfoldable pub standing_piece : Bool → Standing → List ℕ
+standing_piece tail s = codes ",\"standing\":" ++ (compact_text (string (standing_name s)) ++ object_end tail)
 
 -- the size, and the standing
-unfoldable pub end_piece : Option ℕ → Standing → List ℕ
-end_piece size s = codes ",\"size\":" ++ (compact_text (size_data size) ++ standing_piece s)
+unfoldable pub end_piece : Bool → Option ℕ → Standing → List ℕ
+end_piece tail size s = codes ",\"size\":" ++ (compact_text (size_data size) ++ standing_piece tail s)
 
 -- the rest of the object of a node, after its missing blocks
-unfoldable pub node_end : NodeFields → List ℕ
-node_end n = codes ",\"modified\":" ++ (compact_text (time_data n.stamp) ++ (codes ",\"path\":" ++ (compact_text (string (path_name n.path)) ++ end_piece n.size n.standing)))
+unfoldable pub node_end : Bool → NodeFields → List ℕ
+node_end tail n = codes ",\"modified\":" ++ (compact_text (time_data n.stamp) ++ (codes ",\"path\":" ++ (compact_text (string (path_name n.path)) ++ end_piece tail n.size n.standing)))
 
 -- the partition reference where there are two partitions
 abbrev pub reference_piece : Bool → ℕ → List ℕ
@@ -56,7 +61,7 @@ reference_piece false r = []
 
 -- the rest of the object of an entry, after its missing blocks
 unfoldable pub entry_end : Bool → Unnamed → List ℕ
-entry_end two u = codes ",\"modified\":" ++ (compact_text (time_data (Some u.stamp)) ++ (reference_piece two u.reference ++ end_piece (Some u.size) u.standing))
+entry_end two u = codes ",\"modified\":" ++ (compact_text (time_data (Some u.stamp)) ++ (reference_piece two u.reference ++ end_piece false (Some u.size) u.standing))
 
 -- how many blocks are in conflict, and how many are known
 unfoldable pub counts_piece : Table → List ℕ

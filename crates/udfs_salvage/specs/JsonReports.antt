@@ -1,7 +1,7 @@
 -- The JSON of a report. Keys are in byte order.
 --     report_data_by profile table last r    all of it, by the rules of a profile
 --     json_text_by profile table last r      its compact text
-use Rattle.std.specs.Prelude.{ℕ, List, [], ◌∷◌, codes, Option, Some, None}
+use Rattle.std.specs.Prelude.{ℕ, false, List, [], ◌∷◌, codes, Option, Some, None}
 use Rattle.serde_json.specs.Data.{Data, null, string, object, Members, member, no_members, put}
 use Rattle.serde_json.specs.Written.{compact_text}
 use Rattle.udfs_volume.specs.declared.profiles.Profile.{Profile}
@@ -16,10 +16,12 @@ use Rattle.udfs_osta.specs.declared.labels.Label.TheVariants as label
 use Rattle.udfs_volume.specs.Answers.{Answer, found, holes, faulty}
 use Rattle.udfs_volume.specs.FaultNames.{volume_fault_name}
 use Rattle.udfs_volume.specs.Layout.{Partition, PartitionMap, type1, sparable}
+use Rattle.udfs_space.specs.Places.{view}
+use Rattle.udfs_walk.specs.NodeFields.{NodeFields}
 use Rattle.udfs_salvage.specs.Found.{Found}
 use Rattle.udfs_salvage.specs.Reports.{Report}
 use Rattle.udfs_salvage.specs.Texts.{volume_fault_number, has_two, revision_text}
-use Rattle.udfs_salvage.specs.JsonNodes.{count, list_data, node_data, unnamed_data}
+use Rattle.udfs_salvage.specs.JsonNodes.{count, list_data, node_data, node_in, unnamed_data}
 
 -- ---- the volume
 
@@ -94,6 +96,14 @@ label_data_of (found f) = label_data f.layout.label
 label_data_of (holes blocks) = null
 label_data_of (faulty f) = null
 
+-- ---- the nodes
+
+-- the nodes of a report, by what its volume is: only in one that opens a body can be marked
+abbrev pub nodes_data : Profile → Blocks → Answer Found → List NodeFields → Data
+nodes_data profile blocks (found f) nodes = list_data (node_in profile (view blocks f.space)) nodes
+nodes_data profile blocks (holes unread) nodes = list_data (node_data false) nodes
+nodes_data profile blocks (faulty fault) nodes = list_data (node_data false) nodes
+
 -- ---- the blocks to read again
 
 -- the keyword for the state of a block to read again
@@ -125,7 +135,7 @@ report_data_by profile table last report = object (
     (member (codes "known") (count (known_count table))
     (member (codes "label") (label_data_of report.volume)
     (member (codes "last") (count last)
-    (member (codes "nodes") (list_data node_data report.nodes)
+    (member (codes "nodes") (nodes_data profile (state_of table) report.volume report.nodes)
     (with_profile profile (member (codes "reread") (list_data (reread_data (state_of table)) report.reread)
     (member (codes "unnamed") (list_data (unnamed_data (has_two report.volume)) report.unnamed)
     (member (codes "volume") (volume_data report.volume)

@@ -19,3 +19,5 @@ pub mod Listings
 pub mod JsonPieces
 pub mod UnnamedExtraction
 pub mod KeptLists
+pub mod Choosing
+pub mod InLine

@@ -1,11 +1,12 @@
 //! The JSON of nodes, and of entries that no name leads to.
 
-ghost use Rattle.std.specs.Prelude.{◌≡◌, IfOk};
+ghost use Rattle.std.specs.Prelude.{◌≡◌, false, IfOk};
 ghost use Rattle.serde_json.specs.Data.{string};
 ghost use Rattle.serde_json.specs.View.{members_view, view};
+ghost use Rattle.udfs_space.specs.Views.{view_now};
 ghost use Rattle.udfs_salvage.specs.NodeTexts.{kind_name, path_name, standing_name};
 ghost use Rattle.udfs_walk.specs.Rereads.{holes_of, missing_of};
-ghost use Rattle.udfs_salvage.specs.JsonNodes.{count, hole_data, list_data, node_data, size_data, time_data, told_members, unnamed_data};
+ghost use Rattle.udfs_salvage.specs.JsonNodes.{count, hole_data, list_data, node_data, node_in, size_data, tail_in, time_data, told_members, unnamed_data};
 
 use crate::appending::{push_path_name, push_word};
 use crate::words::{kind_word, standing_word};
@@ -13,7 +14,10 @@ use serde_json::{Map, Value, json, put};
 use std::alloc::{AllocError, Global};
 use udfs_file::Kind;
 use udfs_osta::Stamp;
-use udfs_walk::{Node, Path, Standing, Unnamed};
+use udfs_space::View;
+use udfs_tag::LongAd;
+use udfs_volume::Profile;
+use udfs_walk::{Node, Path, Standing, Unnamed, tail_at};
 
 /// A standing.
 pub(crate) fn standing_value(alloc: Global, standing: &Standing) -> Result<Value, AllocError>
@@ -140,24 +144,72 @@ fn told_members(
     Ok(members)
 }
 
-/// A node.
-fn node_value(alloc: Global, node: &Node) -> Result<Value, AllocError>
-    ensures { IfOk result (λ v. view v ≡ node_data node.now) }
+/// Whether the body at an address is marked as read by the tail of its last extent: by the strict rules none is.
+pub(crate) fn tail_in(
+    alloc: Global,
+    profile: Profile,
+    view: View<'_>,
+    address: LongAd,
+) -> Result<bool, AllocError>
+    ensures { IfOk result (λ tail. tail ≡ tail_in profile (view_now view.entry) address) }
+{
+    match profile {
+        Profile::Strict => Ok(false),
+        Profile::Wide => tail_at(alloc, view, address),
+    }
+}
+
+/// A node, whose body is marked as read by the tail of its last extent or not.
+fn node_value(alloc: Global, tail: bool, node: &Node) -> Result<Value, AllocError>
+    ensures { IfOk result (λ v. view v ≡ node_data tail node.now) }
 {
     let path = path_value(alloc, &node.path)?;
     let mut members = told_members(alloc, &node.standing, node.kind, node.size, node.stamp)?;
     put(&mut members, alloc, "hidden", Value::from(node.hidden))?;
     put(&mut members, alloc, "path", path)?;
+    if tail {
+        put(&mut members, alloc, "tail", Value::from(true))?;
+        return Ok(Value::Object(members));
+    }
     Ok(Value::Object(members))
 }
 
-/// Nodes.
+/// Nodes of which no body is marked.
 pub(crate) fn nodes_value(alloc: Global, nodes: &[Node]) -> Result<Value, AllocError>
-    ensures { IfOk result (λ v. view v ≡ list_data node_data nodes.now) }
+    ensures { IfOk result (λ v. view v ≡ list_data (node_data false) nodes.now) }
 {
     let mut items = Vec::new(alloc);
     for node in nodes {
-        items.push(node_value(alloc, node)?)?;
+        items.push(node_value(alloc, false, node)?)?;
+    }
+    Ok(Value::Array(items))
+}
+
+/// A node in a view.
+fn node_value_in(
+    alloc: Global,
+    profile: Profile,
+    volume: View<'_>,
+    node: &Node,
+) -> Result<Value, AllocError>
+    ensures { IfOk result (λ v. view v ≡ node_in profile (view_now volume.entry) node.now) }
+{
+    let tail = tail_in(alloc, profile, volume, node.icb)?;
+    node_value(alloc, tail, node)
+}
+
+/// Nodes in a view.
+pub(crate) fn nodes_value_in(
+    alloc: Global,
+    profile: Profile,
+    volume: View<'_>,
+    nodes: &[Node],
+) -> Result<Value, AllocError>
+    ensures { IfOk result (λ v. view v ≡ list_data (node_in profile (view_now volume.entry)) nodes.now) }
+{
+    let mut items = Vec::new(alloc);
+    for node in nodes {
+        items.push(node_value_in(alloc, profile, volume, node)?)?;
     }
     Ok(Value::Array(items))
 }

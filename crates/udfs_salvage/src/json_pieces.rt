@@ -6,7 +6,7 @@ ghost use Rattle.serde_json.specs.View.{view};
 ghost use Rattle.serde_json.specs.Written.{compact_text, has_float};
 ghost use Rattle.udfs_salvage.specs.Found.{volume_now};
 ghost use Rattle.udfs_salvage.specs.JsonNodes.{count};
-ghost use Rattle.udfs_salvage.specs.JsonPieces.{counts_piece, end_piece, entry_end, entry_front, kind_piece, node_end, node_front, reference_piece, report_end, report_front, reread_words, standing_piece};
+ghost use Rattle.udfs_salvage.specs.JsonPieces.{counts_piece, end_piece, entry_end, entry_front, kind_piece, node_end, node_front, object_end, reference_piece, report_end, report_front, reread_words, standing_piece};
 
 use crate::json_nodes::{kind_value, path_value, size_value, standing_value, time_value};
 use crate::json_reports::{label_in, volume_value};
@@ -82,45 +82,59 @@ pub(crate) fn push_kind(alloc: Global, text: &mut String, kind: Kind) -> Result<
     text.push_str(",\"missing\":")
 }
 
-/// Appends the standing, which ends an object.
+/// What ends an object: the mark of a body that is read by the tail of its last extent, if it is, and the brace.
+fn object_end(tail: bool) -> &'static str
+    ensures { result.now ≡ object_end tail }
+{
+    if tail { ",\"tail\":true}" } else { "}" }
+}
+
+/// Appends the standing, and the end of the object.
 #[tactic(auto, unfolding(crate::specs::JsonPieces::standing_piece))]
-fn push_standing(alloc: Global, text: &mut String, standing: &Standing) -> Result<(), OutOfMemory>
-    ensures { OnOk result (string_bytes text.new ≡ string_bytes text.old ++ standing_piece standing.now) }
+fn push_standing(
+    alloc: Global,
+    text: &mut String,
+    tail: bool,
+    standing: &Standing,
+) -> Result<(), OutOfMemory>
+    ensures { OnOk result (string_bytes text.new ≡ string_bytes text.old ++ standing_piece tail standing.now) }
 {
     let standing = standing_value(alloc, standing)?;
     push_value(alloc, text, ",\"standing\":", &standing)?;
-    text.push_str("}")
+    text.push_str(object_end(tail))
 }
 
-/// Appends the size, and the standing, which ends an object.
+/// Appends the size, the standing, and the end of the object.
 #[tactic(auto, unfolding(crate::specs::JsonPieces::end_piece))]
 fn push_end(
     alloc: Global,
     text: &mut String,
+    tail: bool,
     size: Option<u64>,
     standing: &Standing,
 ) -> Result<(), OutOfMemory>
-    ensures { OnOk result (string_bytes text.new ≡ string_bytes text.old ++ end_piece size standing.now) }
+    ensures { OnOk result (string_bytes text.new ≡ string_bytes text.old ++ end_piece tail size standing.now) }
 {
     let size = size_value(size);
     push_value(alloc, text, ",\"size\":", &size)?;
-    push_standing(alloc, text, standing)
+    push_standing(alloc, text, tail, standing)
 }
 
-/// Appends the rest of the object of a node, after its missing blocks.
+/// Appends the rest of the object of a node, after its missing blocks. Its body is marked as read by a tail or not.
 #[tactic(auto, unfolding(crate::specs::JsonPieces::node_end))]
 pub(crate) fn push_node_end(
     alloc: Global,
     text: &mut String,
+    tail: bool,
     node: &Node,
 ) -> Result<(), OutOfMemory>
-    ensures { OnOk result (string_bytes text.new ≡ string_bytes text.old ++ node_end node.now) }
+    ensures { OnOk result (string_bytes text.new ≡ string_bytes text.old ++ node_end tail node.now) }
 {
     let modified = time_value(alloc, node.stamp)?;
     let path = path_value(alloc, &node.path)?;
     push_value(alloc, text, ",\"modified\":", &modified)?;
     push_value(alloc, text, ",\"path\":", &path)?;
-    push_end(alloc, text, node.size, &node.standing)
+    push_end(alloc, text, tail, node.size, &node.standing)
 }
 
 /// Appends the partition reference of an entry where there are two partitions.
@@ -151,7 +165,7 @@ pub(crate) fn push_entry_end(
     let modified = time_value(alloc, Some(entry.stamp))?;
     push_value(alloc, text, ",\"modified\":", &modified)?;
     push_reference(alloc, text, two, entry.reference)?;
-    push_end(alloc, text, Some(entry.size), &entry.standing)
+    push_end(alloc, text, false, Some(entry.size), &entry.standing)
 }
 
 /// Appends how many blocks are in conflict and how many are known, with which an object begins.

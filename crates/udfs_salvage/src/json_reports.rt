@@ -10,9 +10,9 @@ ghost use Rattle.udfs_volume.specs.Parts.{map_now};
 ghost use Rattle.udfs_salvage.specs.Found.{found_now, volume_now};
 ghost use Rattle.udfs_salvage.specs.Reports.{report_now};
 ghost use Rattle.udfs_salvage.specs.JsonNodes.{list_data};
-ghost use Rattle.udfs_salvage.specs.JsonReports.{json_text_by, label_data, label_data_of, map_name, name_data, packet_length_of, put_maps, put_packet, put_profile, report_data_by, reread_data, state_data, state_name, volume_data};
+ghost use Rattle.udfs_salvage.specs.JsonReports.{json_text_by, label_data, label_data_of, map_name, name_data, nodes_data, packet_length_of, put_maps, put_packet, put_profile, report_data_by, reread_data, state_data, state_name, volume_data};
 
-use crate::json_nodes::{all_unnamed_value, blocks_value, nodes_value};
+use crate::json_nodes::{all_unnamed_value, blocks_value, nodes_value, nodes_value_in};
 use crate::lines::has_two;
 use crate::reports::Report;
 use crate::volumes::{OpenVolume, Volume};
@@ -253,12 +253,25 @@ fn with_profile(
     }
 }
 
+/// The nodes of a report.
+fn report_nodes_value(alloc: Global, report: &Report<'_>) -> Result<Value, AllocError>
+    ensures { IfOk result (λ v. view v ≡ nodes_data report.now.profile (state_of report.now.table.now) (volume_now report.now.volume) report.now.nodes.items) }
+{
+    match &report.volume {
+        Volume::Open(opened) => {
+            let view = opened.view(report.table);
+            nodes_value_in(alloc, report.profile, view, &report.nodes)
+        }
+        _ => nodes_value(alloc, &report.nodes),
+    }
+}
+
 /// A report.
 fn report_value(alloc: Global, report: &Report<'_>) -> Result<Value, AllocError>
     ensures { IfOk result (λ v. view v ≡ report_data_by report.now.profile report.now.table.now report.now.last (report_now report.now)) }
 {
     let label = label_in(alloc, &report.volume)?;
-    let nodes = nodes_value(alloc, &report.nodes)?;
+    let nodes = report_nodes_value(alloc, report)?;
     let reread = rereads_value(alloc, report.table, &report.reread)?;
     let two = has_two(&report.volume);
     let unnamed = all_unnamed_value(alloc, two, &report.unnamed)?;

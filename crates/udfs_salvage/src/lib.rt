@@ -8,8 +8,10 @@
 
 mod appending;
 mod body_bytes;
+pub mod choosing;
 mod errors;
 mod extraction;
+pub mod in_line;
 mod json_nodes;
 mod json_pieces;
 mod json_printing;

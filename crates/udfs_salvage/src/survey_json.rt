@@ -8,15 +8,15 @@ ghost use Rattle.udfs_space.specs.Views.{view_now};
 ghost use Rattle.udfs_walk.specs.Bare.{full_entry, full_node};
 ghost use Rattle.udfs_salvage.specs.Found.{volume_now};
 ghost use Rattle.udfs_salvage.specs.Printing.{PassesOn, Prints};
-ghost use Rattle.udfs_salvage.specs.JsonNodes.{list_data, node_data, unnamed_data};
+ghost use Rattle.udfs_salvage.specs.JsonNodes.{list_data, node_in, unnamed_data};
 ghost use Rattle.udfs_salvage.specs.JsonPieces.{entry_end, entry_front, more_values, node_end, node_front, report_end, report_front, reread_words};
-ghost use Rattle.udfs_salvage.specs.JsonReports.{json_text_by, reread_data};
+ghost use Rattle.udfs_salvage.specs.JsonReports.{json_text_by, nodes_data, reread_data};
 ghost use Rattle.udfs_salvage.specs.KeptLists.{AreKeptLists};
 ghost use Rattle.udfs_salvage.specs.Surveys.{survey_now};
 ghost use Rattle.udfs_salvage.specs.Texts.{has_two, line};
 
 use crate::errors::RunError;
-use crate::json_nodes::{all_unnamed_value, nodes_value};
+use crate::json_nodes::{all_unnamed_value, nodes_value, tail_in};
 use crate::json_pieces::{
     push_entry_end, push_entry_front, push_node_end, push_node_front, push_report_end,
     push_report_front, reread_words,
@@ -30,6 +30,7 @@ use crate::volumes::Volume;
 use std::alloc::Global;
 use udfs_reading::Sink;
 use udfs_space::View;
+use udfs_volume::Profile;
 use udfs_walk::{Node, Unnamed, full_standing};
 
 /// `front`, and then the object of a node up to its holes.
@@ -46,16 +47,17 @@ fn put_node_front<W: Sink>(
     pass_on(text, sink)
 }
 
-/// The rest of the object of a node, after its missing blocks.
+/// The rest of the object of a node, after its missing blocks. Its body is marked as read by a tail or not.
 fn put_node_end<W: Sink>(
     alloc: Global,
     text: &mut String,
     sink: &mut W,
+    tail: bool,
     node: &Node,
 ) -> Result<(), RunError>
-    ensures { PassesOn (W.stream sink.old) (W.stream sink.new) (string_bytes text.old) (string_bytes text.new) (node_end node.now) result }
+    ensures { PassesOn (W.stream sink.old) (W.stream sink.new) (string_bytes text.old) (string_bytes text.new) (node_end tail node.now) result }
 {
-    push_node_end(alloc, text, node)?;
+    push_node_end(alloc, text, tail, node)?;
     pass_on(text, sink)
 }
 
@@ -64,19 +66,21 @@ fn put_node<W: Sink>(
     alloc: Global,
     text: &mut String,
     sink: &mut W,
+    profile: Profile,
     view: View<'_>,
     kept: &mut KeptLists,
     front: &str,
     node: &Node,
 ) -> Result<(), RunError>
     requires { AreKeptLists (view_now view) kept.old.lists }
-    ensures text { PassesOn (W.stream sink.old) (W.stream sink.new) (string_bytes text.old) (string_bytes text.new) (front.now ++ compact_text (node_data (full_node (view_now view.entry) node.now))) result }
+    ensures text { PassesOn (W.stream sink.old) (W.stream sink.new) (string_bytes text.old) (string_bytes text.new) (front.now ++ compact_text (node_in profile (view_now view.entry) (full_node (view_now view.entry) node.now))) result }
     ensures lists { IfOk result (λ done. AreKeptLists (view_now view.entry) kept.new.lists) }
 {
     let full = kept.full_standing(alloc, view, node.icb, &node.standing)?;
+    let tail = tail_in(alloc, profile, view, node.icb)?;
     put_node_front(text, sink, front, node.hidden)?;
     put_told(alloc, text, sink, &full, node.kind)?;
-    put_node_end(alloc, text, sink, node)
+    put_node_end(alloc, text, sink, tail, node)
 }
 
 /// The objects of further nodes, each after a comma, with the missing blocks and holes that `nodes` lack.
@@ -84,15 +88,16 @@ fn put_more_nodes<W: Sink>(
     alloc: Global,
     text: &mut String,
     sink: &mut W,
+    profile: Profile,
     view: View<'_>,
     kept: &mut KeptLists,
     nodes: &[Node],
 ) -> Result<(), RunError>
     requires { AreKeptLists (view_now view) kept.old.lists }
-    ensures { PassesOn (W.stream sink.old) (W.stream sink.new) (string_bytes text.old) (string_bytes text.new) (more_values (λ n. node_data (full_node (view_now view.entry) n)) nodes.now) result }
+    ensures { PassesOn (W.stream sink.old) (W.stream sink.new) (string_bytes text.old) (string_bytes text.new) (more_values (λ n. node_in profile (view_now view.entry) (full_node (view_now view.entry) n)) nodes.now) result }
 {
     for node in nodes {
-        put_node(alloc, text, sink, view, kept, ",", node)?;
+        put_node(alloc, text, sink, profile, view, kept, ",", node)?;
     }
     Ok(())
 }
@@ -102,17 +107,18 @@ fn put_nodes<W: Sink>(
     alloc: Global,
     text: &mut String,
     sink: &mut W,
+    profile: Profile,
     view: View<'_>,
     nodes: &[Node],
 ) -> Result<(), RunError>
-    ensures { PassesOn (W.stream sink.old) (W.stream sink.new) (string_bytes text.old) (string_bytes text.new) (compact_text (list_data (λ n. node_data (full_node (view_now view.entry) n)) nodes.now)) result }
+    ensures { PassesOn (W.stream sink.old) (W.stream sink.new) (string_bytes text.old) (string_bytes text.new) (compact_text (list_data (λ n. node_in profile (view_now view.entry) (full_node (view_now view.entry) n)) nodes.now)) result }
 {
     let Some((first, rest)) = nodes.split_first() else {
         return put_words(text, sink, "[]");
     };
     let mut kept = KeptLists::new(alloc);
-    put_node(alloc, text, sink, view, &mut kept, "[", first)?;
-    put_more_nodes(alloc, text, sink, view, &mut kept, rest)?;
+    put_node(alloc, text, sink, profile, view, &mut kept, "[", first)?;
+    put_more_nodes(alloc, text, sink, profile, view, &mut kept, rest)?;
     put_words(text, sink, "]")
 }
 
@@ -207,12 +213,12 @@ fn put_survey_nodes<W: Sink>(
     sink: &mut W,
     survey: &Survey<'_>,
 ) -> Result<(), RunError>
-    ensures { PassesOn (W.stream sink.old) (W.stream sink.new) (string_bytes text.old) (string_bytes text.new) (compact_text (list_data node_data (survey_now survey.now).nodes)) result }
+    ensures { PassesOn (W.stream sink.old) (W.stream sink.new) (string_bytes text.old) (string_bytes text.new) (compact_text (nodes_data survey.now.profile (state_of survey.now.table.now) (volume_now survey.now.volume) (survey_now survey.now).nodes)) result }
 {
     match &survey.volume {
         Volume::Open(opened) => {
             let view = opened.view(survey.table);
-            put_nodes(alloc, text, sink, view, &survey.nodes)
+            put_nodes(alloc, text, sink, survey.profile, view, &survey.nodes)
         }
         _ => {
             let value = nodes_value(alloc, &survey.nodes)?;
@@ -312,7 +318,7 @@ fn put_lists_of<W: Sink>(
     survey: &Survey<'_>,
 ) -> Result<(), RunError>
     ensures { PassesOn (W.stream sink.old) (W.stream sink.new) (string_bytes text.old) (string_bytes text.new)
-        (compact_text (list_data node_data (survey_now survey.now).nodes)
+        (compact_text (nodes_data survey.now.profile (state_of survey.now.table.now) (volume_now survey.now.volume) (survey_now survey.now).nodes)
         ++ (reread_words survey.now.profile ++ (compact_text (list_data (reread_data (state_of survey.now.table.now)) survey.now.reread.items)
         ++ (codes ",\"unnamed\":" ++ (compact_text (list_data (unnamed_data (has_two (volume_now survey.now.volume))) (survey_now survey.now).unnamed)
         ++ (report_end (volume_now survey.now.volume) ++ codes "\n")))))) result }

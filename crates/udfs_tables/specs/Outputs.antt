@@ -1,5 +1,5 @@
 -- What the output of `merge` or `forget` may take the place of.
---     IsOutFree      it takes the place of no pass that is no input, but by force, and never that of an image or a mapfile of the inputs
+--     IsOutFree      it takes the place of no file but an input, a table file or an empty one, but by force, and never that of an image or a mapfile of the inputs
 --     IsOutSpared    it would
 --     OutRefused     why it may not be written
 use Rattle.std.specs.Prelude.{◌≡◌, ◌⊎◌, Bool, List, ℕ, alloc_error}

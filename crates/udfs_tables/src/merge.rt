@@ -120,7 +120,7 @@ fn merge_inputs<F: Files>(
 ///
 /// # Errors
 ///
-/// `Spared` where the output would take the place of an image or a mapfile of the inputs or, without force, of a reading that is no input. Why the inputs are not
+/// `Spared` where the output would take the place of an image or a mapfile of the inputs or, without force, of a file with bytes that is no input and no table file. Why the inputs are not
 /// joined. `Reread` where an input could not be read a second time or has changed: the new file is removed again. `Output` where what is at the output's path could
 /// not be looked at, or a call that puts the file failed: its path then holds what it held, unless it is that of a device or a pipe, and so it does after `Reread`.
 /// `Unkept` where the file is in its place and only its folder could not be synced. `Memory` if memory ran out. Any error but `Output`, `Unkept` and `Reread`
@@ -135,7 +135,7 @@ pub fn merge<F: Files>(
     ensures puts { Puts ⟦<F as Known>⟧.reach (IsMerged ⟦<F as Known>⟧.reach files.old request.now) request.now.out.now files.old files.new result }
     // With `Unkept` that file is in its place.
     ensures unkept { IsErrOf result Refusal.Unkept → F.tells → HasPut ⟦<F as Known>⟧.reach (IsMerged ⟦<F as Known>⟧.reach files.old request.now) request.now.out.now files.old files.new }
-    // It takes the place of no pass that is no input, but by force, and never that of an image or a mapfile of the inputs.
+    // It takes the place of no file but an input, a table file or an empty one, but by force, and never that of an image or a mapfile of the inputs.
     ensures free { OnOk result (IsOutFree ⟦<F as Known>⟧.reach files.old request.now.inputs request.now.force request.now.out.now) }
     ensures why { IfErr result (MergeFails ⟦<F as Known>⟧.reach files.old request.now) }
 {

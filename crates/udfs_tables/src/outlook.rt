@@ -11,7 +11,7 @@ use udfs_common::known::Known;
 use udfs_common::refusal::Refusal;
 use udfs_words::request::Inputs;
 
-/// Checks that an output takes the place of no image and no mapfile of the inputs, and without `force` of no reading that is no input.
+/// Checks that an output takes the place of no image and no mapfile of the inputs, and without `force` of no file but an input, a table file or an empty one.
 ///
 /// # Errors
 ///

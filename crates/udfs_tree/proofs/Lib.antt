@@ -7,6 +7,7 @@ pub mod MissedBlocks
 pub mod Rising
 pub mod Settled
 pub mod Wanted
+pub mod Chosen
 pub mod Settings
 pub mod Cuts
 pub mod Names

@@ -96,7 +96,7 @@ abbrev blocks_of : View → List Walked → List ℕ
 blocks_of v ws = flat_map (λ n. missing_of n.standing) (map (node v) ws)
 
 -- a number of two lists is in one of them
-one_of : (xs ys : List ℕ) (n : ℕ) → Includes (xs ++ ys) n → Includes xs n ⊎ Includes ys n
+pub one_of : (xs ys : List ℕ) (n : ℕ) → Includes (xs ++ ys) n → Includes xs n ⊎ Includes ys n
 one_of [] ys n i = inr i
 one_of (x ∷ xs) ys n (inl e) = inl (inl e)
 one_of (x ∷ xs) ys n (inr i) = go (one_of xs ys n i)
@@ -117,13 +117,13 @@ missed v root (r ∷ rs) (w ∷ ws) z n i = go (missed v root rs ws z.1 n) (one_
     go ih (inr j) = ih j
 
 -- what is in the first of two lists is in both
-in_left : (xs ys : List ℕ) (n : ℕ) → Includes xs n → Includes (xs ++ ys) n
+pub in_left : (xs ys : List ℕ) (n : ℕ) → Includes xs n → Includes (xs ++ ys) n
 in_left [] ys n i = absurd i
 in_left (x ∷ xs) ys n (inl e) = inl e
 in_left (x ∷ xs) ys n (inr i) = inr (in_left xs ys n i)
 
 -- and so is what is in the second
-in_right : (xs ys : List ℕ) (n : ℕ) → Includes ys n → Includes (xs ++ ys) n
+pub in_right : (xs ys : List ℕ) (n : ℕ) → Includes ys n → Includes (xs ++ ys) n
 in_right [] ys n i = i
 in_right (x ∷ xs) ys n i = inr (in_right xs ys n i)
 

@@ -1,6 +1,6 @@
 -- The laws of this crate that proofs above it use. Each has the statement that the function of its name in src/laws.rt or
 -- src/known_laws.rt ensures.
-use Rattle.udfs_tree.specs.KnownLaws.{MissingIsWanted}
+use Rattle.udfs_tree.specs.KnownLaws.{ChosenIsWanted, MissingIsWanted}
 use Rattle.udfs_tree.specs.Laws.{CompleteNodes, PartialNodes, OncePerPath, FewerRoutes, OneFile, RootInTree, OneReading, WholeAlike}
 use Rattle.udfs_tree.specs.Sample.{SampleTree}
 use Rattle.udfs_tree.specs.Sound.{SoundIsLawful}
@@ -12,6 +12,7 @@ use Rattle.udfs_tree.proofs.PartNodes as parts
 use Rattle.udfs_tree.proofs.PartRoutes as routes
 use Rattle.udfs_tree.proofs.SampleLaw as sample
 use Rattle.udfs_tree.proofs.Wanted as wanted
+use Rattle.udfs_tree.proofs.Chosen as chosen
 
 pub complete_nodes : CompleteNodes
 complete_nodes = complete.complete_nodes
@@ -39,6 +40,9 @@ whole_alike = readings.whole_alike
 
 pub missing_is_wanted : MissingIsWanted
 missing_is_wanted = wanted.missing_is_wanted
+
+pub chosen_is_wanted : ChosenIsWanted
+chosen_is_wanted = chosen.chosen_is_wanted
 
 pub sample_tree_is_lawful : SampleTree
 sample_tree_is_lawful = sample.sample_tree_law

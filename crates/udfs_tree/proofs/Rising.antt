@@ -80,7 +80,8 @@ needs_below all blocks a name names ids d dir i named g (for_body x) = for_body 
 pub data Risen (some all : View) (blocks : PartitionBlocks) (w : Walked) (names : List (List ℕ)) (address : LongAd) : Type 0 where
   arrives : (route : Route) (end : Walked) → walk_from some w route ≡ Some end → end.path ≡ w.path ++ names → end.address ≡ address → Risen some all blocks w names address
   stops : (n : ℕ) → is_known (some.blocks n) ≡ false → Needs all blocks w.address names (n ∷ [])
-      → (route : Route) (end : Walked) → walk_from some w route ≡ Some end → Includes (missing_of (node some end).standing) n → Risen some all blocks w names address
+      → (route : Route) (end : Walked) → walk_from some w route ≡ Some end → Includes (missing_of (node some end).standing) n
+      → (more : List (List ℕ)) → w.path ++ names ≡ end.path ++ more → Risen some all blocks w names address
 
 -- by the names: at each directory the ICB's block is not known, a cell before the end of the name's descriptor is missing, or the name leads on
 pub rise : (some all : View) (blocks : PartitionBlocks) → IsPartOf some all → IsComplete all blocks → (names : List (List ℕ)) (w : Walked) (address : LongAd)
@@ -165,17 +166,18 @@ rise some all blocks p c (name ∷ names) w address h (ids, d, is_dir, i, named,
             by_rise : Risen some all blocks (below w d) names address → Risen some all blocks w (name ∷ names) address
             by_rise (arrives route e walks path a) = arrives (at.0 ∷ route) e (step_on some w at.0 route d get ∙ walks)
                 (path ∙ append_assoc w.path (d.name ∷ []) names ∙ ap (λ z. w.path ++ z ∷ names) named) a
-            by_rise (stops n u needs route e walks misses) = stops n u (needs_below all blocks w.address name names ids d is_dir i named (n ∷ []) needs)
-                (at.0 ∷ route) e (step_on some w at.0 route d get ∙ walks) misses
+            by_rise (stops n u needs route e walks misses more on_way) = stops n u (needs_below all blocks w.address name names ids d is_dir i named (n ∷ []) needs)
+                (at.0 ∷ route) e (step_on some w at.0 route d get ∙ walks) misses more
+                (sym (append_assoc w.path (d.name ∷ []) names ∙ ap (λ z. w.path ++ z ∷ names) named) ∙ on_way)
 
         by_cells : target some w.address ≡ entry x.fields → (node some w).standing ≡ cells_standing part.part
             → ((k : ℕ) × (n : ℕ) × (k < end) × IsGapAt part.part k n) ⊎ IsClearTo part.part end → Risen some all blocks w (name ∷ names) address
         by_cells is_entry stands (inl (k, n, lt, g)) = let named : (is_known (some.blocks n) ≡ false) × IsNeededFor all w.address.reference x.fields k n = part.cells_are.names k n g in
-            stops n named.0 (on_way k n lt named.1) [] w refl (gap_misses (node some w).standing part.part stands k n g)
+            stops n named.0 (on_way k n lt named.1) [] w refl (gap_misses (node some w).standing part.part stands k n g) (name ∷ names) refl
         by_cells is_entry stands (inr clear) = on is_entry clear
 
         by_node : NodePart some all p w x → Risen some all blocks w (name ∷ names) address
         by_node (node_read t s) = by_cells t s (gap_before part.part end)
         by_node (node_unread n placed u t) = stops n u
             (for_icb (record { before = []; after = name ∷ names; is_way = refl; address = w.address; leads = refl; is = (n, placed, refl) }))
-            [] w refl (subst (λ z. Includes z n) (sym (unread_misses some w n t)) (inl refl))
+            [] w refl (subst (λ z. Includes z n) (sym (unread_misses some w n t)) (inl refl)) (name ∷ names) refl

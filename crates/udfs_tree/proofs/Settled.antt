@@ -1,5 +1,5 @@
 -- Each node of a tree is listed whole over a part, or a needed block that is not known is missing in some node.
-use Rattle.std.proofs.Common.{◌≡◌, refl, sym, ◌∙◌, ap, subst, inl, inr, ◌⊎◌, ℕ, false, List, [], ◌∷◌, Some}
+use Rattle.std.proofs.Common.{◌≡◌, refl, sym, ◌∙◌, ap, subst, inl, inr, ◌⊎◌, ℕ, false, List, [], ◌∷◌, Some, ◌++◌}
 use Rattle.std.specs.Prelude.{Contains}
 use Rattle.std.proofs.lemmas.List.{append-nil}
 use Rattle.udfs_lattice.specs.States.{is_known}
@@ -36,30 +36,29 @@ whole_cells : (cs : List Cell) → missing_blocks cs ≡ [] → cells_standing c
 unfolding cells_standing
 whole_cells cs e = ap (λ z. torn_or_whole z (runs_from 0 cs)) (ap ascending e)
 
+-- a needed block that is not known, and that is missing in a node at the path or above it
+pub record IsHeldUp (some all : View) (blocks : PartitionBlocks) (root : LongAd) (path : List (List ℕ)) : Type 0 where
+  pub block : ℕ
+  pub not_known : is_known (some.blocks block) ≡ false
+  pub needs : Needs all blocks root path (block ∷ [])
+  pub missed : IsMissed some root block
+  pub after : List (List ℕ)
+  pub is_way : path ≡ missed.end.path ++ after
+
 -- by the route that its names rise to, and the cells at its end; or by the block that stops them
-pub settle : (some all : View) (blocks : PartitionBlocks) → IsPartOf some all → IsComplete all blocks → (root : LongAd) → IsLawfulTree all root → (nodes : List NodeFields) → AreNodes some root nodes
-    → (path : List (List ℕ)) (file : TreeFile) → InTree blocks root path file → IsListedWhole some root nodes path file ⊎ HoldsWanted some all blocks root path (reread nodes)
+pub settle_way : (some all : View) (blocks : PartitionBlocks) → IsPartOf some all → IsComplete all blocks → (root : LongAd) → IsLawfulTree all root → (nodes : List NodeFields) → AreNodes some root nodes
+    → (path : List (List ℕ)) (file : TreeFile) → InTree blocks root path file → IsListedWhole some root nodes path file ⊎ IsHeldUp some all blocks root path
 unfolding walked
-settle some all blocks p c root lawful nodes listed path file t = by_rise (rise some all blocks p c path (at_root root) t.address lawful.nodes t.leads)
+settle_way some all blocks p c root lawful nodes listed path file t = by_rise (rise some all blocks p c path (at_root root) t.address lawful.nodes t.leads)
   where
     Settled : Type 0
-    Settled = IsListedWhole some root nodes path file ⊎ HoldsWanted some all blocks root path (reread nodes)
+    Settled = IsListedWhole some root nodes path file ⊎ IsHeldUp some all blocks root path
 
     s : Setting some all blocks root
     s = setting some all blocks p c root lawful
 
-    held : (n : ℕ) → is_known (some.blocks n) ≡ false → Needs all blocks root path (n ∷ []) → IsMissed some root n → Settled
-    held n u needs m = inr (n ∷ [], (needs, none), there)
-      where
-        only : (k : ℕ) → Includes (n ∷ []) k → n ≡ k
-        only k (inl e) = e
-        only k (inr i) = absurd i
-
-        none : IsUnread some.blocks (n ∷ [])
-        none k i = subst (λ z. is_known (some.blocks z) ≡ false) (only k (included (n ∷ []) k i)) u
-
-        there : (k : ℕ) → Contains (n ∷ []) k → Contains (reread nodes) k
-        there k i = contained (reread nodes) k (subst (Includes (reread nodes)) (only k (included (n ∷ []) k i)) (missed_is_listed some root nodes listed n m))
+    held : (n : ℕ) → is_known (some.blocks n) ≡ false → Needs all blocks root path (n ∷ []) → (m : IsMissed some root n) (after : List (List ℕ)) → path ≡ m.end.path ++ after → Settled
+    held n u needs m after way = inr (record { block = n; not_known = u; needs = needs; missed = m; after = after; is_way = way })
 
     at_end : (route : Route) (w : Walked) → walked some root route ≡ Some w → w.path ≡ path → w.address ≡ t.address → Settled
     at_end route w walks path_of at = by_node (node_part some all blocks s.part s.is_whole w h.at)
@@ -75,6 +74,9 @@ settle some all blocks p c root lawful nodes listed path file t = by_rise (rise 
 
         same : file ≡ h.file.file
         same = h.file.only file (subst (λ z. IsFileAt blocks z file) (sym at) t.is_file)
+
+        at_way : path ≡ w.path ++ []
+        at_way = sym path_of ∙ sym (append-nil w.path)
 
         missed : (n : ℕ) → Includes (missing_of (node some w).standing) n → IsMissed some root n
         missed n m = record { route = route; end = w; leads = walks; misses = m }
@@ -107,7 +109,7 @@ settle some all blocks p c root lawful nodes listed path file t = by_rise (rise 
 
         by_gap : (node some w).standing ≡ cells_standing part.part → (k : ℕ) × (n : ℕ) × IsGapAt part.part k n → Settled
         by_gap stands (k, n, g) = let named : (is_known (some.blocks n) ≡ false) × IsNeededFor all w.address.reference h.at.fields k n = part.cells_are.names k n g in
-            held n named.0 (for_own k n named.1) (missed n (gap_misses (node some w).standing part.part stands k n g))
+            held n named.0 (for_own k n named.1) (missed n (gap_misses (node some w).standing part.part stands k n g)) [] at_way
 
         by_blocks : target some w.address ≡ entry h.at.fields → (node some w).standing ≡ cells_standing part.part → (ns : List ℕ) → missing_blocks part.part ≡ ns → Settled
         by_blocks is_entry stands [] e = inl (is_whole is_entry stands e)
@@ -118,8 +120,32 @@ settle some all blocks p c root lawful nodes listed path file t = by_rise (rise 
         by_node (node_read is_entry stands) = by_blocks is_entry stands (missing_blocks part.part) refl
         by_node (node_unread n placed_at u is) = held n u
             (for_icb (record { before = path; after = []; is_way = sym (append-nil path); address = w.address; leads = leads; is = (n, placed_at, refl) }))
-            (missed n (subst (λ z. Includes z n) (sym (unread_misses some w n is)) (inl refl)))
+            (missed n (subst (λ z. Includes z n) (sym (unread_misses some w n is)) (inl refl))) [] at_way
 
     by_rise : Risen some all blocks (at_root root) path t.address → Settled
     by_rise (arrives route w walks path_of at) = at_end route w walks path_of at
-    by_rise (stops n u needs route end walks m) = held n u needs (record { route = route; end = end; leads = walks; misses = m })
+    by_rise (stops n u needs route end walks m after way) = held n u needs (record { route = route; end = end; leads = walks; misses = m }) after way
+
+-- a block alone is a group, which these hold if they have the block
+pub held_one : (some all : View) (blocks : PartitionBlocks) (root : LongAd) (path : List (List ℕ)) (listed : List ℕ) (n : ℕ) → is_known (some.blocks n) ≡ false → Needs all blocks root path (n ∷ [])
+    → Includes listed n → HoldsWanted some all blocks root path listed
+held_one some all blocks root path listed n u needs in_list = (n ∷ [], (needs, none), there)
+  where
+    only : (k : ℕ) → Includes (n ∷ []) k → n ≡ k
+    only k (inl e) = e
+    only k (inr i) = absurd i
+
+    none : IsUnread some.blocks (n ∷ [])
+    none k i = subst (λ z. is_known (some.blocks z) ≡ false) (only k (included (n ∷ []) k i)) u
+
+    there : (k : ℕ) → Contains (n ∷ []) k → Contains listed k
+    there k i = contained listed k (subst (Includes listed) (only k (included (n ∷ []) k i)) in_list)
+
+-- what holds it up is among the blocks that all nodes miss
+pub settle : (some all : View) (blocks : PartitionBlocks) → IsPartOf some all → IsComplete all blocks → (root : LongAd) → IsLawfulTree all root → (nodes : List NodeFields) → AreNodes some root nodes
+    → (path : List (List ℕ)) (file : TreeFile) → InTree blocks root path file → IsListedWhole some root nodes path file ⊎ HoldsWanted some all blocks root path (reread nodes)
+settle some all blocks p c root lawful nodes listed path file t = go (settle_way some all blocks p c root lawful nodes listed path file t)
+  where
+    go : IsListedWhole some root nodes path file ⊎ IsHeldUp some all blocks root path → IsListedWhole some root nodes path file ⊎ HoldsWanted some all blocks root path (reread nodes)
+    go (inl w) = inl w
+    go (inr h) = inr (held_one some all blocks root path (reread nodes) h.block h.not_known h.needs (missed_is_listed some root nodes listed h.block h.missed))

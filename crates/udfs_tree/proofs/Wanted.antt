@@ -108,12 +108,12 @@ missed_for some all blocks p c root lawful n m = by_node (node_part some all blo
     by_node (node_unread k placed u is) = by_icb k placed u (one k (subst (λ z. Includes z n) (unread_misses some w k is) m.misses))
 
 -- a list without members is empty
-no_member : (xs : List ℕ) → ((n : ℕ) → ¬ Contains xs n) → xs ≡ []
+pub no_member : (xs : List ℕ) → ((n : ℕ) → ¬ Contains xs n) → xs ≡ []
 no_member [] h = refl
 no_member (x ∷ xs) h = absurd (h x (contained (x ∷ xs) x (inl refl)))
 
 -- a node that misses a block is not listed whole
-not_whole : (some all : View) (blocks : PartitionBlocks) → IsPartOf some all → IsComplete all blocks → (root : LongAd) → IsLawfulTree all root → (nodes : List NodeFields) → AreNodes some root nodes
+pub not_whole : (some all : View) (blocks : PartitionBlocks) → IsPartOf some all → IsComplete all blocks → (root : LongAd) → IsLawfulTree all root → (nodes : List NodeFields) → AreNodes some root nodes
     → (n : ℕ) (m : IsMissed some root n) (file : TreeFile) → ¬ IsListedWhole some root nodes m.end.path file
 not_whole some all blocks p c root lawful nodes listed n m file (i, n', cs, get, path, cells_at, is_as) =
     subst (λ z. Includes (missing_of z) n) (ap (λ z. (node some z).standing) same ∙ ap (λ z. z.standing) (sym e.is) ∙ is_as.standing) m.misses

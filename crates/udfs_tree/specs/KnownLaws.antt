@@ -1,7 +1,9 @@
 -- Over a part of a complete view with a lawful tree: what is known enough is whole, and what is missing is needed.
 --     MetIsWhole         a node of the tree, of each needed group of which a block is known, is listed whole
 --     MissingIsWanted    the blocks that are missing in nodes, and those that nodes of the tree want
-use Rattle.std.specs.Prelude.{◌≡◌, ◌⊎◌, ◌↔◌, ℕ, List, [], Some, slice_get, Contains}
+--     ChosenIsWanted     the same of the nodes of some paths, with those above them
+use Rattle.std.specs.Prelude.{◌≡◌, ◌⊎◌, ◌↔◌, ℕ, Bool, true, List, [], ◌++◌, Some, slice_get, Contains}
+use Rattle.std.specs.List.{filter}
 use Rattle.udfs_lattice.specs.Volumes.{IsUnread}
 use Rattle.udfs_tag.specs.declared.layouts.LongAd.{LongAd}
 use Rattle.udfs_space.specs.Places.{View, IsPartOf}
@@ -58,3 +60,30 @@ pub record AreWanted (some all : View) (blocks : PartitionBlocks) (root : LongAd
 -- over any part of a lawful tree, the blocks that the nodes lack are as `AreWanted` asks
 abbrev pub MissingIsWanted : Type 0
 MissingIsWanted = OverParts (λ some all blocks root nodes. AreWanted some all blocks root nodes (reread nodes))
+
+-- ---- of some of the nodes
+
+-- with each path that is chosen all above it are
+abbrev pub TakesAbove : (List (List ℕ) → Bool) → Type 0
+TakesAbove takes = (path more : List (List ℕ)) → takes (path ++ more) ≡ true → takes path ≡ true
+
+-- the nodes whose paths are chosen
+abbrev pub taken : (List (List ℕ) → Bool) → List NodeFields → List NodeFields
+taken takes nodes = filter (λ n. takes n.path) nodes
+
+-- What is asked of the blocks to read again for the nodes of the tree whose paths are chosen.
+pub record AreWantedOf (takes : List (List ℕ) → Bool) (some all : View) (blocks : PartitionBlocks) (root : LongAd) (nodes : List NodeFields) (listed : List ℕ) : Type 0 where
+  -- none of them is known
+  pub not_known : IsUnread some.blocks listed
+  -- each is in a group that is wanted for some chosen node of the tree
+  pub each : (n : ℕ) → Contains listed n → (path : List (List ℕ)) × (file : TreeFile) × (group : List ℕ) × (takes path ≡ true) × InTree blocks root path file
+      × IsWanted some all blocks root path group × Contains group n
+  -- each chosen node of the tree is listed whole, or all of a group that it wants is among them
+  pub whole_or_held : (path : List (List ℕ)) (file : TreeFile) → takes path ≡ true → InTree blocks root path file
+      → IsListedWhole some root nodes path file ⊎ HoldsWanted some all blocks root path listed
+  -- no block is listed exactly if all chosen nodes of the tree are listed whole
+  pub none : (listed ≡ []) ↔ ((path : List (List ℕ)) (file : TreeFile) → takes path ≡ true → InTree blocks root path file → IsListedWhole some root nodes path file)
+
+-- over any part of a lawful tree, the blocks that the chosen nodes lack are as `AreWantedOf` asks
+abbrev pub ChosenIsWanted : Type 0
+ChosenIsWanted = (takes : List (List ℕ) → Bool) → TakesAbove takes → OverParts (λ some all blocks root nodes. AreWantedOf takes some all blocks root nodes (reread (taken takes nodes)))

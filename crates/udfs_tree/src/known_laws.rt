@@ -1,6 +1,6 @@
 //! Laws of what is known enough, and of what is missing, each the contract of a function that does nothing.
 
-ghost use Rattle.udfs_tree.specs.KnownLaws.{MetIsWhole, MissingIsWanted};
+ghost use Rattle.udfs_tree.specs.KnownLaws.{ChosenIsWanted, MetIsWhole, MissingIsWanted};
 
 /// Over a part of a complete view with a lawful tree, a node of the tree is listed whole, with the tree's bytes, where of
 /// each group of blocks that it needs one is known.
@@ -13,4 +13,10 @@ pub fn met_is_whole()
 /// block is missing exactly if all of the tree is listed whole.
 pub fn missing_is_wanted()
     ensures { MissingIsWanted }
+{}
+
+/// The same of the nodes at some paths, where with each path all above it are chosen: the blocks that are missing in chosen nodes are needed for them,
+/// and none is missing exactly if all chosen nodes of the tree are listed whole.
+pub fn chosen_is_wanted()
+    ensures { ChosenIsWanted }
 {}

@@ -45,14 +45,14 @@ pub fn flag<'a>(alloc: Global, name: &'a str, help: &'a str) -> Arg<'a>
         .action(ArgAction::SetTrue)
 }
 
-/// The flag for joining what is of another disc, and for writing over a reading that is no input.
+/// The flag for joining what is of another disc, and for writing over a file that is no table file and no input.
 pub fn force<'a>(alloc: Global) -> Arg<'a>
     ensures { (rule_of result ≡ flag_rule (codes "force")) × (result.global ≡ false) }
 {
     flag(
         alloc,
         FORCE,
-        "Write over a reading that is not one of the inputs, and join an image of another disc",
+        "Write over a file that is no table file and no input, and join an image of another disc",
     )
 }
 

@@ -49,7 +49,7 @@ pub struct MergeRequest<'a> {
     pub version: Version,
     /// The path of the table file.
     pub out: &'a str,
-    /// A reading that is no input may be written over, and images of another disc are to be joined all the same.
+    /// A file that is no table file and no input may be written over, and images of another disc are to be joined all the same.
     pub force: bool,
 }
 
@@ -63,7 +63,7 @@ pub struct ForgetRequest<'a> {
     pub lists: Vec<&'a str>,
     /// The path of the table file.
     pub out: &'a str,
-    /// A reading that is no input may be written over, and images of another disc are to be joined all the same.
+    /// A file that is no table file and no input may be written over, and images of another disc are to be joined all the same.
     pub force: bool,
 }
 

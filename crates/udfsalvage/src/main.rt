@@ -9,6 +9,7 @@ use std::alloc::Global;
 use std::io::IsTerminal;
 use std::process::ExitCode;
 use std::{env, io};
+use udfs_calls::Host;
 use udfs_commands::{refuse_words, run};
 use udfs_files::Machine;
 use udfs_reading::Writer;
@@ -24,7 +25,7 @@ fn main(rt: HostRuntime) -> ExitCode {
     let screen = Screen::new(alloc, &rt, rt.stderr(), is_watched);
     let mut out = Cleared::new(Writer::new(rt.stdout()), &screen);
     let mut err = Cleared::new(Writer::new(rt.stderr()), &screen);
-    let mut files = Machine::new(&rt, &screen);
+    let mut files = Machine::new(Host::new(&rt), &rt, &screen);
     let status = match words_of(&rt, alloc) {
         Ok(words) => run(alloc, words.as_slice(), &mut files, &mut out, &mut err),
         Err(error) => {

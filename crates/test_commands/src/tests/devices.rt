@@ -8,8 +8,8 @@ static INPUTS_THAT_FAIL: &str = r"
 = an_input_that_fails_is_told
 # At 4120 bytes only the end was still asked for.
 file two.rd reading 300:61 301:62
-file t.tab text «5000*w»
-then has t.tab text «5000*w»
+file t.tab text UDFTABL«4993*w»
+then has t.tab text UDFTABL«4993*w»
 
 some 0 16
 inputs-fail «n»
@@ -36,20 +36,20 @@ static OUTPUTS_THAT_FAIL_OR_ARE_SLOW: &str = r"
 = an_output_that_fails_is_told
 # The output has 4122 bytes. A write that fails leaves the old file, and no other.
 file two.rd reading 300:61 301:62
-file t.tab text «5000*w»
+file t.tab text UDFTABL«4993*w»
 
 some 0 4122
 outputs-fail «n»
 outputs-take-none «n»
 $ merge --v1 --out t.tab two.rd
 refused udfsalvage: cannot write output\n
-has t.tab text «5000*w»
-survives t.tab text «5000*w»
+has t.tab text UDFTABL«4993*w»
+survives t.tab text UDFTABL«4993*w»
 files 2
 
 = a_byte_a_call_changes_nothing
 file two.rd reading 300:61 301:62
-file t.tab text «5000*w»
+file t.tab text UDFTABL«4993*w»
 
 inputs-move 1
 outputs-move 1

@@ -124,10 +124,10 @@ file p.img text x
 file p.map text # Mapfile. Created by GNU ddrescue\n0 + 1\n
 
 $ merge -v --out a.rd b.rd
-refused udfsalvage: cannot write output\n  a.rd is a reading, and none of the inputs: take another name, or give --force\n
+refused udfsalvage: cannot write output\n  a.rd is no table file, and none of the inputs: take another name, or give --force\n
 
 $ forget -v --conflicts --out a.rd b.rd
-refused udfsalvage: cannot write output\n  a.rd is a reading, and none of the inputs: take another name, or give --force\n
+refused udfsalvage: cannot write output\n  a.rd is no table file, and none of the inputs: take another name, or give --force\n
 
 $ merge -v --force --out p.img b.rd --ddrescue p.img p.map
 refused udfsalvage: cannot write output\n  p.img is an input, and never written over: take another name\n
@@ -240,13 +240,13 @@ write 32 240 \0\x02
 write 48 240 \0\x02
 but
 $ report -v --last 600 disc.tab
-remarked volume: UDF 2.00, not 1.50 or 2.01: try --profile wide\n
+remarked volume: UDF 2.00 (a camcorder or recorder disc): add --profile wide\n
 
 write 32 240 \x02\x01
 write 48 240 \x02\x01
 but
 $ reread -v --last 600 disc.tab
-remarked volume: UDF 1.02, not 1.50 or 2.01: try --profile wide\n
+remarked volume: UDF 1.02: add --profile wide\n
 
 write 32 240 P\x02
 write 48 240 P\x02

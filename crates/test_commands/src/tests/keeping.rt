@@ -6,7 +6,7 @@ use std::test::Fail;
 static SCRIPT: &str = r"
 = a_done_merge_survives_a_crash
 passes
-file t.tab text «100*w»
+file t.tab text UDFTABL«93*w»
 
 $ merge --v1 --out t.tab a.rd b.rd
 silent
@@ -19,7 +19,7 @@ files 4
 # Each call fails once. The first is tried again by another name, so the merge is done then.
 let NOT_SYNCED udfsalvage: cannot write output\n  the new file is in its place, whole, but a power cut may bring the old one back\n
 passes
-file t.tab text «100*w»
+file t.tab text UDFTABL«93*w»
 
 each 1 2
 calls-fail «n» «n»
@@ -31,8 +31,8 @@ each 2 4
 calls-fail «n» «n»
 $ merge --v1 --out t.tab a.rd b.rd
 refused udfsalvage: cannot write output\n
-has t.tab text «100*w»
-survives t.tab text «100*w»
+has t.tab text UDFTABL«93*w»
+survives t.tab text UDFTABL«93*w»
 absent t.tab.unfinished
 files 4
 
@@ -41,7 +41,7 @@ calls-fail «n» «n»
 $ merge --v1 --out t.tab a.rd b.rd
 refused «NOT_SYNCED»
 has t.tab table 300:61 301:62
-survives t.tab text «100*w»
+survives t.tab text UDFTABL«93*w»
 absent t.tab.unfinished
 files 4
 
@@ -49,14 +49,14 @@ files 4
 # Each call fails, and all after it: so does a process that is killed there leave the files, but for what it was told.
 let NOT_SYNCED udfsalvage: cannot write output\n  the new file is in its place, whole, but a power cut may bring the old one back\n
 passes
-file t.tab text «100*w»
-then survives t.tab text «100*w»
+file t.tab text UDFTABL«93*w»
+then survives t.tab text UDFTABL«93*w»
 
 each 1 4
 calls-fail «n» on
 $ merge --v1 --out t.tab a.rd b.rd
 refused udfsalvage: cannot write output\n
-has t.tab text «100*w»
+has t.tab text UDFTABL«93*w»
 
 each 4 5
 calls-fail «n» on
@@ -67,7 +67,7 @@ has t.tab table 300:61 301:62
 = a_file_that_was_left_behind_stays
 # A new file of an earlier run that was ended stays, and another name is taken.
 passes
-file t.tab text «100*w»
+file t.tab text UDFTABL«93*w»
 
 file t.tab.unfinished text torn
 $ merge --v1 --out t.tab a.rd b.rd

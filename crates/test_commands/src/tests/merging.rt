@@ -53,7 +53,7 @@ has b.rd table 300:61 301:62
 
 = nothing_of_an_old_output_is_left
 passes
-file t.tab text «9000*w»
+file t.tab text UDFTABL«8993*w»
 
 $ merge --v1 --out t.tab b.rd
 silent

@@ -14,10 +14,10 @@ then done 1
 then file-begins p.html «MARK»
 then file-has p.html <title>TEST</title>
 then file-has p.html <div><bdi>TEST</bdi>   UDF 1.50, type 1   601 blocks, 1.2 MB</div>\n
-then file-has p.html <div>Files      1 whole (2 B)   1 torn (2.0 kB of 5.0 kB lost)   0 not yet known</div>\n
-then file-has p.html <div>Disc       600 known   1 not known, of which 1 are needed (1 runs)   0 in conflict</div>\n
+then file-has p.html <div>1 file is complete, 1 damaged;</div>\n<div>1 block is worth reading again</div>\n<div>Files      1 whole (2 B)</div>\n<div>           1 torn (2.0 kB of 5.0 kB lost)</div>\n
+then file-has p.html <div>Disc       600 known   1 not known   0 in conflict</div>\n<div>           1 of these is needed, in 1 place</div>\n
 then file-has p.html <title>blocks 278 to 278</title></path>\n
-then file-has p.html udfsalvage reread --last 600 --mapfile want.map ...\nddrescue -b2048 -m want.map /dev/sr0 next.img next.map</pre>\n
+then file-has p.html --mapfile want.map disc.tab\nddrescue -d -r3 -b2048 -m want.map /dev/sr0 p600.img p600.map\nudfsalvage merge --out disc.tab disc.tab --ddrescue p600.img p600.map\n</pre>\n
 then file-has p.html <tr><td><bdi>/A</bdi><td>41.0 %<td>2.0 kB<td>5.0 kB\n
 then file-has p.html <details open class=w><summary><bdi>/</bdi><small>folder</small></summary>\n<div class=t><bdi>A</bdi><small>5.0 kB, torn: 2.0 kB lost, bytes 2048&ndash;4095</small></div>\n
 then file-has p.html «END»
@@ -29,13 +29,22 @@ then files 2
 $ page --last 600 --out p.html disc.tab
 
 $ page --size 1230848 -o p.html disc.tab
+file-has p.html <pre>udfsalvage page --size 1230848 --out p.html disc.tab\n</pre>\n
+
+= the_page_with_a_title
+but
+
+$ page --last 600 --title Box\x2012,\x20<disc>\x203 --out p.html disc.tab
+silent
+file-has p.html <title>Box 12, &lt;disc&gt; 3: TEST</title>
+file-has p.html <h1>Box 12, &lt;disc&gt; 3: What can be salvaged</h1>\n
 
 = the_page_of_a_whole_disc
 but
 
 $ page --last 600 --out p.html disc.tab
 silent
-file-has p.html <p>No block is worth reading again.</p>\n
+file-has p.html <p>All is whole.</p>\n
 file-has p.html <div class=w><bdi>A</bdi><small>5.0 kB</small></div>\n
 file-lacks p.html <table>
 
@@ -46,19 +55,19 @@ $ page --last 600 --out p.html disc.tab
 status 1
 file-has p.html <title>a disc that does not open</title>
 file-has p.html <div>does not open: block 272 is needed</div>\n
-file-has p.html --mapfile want.map ...
+file-has p.html --mapfile want.map disc.tab\n
 file-lacks p.html udfsalvage extract
 file-lacks p.html <h2>All files</h2>
 
 = what_a_page_says_to_do_next
-# Of a volume with a fault no block is worth reading again, and there are no files; blocks in conflict are forgotten first, by the rules that were asked for.
+# A volume that the strict rules refuse for its revision is read by the wide ones; blocks in conflict are forgotten first, by the rules that were asked for.
 
 write 32 240 \0\x02
 write 48 240 \0\x02
 but
 $ page --last 600 --out p.html disc.tab
 status 1
-file-has p.html <p>The volume does not open, and no block to read again helps: the manual of udfsalvage says what this fault means.</p>\n
+file-has p.html <p>UDF 2.00 (a camcorder or recorder disc): add --profile wide.</p>\n<pre>udfsalvage page --last 600 --profile wide --out p.html disc.tab\n</pre>\n
 file-lacks p.html udfsalvage extract
 
 write 32 240 \0\x02
@@ -67,10 +76,10 @@ but
 also 277 07
 $ page --last 600 --profile wide --out p.html disc.tab
 status 1
-file-has p.html 600 known   0 not known   1 in conflict   1 of these are needed (1 runs)</div>\n
-file-has p.html <pre>udfsalvage forget --conflicts --out clean.tab ...\nudfsalvage reread --last 600 --profile wide --mapfile want.map clean.tab\n
-file-has p.html <pre>udfsalvage page --last 600 --profile wide --out page.html clean.tab --ddrescue next.img next.map</pre>\n
-file-has p.html <pre>udfsalvage extract --last 600 --profile wide --to files ...</pre>\n
+file-has p.html 600 known   0 not known   1 in conflict</div>\n<div>           1 of these is needed, in 1 place</div>\n
+file-has p.html <pre>udfsalvage forget --conflicts --out clean.tab disc.tab\nudfsalvage reread --last 600 --profile wide --mapfile want.map clean.tab\nddrescue -d -r3 -b2048 -m want.map /dev/sr0 p600.img p600.map\nudfsalvage merge --out clean.tab clean.tab --ddrescue p600.img p600.map\n</pre>\n
+file-has p.html <pre>udfsalvage page --last 600 --profile wide --out p.html clean.tab\n</pre>\n
+file-has p.html <pre>udfsalvage extract --last 600 --profile wide --to files disc.tab\n</pre>\n
 ";
 
 #[test]

@@ -157,7 +157,7 @@ out /A\n/B\n
 remarked
 
 $ summary --last 600 --profile wide disc.tab
-out TEST   UDF 2.00, type 1   601 blocks, 1.2 MB\nFiles      2 whole (5.0 kB)   0 torn (0 B of 0 B lost)   0 not yet known\nFolders    1 whole   0 torn\nDisc       601 known   0 not known, of which 0 are needed (0 runs)   0 in conflict\n
+out TEST   UDF 2.00, type 1   601 blocks, 1.2 MB\n2 files are complete\nFiles      2 whole (5.0 kB)\nFolders    1 whole\nDisc       601 known   0 not known   0 in conflict\nNext       All is whole. Write it out:\n           udfsalvage extract --last 600 --profile wide --to files disc.tab\n
 
 = a_torn_movie_by_the_wide_rules
 # The second block of A is not known.
@@ -177,7 +177,7 @@ out written /A\nwritten /B\n
 has out/A text «2048*a»«2048*\0»«904*c»
 
 $ summary --last 600 --profile wide disc.tab
-out TEST   UDF 2.00, type 1   601 blocks, 1.2 MB\nFiles      1 whole (2 B)   1 torn (2.0 kB of 5.0 kB lost)   0 not yet known\nFolders    1 whole   0 torn\nDisc       600 known   1 not known, of which 1 are needed (1 runs)   0 in conflict\nTorn       41.0 %  /A   2.0 kB of 5.0 kB lost\nNext       udfsalvage reread --last 600 --profile wide --mapfile want.map ...\n
+out TEST   UDF 2.00, type 1   601 blocks, 1.2 MB\n1 file is complete, 1 damaged;\n1 block is worth reading again\nFiles      1 whole (2 B)\n           1 torn (2.0 kB of 5.0 kB lost)\nFolders    1 whole\nDisc       600 known   1 not known   0 in conflict\n           1 of these is needed, in 1 place\nTorn       41.0 %  /A   2.0 kB of 5.0 kB lost\nNext       udfsalvage reread --last 600 --profile wide --mapfile want.map disc.tab\n           ddrescue -d -r3 -b2048 -m want.map /dev/sr0 p600.img p600.map\n           udfsalvage merge --out disc.tab disc.tab --ddrescue p600.img p600.map\n
 
 = a_movie_without_a_name
 # The directory is not known, so no name leads to A and B.
@@ -194,10 +194,10 @@ $ extract --last 600 --to out --unnamed lost disc.tab
 out written unnamed 4\n
 
 $ summary --last 600 --profile wide disc.tab
-out-has \nNo name    2 whole files with data, 0 empty\n
+out-has \nNo name    2 whole files with data, 0 empty: extract --unnamed lost\n
 
 $ summary --last 600 disc.tab
-out-has \nNo name    1 whole files with data, 0 empty\n
+out-has \nNo name    1 whole files with data, 0 empty: extract --unnamed lost\n
 
 = a_file_of_no_type_is_one_by_the_wide_rules
 # Old writers left the type 0, which says nothing.
@@ -230,7 +230,7 @@ out UDFREPORT1 last 600\nprofile wide\nknown 601 conflict 0\nvolume ok revision 
 
 $ summary --last 600 --profile wide disc.tab
 status 0
-out TEST   UDF 1.50, type 1   601 blocks, 1.2 MB\nFiles      2 whole (5.0 kB)   0 torn (0 B of 0 B lost)   0 not yet known\nFolders    1 whole   0 torn\nTags       1 folder has tags of another place\nDisc       601 known   0 not known, of which 0 are needed (0 runs)   0 in conflict\n
+out TEST   UDF 1.50, type 1   601 blocks, 1.2 MB\n2 files are complete\nFiles      2 whole (5.0 kB)\nFolders    1 whole\nTags       1 folder has tags of another place\nDisc       601 known   0 not known   0 in conflict\nNext       All is whole. Write it out:\n           udfsalvage extract --last 600 --profile wide --to files disc.tab\n
 
 = other_types_are_no_files_by_the_wide_rules
 # Type 250 is that of a metadata file.
@@ -277,7 +277,7 @@ remarked 1 file of a type that is not written (249, real-time): --profile wide w
 files 2
 
 $ summary --last 600 disc.tab
-out TEST   UDF 1.50, type 1   601 blocks, 1.2 MB\nFiles      1 whole (2 B)   0 torn (0 B of 0 B lost)   0 not yet known\nFolders    1 whole   0 torn\nOther      1 file of a type that is not written (249, real-time): --profile wide writes it\nDisc       601 known   0 not known, of which 0 are needed (0 runs)   0 in conflict\n
+out TEST   UDF 1.50, type 1   601 blocks, 1.2 MB\n1 file is complete,\n1 of a type that is not written\nFiles      1 whole (2 B)\nFolders    1 whole\nOther      1 file of a type that is not written (249, real-time): --profile wide writes it\nDisc       601 known   0 not known   0 in conflict\nNext       No block is worth reading again. Write out what is whole:\n           udfsalvage extract --last 600 --to files disc.tab\n
 
 = what_is_said_of_files_of_other_types
 # Torn ones too, several, and none that is empty.
@@ -324,7 +324,7 @@ write 276 172 \0
 but
 $ summary --last 600 disc.tab
 status 0
-out-has \nOther      1 links and devices   0 with faults   0 loops\nDisc
+out-has \nOther      1 link or device\nDisc
 
 write 276 27 \x0c
 but

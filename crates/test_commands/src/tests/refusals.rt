@@ -6,7 +6,7 @@ use std::test::Fail;
 static WHAT_REFUSES_A_MERGE: &str = r"
 * files
 passes
-file old.tab text old
+file old.tab text UDFTABL1old
 file cut.rd front 4119 300:61 301:62
 file long.rd longer 300:61 301:62
 file high.rd reading 4194304:61
@@ -15,7 +15,7 @@ file small.rd text UDFREAD1\0\x02\0\0\0\0\0\0
 
 = a_fault_is_told_and_leaves_the_old_output
 * files
-then has old.tab text old
+then has old.tab text UDFTABL1old
 
 $ merge --out old.tab cut.rd
 refused udfsalvage: input 1: fault 4 Truncated at record 2\n
@@ -42,7 +42,7 @@ has a.rd reading 300:61
 = the_first_refusal_in_order_is_told
 # All inputs are opened before one is judged, and the output is made last.
 * files
-then has old.tab text old
+then has old.tab text UDFTABL1old
 
 $ merge --out old.tab cut.rd absent.rd
 refused udfsalvage: cannot open input 2\n
@@ -67,8 +67,8 @@ refused udfsalvage: cannot write output\n
 
 = a_faulty_table_file_is_refused
 passes
-file old.tab text old
-then has old.tab text old
+file old.tab text UDFTABL1old
+then has old.tab text UDFTABL1old
 
 file t.tab text UDFTABL1\0\x08\0\0\x02\0\0\0\x05\0\0\0\x02\x05\0\0\0\x02
 $ merge --out old.tab a.rd t.tab

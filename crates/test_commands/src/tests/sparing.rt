@@ -5,10 +5,13 @@ use std::test::Fail;
 
 static SCRIPT: &str = r"
 = a_pass_is_not_written_over
-# Neither a reading that is no input, nor an image or a mapfile of the inputs; and nothing is read: the input that is not there is not told.
+# Neither a reading, an image, a mapfile or another file that is no input, nor an image or a mapfile of the inputs; and nothing is read: the input that is not
+# there is not told.
 passes
 file p.img text «2048*c»
 file p.map text # GNU ddrescue\n0x0 + 1\n0 0x800 +\n
+file near text UDFTABX1\0\x08\0\0\0\0\0\0
+file short text UDFTAB
 then refused udfsalvage: cannot write output\n
 then calls 0
 then has b.rd reading 301:62
@@ -17,6 +20,14 @@ then has p.map text # GNU ddrescue\n0x0 + 1\n0 0x800 +\n
 $ merge --out b.rd a.rd
 
 $ merge -o b.rd a.rd absent.rd
+
+$ merge --out p.img a.rd absent.rd
+
+$ merge --out p.map a.rd absent.rd
+
+$ merge --out near a.rd absent.rd
+
+$ merge --out short a.rd absent.rd
 
 $ merge --out b.rd --ddrescue p.img p.map
 
@@ -29,12 +40,12 @@ $ merge --force --out p.map --ddrescue p.img p.map
 $ merge --out p.img p.img --ddrescue p.img p.map
 
 = what_is_written_over
-# An input, by force any reading, a file that only begins like one, a device, and an image of other inputs.
+# An input, by force any file, a table file of either version, a file without bytes, and a device.
 passes
 file p.img text «2048*c»
-file p.map text # GNU ddrescue\n0x0 + 1\n0 0x800 +\n
-file near text UDFREAD2\0\x08\0\0\0\0\0\0
-file short text UDFREAD
+file first text UDFTABL1\0\x08\0\0\0\0\0\0
+file second text UDFTABL2\0\x08\0\0\0\0\0\0
+file empty text
 file dev/tab text UDFREAD1\0\x08\0\0\0\0\0\0
 
 $ merge --v1 --out a.rd a.rd
@@ -45,15 +56,19 @@ $ merge --v1 --force --out b.rd a.rd
 silent
 has b.rd table 300:61
 
-$ merge --v1 -o near a.rd
+$ merge --v1 -o first a.rd
 silent
-has near table 300:61
+has first table 300:61
 
-$ merge --v1 -o short a.rd
+$ merge --v1 -o second a.rd
 silent
-has short table 300:61
+has second table 300:61
 
-$ merge --v1 --out p.img a.rd
+$ merge --v1 -o empty a.rd
+silent
+has empty table 300:61
+
+$ merge --v1 --force --out p.img a.rd
 silent
 has p.img table 300:61
 

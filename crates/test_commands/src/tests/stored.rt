@@ -23,10 +23,10 @@ $ merge --out t.tab dev/two.rd one.rd
 # The reading has 4120 bytes, which are read once from its front. For the table file both blocks are read again at once, 4100 bytes with
 # the number between them. The device then fails for good, so the record that is sought from the front is not found behind the header.
 file two.rd reading 300:61 301:62
-file t.tab text «5000*w»
+file t.tab text UDFTABL«4993*w»
 then refused udfsalvage: input 1: fault 8 Io at record 0\n
-then has t.tab text «5000*w»
-then survives t.tab text «5000*w»
+then has t.tab text UDFTABL«4993*w»
+then survives t.tab text UDFTABL«4993*w»
 then files 2
 
 inputs-fail 4121

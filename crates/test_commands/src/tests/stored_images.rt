@@ -67,8 +67,8 @@ has-at t.tab 135220 «2048*\x43»«2048*\x44»
 # Of the image each rescued block is read once, when it is written. The mapfile, which has 47 bytes, is read before, to its end. The device fails
 # for good, so the record that is sought from the front is the first, whichever it was.
 * files
-file t.tab text «5000*w»
-then has t.tab text «5000*w»
+file t.tab text UDFTABL«4993*w»
+then has t.tab text UDFTABL«4993*w»
 
 inputs-fail 47
 $ merge --v1 --out t.tab --ddrescue p.img p.map

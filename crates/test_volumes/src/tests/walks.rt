@@ -5,6 +5,7 @@ mod memory;
 mod paths;
 mod rows;
 mod shared;
+mod stores;
 mod told;
 
 pub use told::{push_node, rooted};

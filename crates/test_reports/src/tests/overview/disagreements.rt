@@ -47,7 +47,7 @@ fn the_lines_of_a_summary(rt: HostRuntime) -> Result<(), Fail> {
             &rt,
             summed_up(alloc, &table)?,
             &format!(in alloc;
-                "TEST   UDF 1.50, type 1   601 blocks, 1.2 MB\n{lines}Files      2 whole (5.0 kB)   0 torn (0 B of 0 B lost)   0 not yet known\nFolders    1 whole   0 torn\nDisc       {known} known   {not_known} not known, of which 0 are needed (0 runs)   0 in conflict\n"
+                "TEST   UDF 1.50, type 1   601 blocks, 1.2 MB\n{lines}2 files are complete\nFiles      2 whole (5.0 kB)\nFolders    1 whole\nDisc       {known} known   {not_known} not known   0 in conflict\nNext       All is whole. Write it out:\n           udfsalvage extract --last 600 --to files disc.tab\n"
             )?,
         );
     }

@@ -1,20 +1,32 @@
 //! The page of sample volumes. What is expected is worked out by hand.
 
 use super::list::Narrow;
+use super::whole_summary::GIVEN;
 use crate::tests::{assert_case, assert_same, assert_same_in};
 use std::alloc::Global;
 use std::test::Fail;
 use udfs_lattice::BlockTable;
-use udfs_page::write_page;
+use udfs_page::{Called, write_page};
 use udfs_reading::Writer;
-use udfs_salvage::{RunError, survey_volume};
+use udfs_salvage::{RunError, survey_volume, survey_volume_by};
 use udfs_samples::{Disc, LAST, NamedEntry};
+use udfs_volume::Profile;
+
+/// The page has no title.
+const CALLED: Called<'static> = Called {
+    title: None,
+    out: "p.html",
+};
+
+fn page_by(alloc: Global, table: &BlockTable, profile: Profile) -> Result<String, Fail> {
+    let survey = survey_volume_by(alloc, table, LAST, profile)?;
+    let mut text = Writer::new(Vec::new(alloc));
+    write_page(alloc, &GIVEN, &CALLED, &survey, &mut text)?;
+    Ok(String::from_utf8(text.into_inner())?)
+}
 
 fn page_of(alloc: Global, table: &BlockTable) -> Result<String, Fail> {
-    let survey = survey_volume(alloc, table, LAST)?;
-    let mut text = Writer::new(Vec::new(alloc));
-    write_page(alloc, &survey, &mut text)?;
-    Ok(String::from_utf8(text.into_inner())?)
+    page_by(alloc, table, Profile::Strict)
 }
 
 /// The part of a page after the heading of all files; empty if the page has no such heading.
@@ -54,6 +66,29 @@ fn each_file_stands_inside_its_folders(rt: HostRuntime) -> Result<(), Fail> {
 </html>
 ",
     );
+    Ok(())
+}
+
+/// A file of 5,010 bytes with an extent of 5,000, which ends in its third block: the wide rules read it, and mark it. By the strict rules it is a fault.
+#[test]
+fn tails(rt: HostRuntime) -> Result<(), Fail> {
+    let alloc = rt.alloc();
+    let mut disc = Disc::type1(alloc)?;
+    disc.write(&[(275, 56, &[0x92, 0x13])])?;
+    let table = disc.known_but(alloc, &[])?;
+    assert_same(
+        &rt,
+        tree_of(&page_by(alloc, &table, Profile::Wide)?),
+        "<details open class=w><summary><bdi>/</bdi><small>folder</small></summary>
+<div class=w><bdi>A</bdi><small>5.0 kB, <abbr title='The last bytes are read behind its last extent, from the rest of the same block. If the disc was removed between two writes, they may be old.'>tail</abbr></small></div>
+<div class=w><bdi>B</bdi><small>2 B</small></div>
+</details>
+</body>
+</html>
+",
+    );
+    let strict = "<div class=f><bdi>A</bdi><small>5.0 kB, fault 9</small></div>\n";
+    assert_case(&rt, page_of(alloc, &table)?.contains(strict), strict);
     Ok(())
 }
 
@@ -163,7 +198,7 @@ fn a_sink_that_fails_is_told(rt: HostRuntime) -> Result<(), Fail> {
     for good in [0usize, 1, 50_000, whole.len().saturating_sub(1)] {
         let bytes = Vec::new(alloc);
         let mut sink = Writer::new(Narrow { bytes, good });
-        let outcome = write_page(alloc, &survey, &mut sink);
+        let outcome = write_page(alloc, &GIVEN, &CALLED, &survey, &mut sink);
         assert_case(&rt, outcome == Err(RunError::Write), good);
         let begun = whole.as_bytes().get(..good).unwrap_or(&[]);
         assert_same_in(&rt, sink.into_inner().bytes.as_slice(), begun, good);

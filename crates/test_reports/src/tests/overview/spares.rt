@@ -127,7 +127,7 @@ fn the_line_of_a_summary(rt: HostRuntime) -> Result<(), Fail> {
     assert_text(
         &rt,
         summed_up(alloc, &table)?,
-        "TEST   UDF 1.50, sparable   601 blocks, 1.2 MB\nFiles      2 whole (5.0 kB)   0 torn (0 B of 0 B lost)   0 not yet known\nFolders    1 whole   0 torn\nSpares     sparing copies disagree: the volume is not lawful, and files in spared packets may be old\nDisc       601 known   0 not known, of which 0 are needed (0 runs)   0 in conflict\n",
+        "TEST   UDF 1.50, sparable   601 blocks, 1.2 MB\n2 files are complete\nFiles      2 whole (5.0 kB)\nFolders    1 whole\nSpares     sparing copies disagree: the volume is not lawful, and files in spared packets may be old\nDisc       601 known   0 not known   0 in conflict\nNext       All is whole. Write it out:\n           udfsalvage extract --last 600 --to files disc.tab\n",
     );
     Ok(())
 }

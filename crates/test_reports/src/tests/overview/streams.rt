@@ -99,7 +99,7 @@ fn the_line_of_a_summary(rt: HostRuntime) -> Result<(), Fail> {
     assert_text(
         &rt,
         summed_up(alloc, &table)?,
-        "TEST   UDF 1.50, type 1   601 blocks, 1.2 MB\nFiles      0 whole (0 B)   0 torn (0 B of 0 B lost)   0 not yet known\nFolders    0 whole   1 torn: names may be missing in /\nNo name    2 whole files with data, 0 empty\nStreams    1 file with named streams, which are not looked at\nDisc       600 known   1 not known, of which 1 are needed (1 runs)   0 in conflict\nNext       udfsalvage reread --last 600 --mapfile want.map ...\n",
+        "TEST   UDF 1.50, type 1   601 blocks, 1.2 MB\nNo file is complete,\n1 folder may lack names;\nat least 1 block is worth reading again\nFiles      0 whole (0 B)\nFolders    0 whole   1 torn\n           names may be missing in /\nNo name    2 whole files with data, 0 empty: extract --unnamed lost\nStreams    1 file with named streams, which are not looked at\nDisc       600 known   1 not known   0 in conflict\n           1 of these is needed, in 1 place\nNext       udfsalvage reread --last 600 --mapfile want.map disc.tab\n           ddrescue -d -r3 -b2048 -m want.map /dev/sr0 p600.img p600.map\n           udfsalvage merge --out disc.tab disc.tab --ddrescue p600.img p600.map\n",
     );
     Ok(())
 }

@@ -220,7 +220,7 @@ fn lines(rt: HostRuntime) -> Result<(), Fail> {
     assert_same(
         &rt,
         text.as_str(),
-        "Files      287 whole (888.8 kB)   15 torn (149.7 kB of 1.7 MB lost)   30 not yet known\nOther      7 links and devices   2 with faults   0 loops\nNo name    75 whole files with data, 159 empty\nDisc       4,639 known   481 not known, of which 108 are needed (43 runs)   0 in conflict\n",
+        "Files      287 whole (888.8 kB)\n           15 torn (at least 149.7 kB of 1.7 MB lost)\n           30 not yet known: files or whole folders\nOther      7 links and devices\nFaults     2 with faults\nNo name    75 whole files with data, 159 empty: extract --unnamed lost\nDisc       4,639 known   481 not known   0 in conflict\n           108 of these are needed, in 43 places\n",
     );
     Ok(())
 }
@@ -262,7 +262,7 @@ fn lines_of_nothing(rt: HostRuntime) -> Result<(), Fail> {
     assert_same(
         &rt,
         text.as_str(),
-        "Files      0 whole (0 B)   0 torn (0 B of 0 B lost)   0 not yet known\nDisc       0 known   5,120 not known, of which 0 are needed (0 runs)   0 in conflict\n",
+        "Files      0 whole (0 B)\nDisc       0 known   5,120 not known   0 in conflict\n",
     );
     Ok(())
 }

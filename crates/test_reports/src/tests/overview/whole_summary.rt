@@ -5,15 +5,23 @@ use crate::tests::{assert_case, assert_same_in, assert_text};
 use std::alloc::Global;
 use std::test::Fail;
 use udfs_lattice::BlockTable;
-use udfs_overview::write_summary;
+use udfs_overview::{Given, write_summary};
 use udfs_reading::Writer;
 use udfs_salvage::{RunError, survey_volume};
 use udfs_samples::{Disc, LAST, NamedEntry};
 
+/// The arguments of `summary --last 600 disc.tab`.
+pub(super) const GIVEN: Given<'static> = Given {
+    files: &["disc.tab"],
+    parts: &[],
+    size: None,
+    force: false,
+};
+
 pub(super) fn summed_up(alloc: Global, table: &BlockTable) -> Result<String, Fail> {
     let survey = survey_volume(alloc, table, LAST)?;
     let mut text = Writer::new(Vec::new(alloc));
-    write_summary(alloc, &survey, &mut text)?;
+    write_summary(alloc, &GIVEN, &survey, &mut text)?;
     Ok(String::from_utf8(text.into_inner())?)
 }
 
@@ -21,32 +29,32 @@ pub(super) fn summed_up(alloc: Global, table: &BlockTable) -> Result<String, Fai
 static UNREAD: [(&[u32], &str); 6] = [
     (
         &[],
-        "TEST   UDF 1.50, type 1   601 blocks, 1.2 MB\nFiles      2 whole (5.0 kB)   0 torn (0 B of 0 B lost)   0 not yet known\nFolders    1 whole   0 torn\nDisc       601 known   0 not known, of which 0 are needed (0 runs)   0 in conflict\n",
+        "TEST   UDF 1.50, type 1   601 blocks, 1.2 MB\n2 files are complete\nFiles      2 whole (5.0 kB)\nFolders    1 whole\nDisc       601 known   0 not known   0 in conflict\nNext       All is whole. Write it out:\n           udfsalvage extract --last 600 --to files disc.tab\n",
     ),
     // 2,048 of 5,000 bytes
     (
         &[278],
-        "TEST   UDF 1.50, type 1   601 blocks, 1.2 MB\nFiles      1 whole (2 B)   1 torn (2.0 kB of 5.0 kB lost)   0 not yet known\nFolders    1 whole   0 torn\nDisc       600 known   1 not known, of which 1 are needed (1 runs)   0 in conflict\nTorn       41.0 %  /A   2.0 kB of 5.0 kB lost\nNext       udfsalvage reread --last 600 --mapfile want.map ...\n",
+        "TEST   UDF 1.50, type 1   601 blocks, 1.2 MB\n1 file is complete, 1 damaged;\n1 block is worth reading again\nFiles      1 whole (2 B)\n           1 torn (2.0 kB of 5.0 kB lost)\nFolders    1 whole\nDisc       600 known   1 not known   0 in conflict\n           1 of these is needed, in 1 place\nTorn       41.0 %  /A   2.0 kB of 5.0 kB lost\nNext       udfsalvage reread --last 600 --mapfile want.map disc.tab\n           ddrescue -d -r3 -b2048 -m want.map /dev/sr0 p600.img p600.map\n           udfsalvage merge --out disc.tab disc.tab --ddrescue p600.img p600.map\n",
     ),
     // the entry of a file
     (
         &[275],
-        "TEST   UDF 1.50, type 1   601 blocks, 1.2 MB\nFiles      1 whole (2 B)   0 torn (0 B of 0 B lost)   1 not yet known\nFolders    1 whole   0 torn\nDisc       600 known   1 not known, of which 1 are needed (1 runs)   0 in conflict\nNext       udfsalvage reread --last 600 --mapfile want.map ...\n",
+        "TEST   UDF 1.50, type 1   601 blocks, 1.2 MB\n1 file is complete, 1 could not be looked at;\nat least 1 block is worth reading again\nFiles      1 whole (2 B)\n           1 not yet known: a file or a whole folder\nFolders    1 whole\nDisc       600 known   1 not known   0 in conflict\n           1 of these is needed, in 1 place\nUnread     1 entry, a file or a whole folder of unknown size:\n           /A\nNext       udfsalvage reread --last 600 --mapfile want.map disc.tab\n           ddrescue -d -r3 -b2048 -m want.map /dev/sr0 p600.img p600.map\n           udfsalvage merge --out disc.tab disc.tab --ddrescue p600.img p600.map\n",
     ),
     // the root's body, without which no name leads to the files
     (
         &[274],
-        "TEST   UDF 1.50, type 1   601 blocks, 1.2 MB\nFiles      0 whole (0 B)   0 torn (0 B of 0 B lost)   0 not yet known\nFolders    0 whole   1 torn: names may be missing in /\nNo name    2 whole files with data, 0 empty\nDisc       600 known   1 not known, of which 1 are needed (1 runs)   0 in conflict\nNext       udfsalvage reread --last 600 --mapfile want.map ...\n",
+        "TEST   UDF 1.50, type 1   601 blocks, 1.2 MB\nNo file is complete,\n1 folder may lack names;\nat least 1 block is worth reading again\nFiles      0 whole (0 B)\nFolders    0 whole   1 torn\n           names may be missing in /\nNo name    2 whole files with data, 0 empty: extract --unnamed lost\nDisc       600 known   1 not known   0 in conflict\n           1 of these is needed, in 1 place\nNext       udfsalvage reread --last 600 --mapfile want.map disc.tab\n           ddrescue -d -r3 -b2048 -m want.map /dev/sr0 p600.img p600.map\n           udfsalvage merge --out disc.tab disc.tab --ddrescue p600.img p600.map\n",
     ),
     // all places of an anchor
     (
         &[256, 344, 600],
-        "does not open: blocks 256, 344 and 600 are needed\nDisc       598 known   3 not known, of which 3 are needed (3 runs)   0 in conflict\nNext       udfsalvage reread --last 600 --mapfile want.map ...\n",
+        "does not open: blocks 256, 344 and 600 are needed\nDisc       598 known   3 not known   0 in conflict\n           3 of these are needed, in 3 places\nNext       udfsalvage reread --last 600 --mapfile want.map disc.tab\n           ddrescue -d -r3 -b2048 -m want.map /dev/sr0 p598.img p598.map\n           udfsalvage merge --out disc.tab disc.tab --ddrescue p598.img p598.map\n",
     ),
     // the file set
     (
         &[272],
-        "does not open: block 272 is needed\nDisc       600 known   1 not known, of which 1 are needed (1 runs)   0 in conflict\nNext       udfsalvage reread --last 600 --mapfile want.map ...\n",
+        "does not open: block 272 is needed\nDisc       600 known   1 not known   0 in conflict\n           1 of these is needed, in 1 place\nNext       udfsalvage reread --last 600 --mapfile want.map disc.tab\n           ddrescue -d -r3 -b2048 -m want.map /dev/sr0 p600.img p600.map\n           udfsalvage merge --out disc.tab disc.tab --ddrescue p600.img p600.map\n",
     ),
 ];
 
@@ -69,8 +77,8 @@ fn a_fault_in_words(rt: HostRuntime) -> Result<(), Fail> {
         summed_up(alloc, &table)?,
         concat!(
             "does not open: there is no anchor\n",
-            "Disc       601 known   0 not known, of which 0 are needed (0 runs)   0 in conflict\n",
-            "Next       no block to read again helps: man udfsalvage says what this fault means\n",
+            "Disc       601 known   0 not known   0 in conflict\n",
+            "Next       no block to read again helps:\n           man udfsalvage says what this fault means\n",
         ),
     );
     Ok(())
@@ -144,7 +152,7 @@ fn torn_files_by_loss_and_by_path(rt: HostRuntime) -> Result<(), Fail> {
     assert_text(
         &rt,
         summed_up(alloc, &table)?,
-        "TEST   UDF 1.50, type 1   601 blocks, 1.2 MB\nFiles      0 whole (0 B)   4 torn (7.1 kB of 18.0 kB lost)   0 not yet known\nFolders    1 whole   0 torn\nNo name    1 whole files with data, 0 empty\nDisc       599 known   2 not known, of which 2 are needed (2 runs)   0 in conflict\nTorn       41.0 %  /a      2.0 kB of 5.0 kB lost\n           41.0 %  /b      2.0 kB of 5.0 kB lost\n           41.0 %  /日本   2.0 kB of 5.0 kB lost\n           31.7 %  /c       952 B of 3.0 kB lost\nNext       udfsalvage reread --last 600 --mapfile want.map ...\n",
+        "TEST   UDF 1.50, type 1   601 blocks, 1.2 MB\nNo file is complete, 4 damaged;\n2 blocks are worth reading again\nFiles      0 whole (0 B)\n           4 torn (7.1 kB of 18.0 kB lost)\nFolders    1 whole\nNo name    1 whole files with data, 0 empty: extract --unnamed lost\nDisc       599 known   2 not known   0 in conflict\n           2 of these are needed, in 2 places\nTorn       41.0 %  /a      2.0 kB of 5.0 kB lost\n           41.0 %  /b      2.0 kB of 5.0 kB lost\n           41.0 %  /日本   2.0 kB of 5.0 kB lost\n           31.7 %  /c       952 B of 3.0 kB lost\nNext       udfsalvage reread --last 600 --mapfile want.map disc.tab\n           ddrescue -d -r3 -b2048 -m want.map /dev/sr0 p599.img p599.map\n           udfsalvage merge --out disc.tab disc.tab --ddrescue p599.img p599.map\n",
     );
     Ok(())
 }
@@ -222,9 +230,10 @@ fn several_torn_folders(rt: HostRuntime) -> Result<(), Fail> {
     disc.write_directory(272, 22, &[(b"\x08y", 3)])?;
     let table = disc.known_but(alloc, &[293, 295])?;
     let text = summed_up(alloc, &table)?;
-    let found = text.lines().find(|line| line.starts_with("Folders"));
     assert!(rt;
-        found == Some("Folders    1 whole   2 torn: names may be missing in /p and 1 more")
+        text.as_str().contains(
+            "Folders    1 whole   2 torn\n           names may be missing in /p\n           and 1 more\n"
+        )
     );
     Ok(())
 }
@@ -238,7 +247,7 @@ fn a_sink_that_fails_holds_a_beginning(rt: HostRuntime) -> Result<(), Fail> {
     for good in 0..expected.len() {
         let bytes = Vec::new(alloc);
         let mut sink = Writer::new(Narrow { bytes, good });
-        let outcome = write_summary(alloc, &survey, &mut sink);
+        let outcome = write_summary(alloc, &GIVEN, &survey, &mut sink);
         assert_case(&rt, outcome == Err(RunError::Write), good);
         let begun = expected.as_bytes().get(..good).unwrap_or(&[]);
         assert_same_in(&rt, sink.into_inner().bytes.as_slice(), begun, good);

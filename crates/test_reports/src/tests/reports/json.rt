@@ -5,8 +5,12 @@ use std::alloc::Global;
 use std::test::Fail;
 use udfs_lattice::BlockTable;
 use udfs_reading::Writer;
-use udfs_salvage::{report_json, salvage, survey_volume, write_json, write_numbers, write_reread};
+use udfs_salvage::{
+    Survey, report_json, salvage, salvage_by, survey_volume, survey_volume_by, write_json,
+    write_numbers, write_reread,
+};
 use udfs_samples::{Disc, LAST};
+use udfs_volume::Profile;
 
 /// The JSON of the empty table.
 const NOTHING: &str =
@@ -49,11 +53,16 @@ fn the_json_of_a_torn_file(rt: HostRuntime) -> Result<(), Fail> {
 }
 
 /// What is written of a survey.
+fn written_of(alloc: Global, survey: &Survey<'_>) -> Result<String, Fail> {
+    let mut text = Writer::new(Vec::new(alloc));
+    write_json(alloc, survey, &mut text)?;
+    Ok(String::from_utf8(text.into_inner())?)
+}
+
+/// What is written of the survey of a table.
 fn written(alloc: Global, table: &BlockTable) -> Result<String, Fail> {
     let survey = survey_volume(alloc, table, LAST)?;
-    let mut text = Writer::new(Vec::new(alloc));
-    write_json(alloc, &survey, &mut text)?;
-    Ok(String::from_utf8(text.into_inner())?)
+    written_of(alloc, &survey)
 }
 
 /// A survey keeps no blocks and holes of its torn nodes, and its JSON has them.
@@ -73,6 +82,28 @@ fn the_json_of_surveys(rt: HostRuntime) -> Result<(), Fail> {
     let part =
         "{\"hidden\":false,\"holes\":[[2048,2952]],\"kind\":\"file\",\"missing\":[278,279],\"modified\":\"2001-07-04T09:30:00.000000Z\",\"path\":\"/A\",\"size\":5000,\"standing\":\"torn\"}";
     assert_case(&rt, torn.as_str().contains(part), torn);
+    Ok(())
+}
+
+/// By the wide rules, the JSON of the sample volume whose file of 5,010 bytes has an extent of 5,000, which ends in its third block.
+const TAIL: &str =
+    "{\"conflict\":0,\"known\":601,\"label\":{\"state\":\"name\",\"text\":\"TEST\"},\"last\":600,\"nodes\":[{\"hidden\":false,\"holes\":[],\"kind\":\"directory\",\"missing\":[],\"modified\":\"2001-07-04T09:30:00.000000Z\",\"path\":\"/\",\"size\":120,\"standing\":\"whole\"},{\"hidden\":false,\"holes\":[],\"kind\":\"file\",\"missing\":[],\"modified\":\"2001-07-04T09:30:00.000000Z\",\"path\":\"/A\",\"size\":5010,\"standing\":\"whole\",\"tail\":true},{\"hidden\":false,\"holes\":[],\"kind\":\"file\",\"missing\":[],\"modified\":\"2001-07-04T09:30:00.000000Z\",\"path\":\"/B\",\"size\":2,\"standing\":\"whole\"}],\"profile\":\"wide\",\"reread\":[],\"unnamed\":[],\"volume\":{\"map\":\"type1\",\"revision\":\"1.50\",\"state\":\"ok\"}}";
+
+/// The file is marked, in a report and in a survey. By the strict rules it is a fault, and nothing is marked.
+#[test]
+fn the_json_of_a_tail(rt: HostRuntime) -> Result<(), Fail> {
+    let alloc = rt.alloc();
+    let mut disc = Disc::type1(alloc)?;
+    disc.write(&[(275, 56, &[0x92, 0x13])])?;
+    let table = disc.known_but(alloc, &[])?;
+    let report = salvage_by(alloc, &table, LAST, Profile::Wide)?;
+    assert_same(&rt, report_json(alloc, &report)?.as_str(), TAIL);
+    let survey = survey_volume_by(alloc, &table, LAST, Profile::Wide)?;
+    let text = written_of(alloc, &survey)?;
+    assert_same(&rt, text.as_str(), format!(in alloc; "{TAIL}\n")?.as_str());
+    let strict = written(alloc, &table)?;
+    let part = "\"path\":\"/A\",\"size\":5010,\"standing\":\"fault-9\"}";
+    assert_case(&rt, strict.as_str().contains(part), strict.as_str());
     Ok(())
 }
 

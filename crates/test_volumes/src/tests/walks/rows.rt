@@ -5,7 +5,8 @@ use crate::tests::assert_text;
 use std::test::Fail;
 use udfs_samples::{Bytes, Disc};
 
-const WHOLE: &str =
+/// What is reported of a whole volume.
+pub(super) const WHOLE: &str =
     "whole directory 120 2001-07-04T09:30:00.000000Z \nwhole file 5000 2001-07-04T09:30:00.000000Z /A\nwhole file 2 2001-07-04T09:30:00.000000Z /B\n";
 
 /// One anchor and half of each copy are enough.
@@ -25,7 +26,7 @@ fn whole_volumes(rt: HostRuntime) -> Result<(), Fail> {
 }
 
 /// The blocks that are not known, and what is reported then.
-static UNREAD: [(&[u32], &str); 4] = [
+pub(super) static UNREAD: [(&[u32], &str); 4] = [
     (
         &[275, 277, 278, 279],
         "whole directory 120 2001-07-04T09:30:00.000000Z \ntorn missing 275 unread /A\nwhole file 2 2001-07-04T09:30:00.000000Z /B\nreread 275\n",

@@ -3,17 +3,17 @@
 use std::alloc::{AllocError, Global};
 use std::test::Fail;
 use udfs_file::{Kind, file_set};
-use udfs_lattice::BlockTable;
+use udfs_lattice::{BlockStore, BlockTable};
 use udfs_osta::Stamp;
 use udfs_samples::LAST;
-use udfs_space::Space;
+use udfs_space::{Space, StoreView};
 use udfs_tag::LongAd;
 use udfs_volume::Seen;
 use udfs_volume::layouts::layout;
-use udfs_walk::answers::{Node, NodesError, Unnamed};
+use udfs_walk::answers::{Node, NodesError, NodesGaveUp, Unnamed};
 use udfs_walk::standings::Standing;
-use udfs_walk::unnamed_entries::unnamed;
-use udfs_walk::{nodes, reread};
+use udfs_walk::unnamed_entries::{bare_unnamed_by, unnamed};
+use udfs_walk::{bare_nodes_by, bare_reread_by, full_entries_by, full_nodes_by, nodes, reread};
 
 /// The places of a table's volume, and the address of its root.
 pub fn rooted(alloc: Global, table: &BlockTable) -> Option<(Space, LongAd)> {
@@ -114,21 +114,24 @@ fn push_unnamed(alloc: Global, text: &mut String, entry: &Unnamed) -> Result<(),
     text.push('\n')
 }
 
-/// Appends the lines after those of the nodes.
-fn push_others(
+/// The lines of nodes, of entries that no name leads to, and of blocks to read again.
+fn lines(
     alloc: Global,
-    text: &mut String,
-    table: &BlockTable,
-    space: &Space,
-    all: &[Node],
-) -> Result<(), Fail> {
-    for entry in &unnamed(alloc, table, space, all)? {
-        push_unnamed(alloc, text, entry)?;
+    nodes: &[Node],
+    entries: &[Unnamed],
+    blocks: &[u32],
+) -> Result<String, AllocError> {
+    let mut text = String::new(alloc);
+    for node in nodes {
+        push_node(alloc, &mut text, node)?;
     }
-    for n in &reread(alloc, all)? {
+    for entry in entries {
+        push_unnamed(alloc, &mut text, entry)?;
+    }
+    for n in blocks {
         write!(text, "reread {n}\n")?;
     }
-    Ok(())
+    Ok(text)
 }
 
 /// All that is reported of a table's volume, or why it has no nodes.
@@ -140,10 +143,22 @@ pub fn told(alloc: Global, table: &BlockTable) -> Result<String, Fail> {
         Ok(all) => all,
         Err(error) => return Ok(format!(in alloc; "{error}")?),
     };
-    let mut text = String::new(alloc);
-    for node in &all {
-        push_node(alloc, &mut text, node)?;
-    }
-    push_others(alloc, &mut text, table, &space, &all)?;
+    let entries = unnamed(alloc, table, &space, &all)?;
+    let blocks = reread(alloc, &all)?;
+    Ok(lines(alloc, &all, &entries, &blocks)?)
+}
+
+/// The same of the volume of a store of blocks.
+pub fn told_by<B: BlockStore>(
+    alloc: Global,
+    view: StoreView<'_, B>,
+    root: LongAd,
+) -> Result<String, NodesGaveUp> {
+    let bare = bare_nodes_by(alloc, view, root)?;
+    let entries = bare_unnamed_by(alloc, view, &bare)?;
+    let entries = full_entries_by(alloc, view, entries)?;
+    let blocks = bare_reread_by(alloc, view, &bare)?;
+    let nodes = full_nodes_by(alloc, view, bare)?;
+    let text = lines(alloc, &nodes, &entries, &blocks)?;
     Ok(text)
 }

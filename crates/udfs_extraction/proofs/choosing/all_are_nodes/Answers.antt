@@ -1,8 +1,8 @@
 use Rattle.std.proofs.Common.{rules, ◌<◌, length, ◌≡◌, ◌+◌, ◌-◌, ◌∙◌, sym, ap, subst, arith, Bor, ℕ, List, Some, Result, Err, IsErrOf, map, slice_get, ⊎_elim, inr, refl}
-use Rattle.udfs_extraction.specs.Choosing.{is_node}
+use Rattle.udfs_salvage.specs.Choosing.{is_node}
 use Rattle.udfs_common.specs.declared.refusal.Refusal.{Refusal}
 use Rattle.udfs_common.specs.declared.refusal.Refusal.TheVariants.{NoNode}
-use Rattle.udfs_extraction.proofs.ChoosingLemmas.{all_by, word_at, word_there}
+use Rattle.udfs_salvage.proofs.ChoosingLemmas.{all_by, word_at, word_there}
 use Rattle.std.proofs.lemmas.Bool.{cases_lt}
 use Rattle.std.proofs.lemmas.List.{length-map}
 use Rattle.udfs_extraction.proofs.choosing.all_are_nodes.Goals as goal

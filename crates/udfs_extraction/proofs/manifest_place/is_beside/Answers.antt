@@ -1,5 +1,5 @@
 use Rattle.std.proofs.Common.{rules, ◌≡◌, ◌≢◌, ◌++◌, ℕ, List, false, codes}
-use Rattle.udfs_extraction.specs.Choosing.{goes_on}
+use Rattle.udfs_salvage.specs.Choosing.{goes_on}
 use Rattle.udfs_extraction.proofs.ManifestLemmas.{beside}
 use Rattle.udfs_extraction.proofs.manifest_place.is_beside.Goals as goal
 

@@ -3,7 +3,7 @@ use Rattle.udfs_lattice.specs.Tables.{state_of}
 use Rattle.udfs_walk.specs.NodeFields.{NodeFields}
 use Rattle.udfs_salvage.specs.Found.{volume_now}
 use Rattle.udfs_salvage.specs.Listings.{full_in}
-use Rattle.udfs_extraction.specs.Choosing.{is_chosen}
+use Rattle.udfs_salvage.specs.Choosing.{is_chosen}
 use Rattle.udfs_extraction.proofs.node_files.put_chosen.Goals as goal
 
 pub returns-in-Ok-clause-put : goal.returns-in-Ok-clause-put

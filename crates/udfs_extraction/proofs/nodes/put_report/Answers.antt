@@ -5,7 +5,7 @@ use Rattle.udfs_lattice.specs.Tables.{state_of}
 use Rattle.udfs_salvage.specs.Found.{volume_now}
 use Rattle.udfs_walk.specs.Unsettled.{is_whole}
 use Rattle.udfs_salvage.specs.Listings.{listing_now}
-use Rattle.udfs_extraction.specs.Choosing.{chosen, is_node}
+use Rattle.udfs_salvage.specs.Choosing.{chosen, is_node}
 use Rattle.udfs_extraction.specs.Manifests.{notes_text}
 use Rattle.udfs_extraction.proofs.ListedLemmas.{same_chosen, same_named}
 use Rattle.udfs_extraction.proofs.ManifestLemmas.{by_open, puts_with}

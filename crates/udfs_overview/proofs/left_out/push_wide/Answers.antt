@@ -1,4 +1,4 @@
-use Rattle.std.proofs.Common.{◌≡◌, ◌++◌, ap, subst, sym, Bool, false, List, ℕ, []}
+use Rattle.std.proofs.Common.{◌≡◌, ◌++◌, subst, sym, Bool, List, ℕ, []}
 use Rattle.std.proofs.lemmas.Bool.{ne_eqb}
 use Rattle.std.specs.Prelude.{OnOk, codes, if◌then◌else◌}
 use Rattle.std.specs.String.{string_bytes}

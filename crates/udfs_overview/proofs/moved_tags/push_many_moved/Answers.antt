@@ -1,6 +1,6 @@
 use Rattle.std.specs.Prelude.{codes}
 use Rattle.std.specs.String.{string_bytes}
-use Rattle.udfs_overview.specs.SummaryTexts.{counted}
+use Rattle.udfs_overview.specs.Sentences.{counted}
 use Rattle.udfs_overview.proofs.Chains.{last_appended}
 use Rattle.udfs_overview.proofs.moved_tags.push_many_moved.Goals as goal
 

@@ -3,8 +3,8 @@ use Rattle.serde_json.proofs.Views.{view-Object}
 use Rattle.serde_json.specs.Data.{object}
 use Rattle.udfs_lattice.specs.Tables.{conflict_count, known_count, state_of}
 use Rattle.udfs_salvage.specs.Found.{volume_now}
-use Rattle.udfs_salvage.specs.JsonNodes.{count, list_data, node_data, unnamed_data}
-use Rattle.udfs_salvage.specs.JsonReports.{label_data_of, report_data_by, reread_data, volume_data}
+use Rattle.udfs_salvage.specs.JsonNodes.{count, list_data, unnamed_data}
+use Rattle.udfs_salvage.specs.JsonReports.{label_data_of, nodes_data, report_data_by, reread_data, volume_data}
 use Rattle.udfs_salvage.specs.Texts.{has_two}
 use Rattle.udfs_salvage.proofs.JsonVolumes.{report_members}
 use Rattle.udfs_salvage.proofs.json_reports.report_value.Goals as goal
@@ -39,6 +39,5 @@ returns c =
       c.has_two-two.ensures,
       c.deref.ensures.value,
       c.deref-2.ensures.value,
-      c.deref-3.ensures.value,
-    ) (ap object (report_members r.profile (count (conflict_count r.table.now)) (count (known_count r.table.now)) (label_data_of v) (count r.last) (list_data node_data r.nodes.items)
+    ) (ap object (report_members r.profile (count (conflict_count r.table.now)) (count (known_count r.table.now)) (label_data_of v) (count r.last) (nodes_data r.profile (state_of r.table.now) v r.nodes.items)
     (list_data (reread_data (state_of r.table.now)) r.reread.items) (list_data (unnamed_data (has_two v)) r.unnamed.items) (volume_data v)))

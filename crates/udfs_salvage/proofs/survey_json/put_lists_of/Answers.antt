@@ -5,9 +5,9 @@ use Rattle.std.specs.Prelude.{codes}
 use Rattle.serde_json.specs.Written.{compact_text}
 use Rattle.udfs_lattice.specs.Tables.{state_of}
 use Rattle.udfs_salvage.specs.Found.{volume_now}
-use Rattle.udfs_salvage.specs.JsonNodes.{list_data, node_data, unnamed_data}
+use Rattle.udfs_salvage.specs.JsonNodes.{list_data, unnamed_data}
 use Rattle.udfs_salvage.specs.JsonPieces.{report_end, reread_words}
-use Rattle.udfs_salvage.specs.JsonReports.{reread_data}
+use Rattle.udfs_salvage.specs.JsonReports.{nodes_data, reread_data}
 use Rattle.udfs_salvage.specs.Surveys.{survey_now}
 use Rattle.udfs_salvage.specs.Texts.{has_two}
 use Rattle.udfs_salvage.proofs.Printed.{passes_three, stopped_first_of, stopped_second_of}
@@ -17,7 +17,7 @@ pub returns-in_err-put_survey_nodes : goal.returns-in_err-put_survey_nodes
 returns-in_err-put_survey_nodes g c =
     let p = err_from_is_err_and c.from_residual.result c.from_residual.ensures.1 in
     let s = c.args.survey.now in
-    let first = compact_text (list_data node_data (survey_now s).nodes) in
+    let first = compact_text (nodes_data s.profile (state_of s.table.now) (volume_now s.volume) (survey_now s).nodes) in
     let second = reread_words s.profile in
     let third = compact_text (list_data (reread_data (state_of s.table.now)) s.reread.items)
     ++ (codes ",\"unnamed\":" ++ (compact_text (list_data (unnamed_data (has_two (volume_now s.volume))) (survey_now s).unnamed)
@@ -28,7 +28,7 @@ pub returns-in_err-put_words : goal.returns-in_err-put_words
 returns-in_err-put_words g c =
     let p = err_from_is_err_and c.from_residual-in_err-put_words.result c.from_residual-in_err-put_words.ensures.1 in
     let s = c.args.survey.now in
-    let first = compact_text (list_data node_data (survey_now s).nodes) in
+    let first = compact_text (nodes_data s.profile (state_of s.table.now) (volume_now s.volume) (survey_now s).nodes) in
     let second = c.reread_words.result.now in
     let third = compact_text (list_data (reread_data (state_of s.table.now)) s.reread.items)
     ++ (codes ",\"unnamed\":" ++ (compact_text (list_data (unnamed_data (has_two (volume_now s.volume))) (survey_now s).unnamed)
@@ -39,7 +39,7 @@ pub returns : goal.returns
 returns g c =
     let W = g.W.Sink in
     let s = c.args.survey.now in
-    let first = compact_text (list_data node_data (survey_now s).nodes) in
+    let first = compact_text (nodes_data s.profile (state_of s.table.now) (volume_now s.volume) (survey_now s).nodes) in
     let second = c.reread_words.result.now in
     let third = compact_text (list_data (reread_data (state_of s.table.now)) s.reread.items)
     ++ (codes ",\"unnamed\":" ++ (compact_text (list_data (unnamed_data (has_two (volume_now s.volume))) (survey_now s).unnamed)

@@ -3,7 +3,7 @@ use Rattle.std.specs.String.{string_bytes}
 use Rattle.udfs_reading.specs.Writing.{Passed}
 use Rattle.udfs_space.specs.Views.{view_now}
 use Rattle.udfs_walk.specs.Bare.{full_node}
-use Rattle.udfs_salvage.specs.JsonNodes.{node_data}
+use Rattle.udfs_salvage.specs.JsonNodes.{node_in}
 use Rattle.udfs_salvage.specs.JsonPieces.{more_values}
 use Rattle.udfs_salvage.specs.KeptLists.{AreKeptLists}
 use Rattle.udfs_salvage.proofs.survey_json.put_more_nodes.Given as goal
@@ -13,6 +13,6 @@ abbrev pub invariant-loop-node : goal.invariant-loop-node
 invariant-loop-node g l =
     let W = g.W.Sink in record {
       text : Passed (W.stream l.fn.sink) (W.stream l.sink) (string_bytes l.fn.text) (string_bytes l.text)
-          (more_values (λ n. node_data (full_node (view_now l.view) n)) (take l.node-index l.nodes));
+          (more_values (λ n. node_in l.profile (view_now l.view) (full_node (view_now l.view) n)) (take l.node-index l.nodes));
       lists : AreKeptLists (view_now l.view) l.kept.lists;
     }

@@ -1,8 +1,0 @@
--- what is left decides
-use Rattle.std.proofs.Common.{◌≡◌, Bor, List, ℕ, drop, map}
-use Rattle.std.specs.List.{list_any}
-use Rattle.udfs_extraction.specs.Choosing.{goes_on}
-use Rattle.udfs_extraction.proofs.choosing.is_any_below.Given as goal
-
-abbrev pub invariant-loop-word : goal.invariant-loop-word
-invariant-loop-word l = list_any (λ word. goes_on l.text word) (map (λ (word : Bor (List ℕ)). word.now) (drop l.word-index l.only)) ≡ list_any (λ word. goes_on l.text word) (map (λ (word : Bor (List ℕ)). word.now) l.only)

@@ -1,7 +1,0 @@
--- What is left decides.
-use Rattle.std.proofs.Common.{◌≡◌, drop}
-use Rattle.udfs_extraction.specs.Choosing.{is_node}
-use Rattle.udfs_extraction.proofs.choosing.is_node.Given as goal
-
-abbrev pub invariant-loop-node : goal.invariant-loop-node
-invariant-loop-node l = is_node (drop l.node-index l.nodes) l.word ≡ is_node l.nodes l.word

@@ -1,0 +1,137 @@
+//! Where a path leads, every link followed, and what is there, as the machine's calls tell it.
+
+ghost use Rattle.std.specs.Prelude.{◌≡◌, ◌≢◌, None, IfOk, IfSome, IsNone, OnErr, string_bytes};
+ghost use Rattle.udfs_calls.specs.Log.{Names, NamesSome};
+ghost use Rattle.udfs_files.specs.Leading.{LeadsTo};
+ghost use Rattle.udfs_files.specs.declared.files.Kind.{Kind};
+
+use crate::files::{Kind, Target};
+use crate::places::{is_device, name_in, split};
+use crate::watch::{Watch, heeded};
+use std::alloc::{AllocError, Global};
+use std::io::ErrorKind;
+use udfs_calls::Calls;
+use udfs_reading::DeviceFault;
+
+/// How many links are followed one after the other, as the system does.
+const LINKS: usize = 40;
+
+/// What is at a path. A regular file that may not be written is a fault.
+fn kind_at<C: Calls, N: Watch>(calls: &C, watch: &N, path: &str) -> Result<Kind, DeviceFault>
+    ensures absent { IfOk result (λ kind. kind ≡ Kind.Absent → Names (C.log calls.now) (C.real calls.now path.now) None) }
+    ensures regular { IfOk result (λ kind. kind ≡ Kind.Regular → NamesSome (C.log calls.now) (C.real calls.now path.now)) }
+    ensures other { IfOk result (λ kind. kind ≡ Kind.Other → C.in_place calls.now path.now) }
+    ensures shut { OnErr result (C.shut calls.now path.now) }
+{
+    match calls.about(path) {
+        Ok(about) if about.is_file => match heeded(watch, calls.try_to_write(path)) {
+            Some(()) => Ok(Kind::Regular),
+            None => Err(DeviceFault),
+        },
+        Ok(_) => Ok(Kind::Other),
+        Err(error) if error.kind() == ErrorKind::NotFound => Ok(Kind::Absent),
+        Err(error) => {
+            watch.failed(error);
+            Err(DeviceFault)
+        }
+    }
+}
+
+/// The path that a path leads to, where something is there.
+fn real_path<C: Calls, N: Watch>(
+    calls: &C,
+    watch: &N,
+    alloc: Global,
+    path: &str,
+) -> Result<Result<String, DeviceFault>, AllocError>
+    ensures { IfOk result (λ found. IfOk found (λ real_path. C.tells → string_bytes real_path ≡ C.real calls.now path.now)) }
+{
+    match calls.real_path(alloc, path) {
+        Ok(real_path) => Ok(Ok(real_path)),
+        Err(error) if error.kind() == ErrorKind::OutOfMemory => Err(AllocError),
+        Err(error) => {
+            watch.failed(error);
+            Ok(Err(DeviceFault))
+        }
+    }
+}
+
+/// The path that a path leads to which is no link, where nothing is there: the name in the folder that its own folder leads to.
+fn absent_path<C: Calls, N: Watch>(
+    calls: &C,
+    watch: &N,
+    alloc: Global,
+    path: &str,
+) -> Result<Result<String, DeviceFault>, AllocError>
+    ensures { IfOk result (λ found. IfOk found (λ real_path. C.tells → C.link_at calls.now path.now ≡ None → string_bytes real_path ≡ C.real calls.now path.now)) }
+{
+    let (folder, name) = split(path);
+    match real_path(calls, watch, alloc, folder)? {
+        Ok(real) => Ok(Ok(name_in(alloc, real.as_str(), name)?)),
+        Err(fault) => Ok(Err(fault)),
+    }
+}
+
+/// Where a path leads that is no link.
+fn settled<C: Calls, N: Watch>(
+    calls: &C,
+    watch: &N,
+    alloc: Global,
+    path: &str,
+) -> Result<Result<Target, DeviceFault>, AllocError>
+    ensures { IfOk result (λ found. IfOk found (λ target. C.tells → C.link_at calls.now path.now ≡ None → LeadsTo (C.log calls.now) (C.real calls.now) (C.in_place calls.now) path.now target)) }
+{
+    let kind = match kind_at(calls, watch, path) {
+        Ok(kind) => kind,
+        Err(fault) => return Ok(Err(fault)),
+    };
+    let found = match kind {
+        Kind::Absent => absent_path(calls, watch, alloc, path)?,
+        Kind::Regular | Kind::Other => real_path(calls, watch, alloc, path)?,
+    };
+    match found {
+        Ok(path) => Ok(Ok(Target { path, kind })),
+        Err(fault) => Ok(Err(fault)),
+    }
+}
+
+/// The path that a link leads on to; `None` where the path is no link.
+fn next<C: Calls>(calls: &C, alloc: Global, path: &str) -> Result<Option<String>, AllocError>
+    ensures leads { IfOk result (λ found. IfSome found (λ next. C.tells → C.real calls.now (string_bytes next) ≡ C.real calls.now path.now)) }
+    ensures none { IfOk result (λ found. IsNone found → C.tells → C.link_at calls.now path.now ≡ None) }
+{
+    match calls.link(alloc, path) {
+        Ok(link) => Ok(Some(name_in(alloc, split(path).0, link.as_str())?)),
+        Err(error) if error.kind() == ErrorKind::OutOfMemory => Err(AllocError),
+        Err(_) => Ok(None),
+    }
+}
+
+/// Where a path leads, every link followed, and what is there. A path that leads through a device is one.
+///
+/// # Errors
+///
+/// `AllocError` where memory ran out. `DeviceFault` inside where it leads into nothing, to a file that may not be written, or along too many links.
+pub(crate) fn resolve<C: Calls, N: Watch>(
+    calls: &C,
+    watch: &N,
+    alloc: Global,
+    path: &str,
+) -> Result<Result<Target, DeviceFault>, AllocError>
+    ensures { IfOk result (λ found. IfOk found (λ target. C.tells → LeadsTo (C.log calls.now) (C.real calls.now) (C.in_place calls.now) path.now target)) }
+{
+    let mut at = String::from_str(alloc, path)?;
+    for _ in 0..LINKS {
+        if is_device(at.as_str()) {
+            return Ok(Ok(Target {
+                path: at,
+                kind: Kind::Other,
+            }));
+        }
+        match next(calls, alloc, at.as_str())? {
+            Some(next) => at = next,
+            None => return settled(calls, watch, alloc, at.as_str()),
+        }
+    }
+    Ok(Err(DeviceFault))
+}
