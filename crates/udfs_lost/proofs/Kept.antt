@@ -1,5 +1,5 @@
 -- What a loop keeps of a list.
-use Rattle.std.proofs.Common.{◌≡◌, sym, ◌∙◌, ap, ℕ, ◌+◌, ◌<◌, ◌≤◌, Bool, true, false, cond, List, [], ◌∷◌, ◌++◌, length, map, take, get_or, Option, Some, None}
+use Rattle.std.proofs.Common.{◌≡◌, refl, sym, ◌∙◌, ap, ℕ, ◌+◌, ◌<◌, ◌≤◌, Bool, true, false, cond, List, [], ◌∷◌, ◌++◌, length, map, take, get_or, Option, Some, None}
 use Rattle.std.specs.Prelude.{filter, filter_map}
 use Rattle.std.specs.List.{cons_option}
 use Rattle.std.proofs.lemmas.List.{append-nil, map-append}
@@ -36,3 +36,12 @@ module _ {A B : Type 0} (f : A → Option B) where
 
   pub given_all : (xs : List A) (i : ℕ) (old : List B) → length xs ≤ i → old ≡ filter_map f (take i xs) → old ≡ filter_map f xs
   given_all xs i old h o = o ∙ ap (filter_map f) (take_whole xs i h)
+
+-- what a change of the elements keeps
+pub kept_alike : {A B : Type 0} (f : A → B) (p : A → Bool) (g : A → A) → ((x : A) → p (g x) ≡ p x) → ((x : A) → f (g x) ≡ f x) → (xs : List A) → map f (filter p (map g xs)) ≡ map f (filter p xs)
+kept_alike f p g same keeps [] = refl
+kept_alike {A} {B} f p g same keeps (x ∷ xs) = ap (λ b. map f (cond b (g x ∷ filter p (map g xs)) (filter p (map g xs)))) (same x) ∙ go (p x) (kept_alike f p g same keeps xs)
+  where
+    go : (b : Bool) → map f (filter p (map g xs)) ≡ map f (filter p xs) → map f (cond b (g x ∷ filter p (map g xs)) (filter p (map g xs))) ≡ map f (cond b (x ∷ filter p xs) (filter p xs))
+    go true e = λ i. keeps x i ∷ e i
+    go false e = e

@@ -5,5 +5,6 @@ pub mod MetLemmas
 pub mod SearchLemmas
 pub mod TreeLemmas
 pub mod FileLemmas
+pub mod ReachLemmas
 pub mod FolderTrees
 pub mod PublicLaws

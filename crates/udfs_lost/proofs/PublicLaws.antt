@@ -1,5 +1,5 @@
 -- The laws of this crate that proofs above it use. Each has the statement that the function of its name in src/laws.rt ensures.
-use Rattle.std.proofs.Common.{◌≡◌, ℕ, List, Some, slice_get}
+use Rattle.std.proofs.Common.{◌≡◌, refl, ℕ, List, Some, slice_get}
 use Rattle.udfs_tag.specs.declared.layouts.LongAd.{LongAd}
 use Rattle.udfs_space.specs.Places.{View, IsPartOf}
 use Rattle.udfs_file.specs.Complete.{HasPartitions, IsComplete}
@@ -16,7 +16,12 @@ use Rattle.udfs_tree.specs.Sound.{IsSoundTree, Path}
 use Rattle.udfs_tree.specs.Trees.{PartitionBlocks}
 use Rattle.udfs_tree.proofs.PublicLaws.{fewer_routes, once_per_path, partial_nodes, sound_is_lawful}
 use Rattle.udfs_tree.proofs.Wanted.{met_is_whole}
-use Rattle.udfs_lost.specs.Subtrees.{IsFolderAt, IsNodeBelow, IsWholeBelow, LostTreesFit, LostTreesTell, NeededBelow, SubtreeIsBelow, SubtreeIsLawful}
+use Rattle.udfs_walk.specs.Bare.{full_entry}
+use Rattle.udfs_lost.specs.Folders.{icb_of_entry, is_lost_folder}
+use Rattle.udfs_lost.specs.LostFiles.{BareEntriesWillDo, is_lost_file}
+use Rattle.udfs_lost.proofs.Kept.{kept_alike}
+use Rattle.udfs_lost.specs.Subtrees.{IsFolderAt, IsNodeBelow, IsWholeBelow, LostTreesFit, LostTreesReach, LostTreesTell, NeededBelow, SubtreeIsBelow, SubtreeIsLawful}
+use Rattle.udfs_lost.proofs.ReachLemmas.{reached}
 use Rattle.udfs_lost.proofs.FolderTrees.{folder_is_sound, in_part, in_whole, needed}
 
 sound : (all : View) (blocks : PartitionBlocks) → IsComplete all blocks → HasPartitions all → (root : LongAd) → IsLawfulTree all root → IsSoundTree blocks root
@@ -59,3 +64,13 @@ lost_trees_tell all blocks c has root l path icb f some part nodes are = let bel
 pub lost_trees_fit : LostTreesFit
 lost_trees_fit all blocks c has root l path icb f some part more = let below : IsLawfulTree all (address_of icb) = subtree_is_lawful all blocks c has root l path icb f in
     below.limit (fewer_routes some all blocks part c (address_of icb) below 65536 more)
+
+pub lost_trees_reach : LostTreesReach
+lost_trees_reach all blocks c has root l path icb f some part nodes are g t = let below : IsLawfulTree all (address_of icb) = subtree_is_lawful all blocks c has root l path icb f in
+    reached some icb nodes are (λ i n at. (partial_nodes some all blocks part c (address_of icb) below nodes are i n at).no_fault) g t
+
+pub bare_entries_will_do : BareEntriesWillDo
+bare_entries_will_do view deleted trees entries = record {
+  folders = kept_alike icb_of_entry (is_lost_folder view deleted) (full_entry view) (λ u. refl) (λ u. refl) entries;
+  files = kept_alike icb_of_entry (is_lost_file view deleted trees) (full_entry view) (λ u. refl) (λ u. refl) entries;
+}

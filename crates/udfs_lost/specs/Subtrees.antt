@@ -5,7 +5,8 @@
 --     NeededBelow                          what a node needs from the folder on, it needs in the volume's tree
 --     LostTreesTell                        what the lost tree says of the volume's
 --     LostTreesFit                         it has no more routes than a tree may have
-use Rattle.std.specs.Prelude.{◌≡◌, ◌↔◌, ℕ, List, ◌++◌, Some, slice_get}
+--     LostTreesReach                       and what names lead to from the folder is in it
+use Rattle.std.specs.Prelude.{◌≡◌, ◌↔◌, ℕ, List, ◌++◌, Some, slice_get, Contains}
 use Rattle.udfs_tag.specs.declared.layouts.LongAd.{LongAd}
 use Rattle.udfs_space.specs.Places.{View, IsPartOf}
 use Rattle.udfs_file.specs.Complete.{HasPartitions, IsComplete}
@@ -24,6 +25,7 @@ use Rattle.udfs_tree.specs.Lawful.{IsLawfulTree}
 use Rattle.udfs_tree.specs.Needs.{IsMet, Needs}
 use Rattle.udfs_tree.specs.Sound.{Path}
 use Rattle.udfs_tree.specs.Trees.{PartitionBlocks, TreeFile, IsDirectoryAt, InTree, Leads}
+use Rattle.udfs_lost.specs.Naming.{LeadsTo}
 
 -- the path leads from the root to a directory, whose entry is at this information control block
 pub record IsFolderAt (blocks : PartitionBlocks) (root : LongAd) (path : Path) (icb : Icb) : Type 0 where
@@ -87,3 +89,8 @@ LostTreesTell = OverFolders (λ all blocks root path icb. (some : View) → IsPa
 -- and there are no more than 65,536 of them
 abbrev pub LostTreesFit : Type 0
 LostTreesFit = OverFolders (λ all blocks root path icb. (some : View) → IsPartOf some all → ¬ HasMoreRoutes some (address_of icb) 65536)
+
+-- and what names lead to from the directory is one of them
+abbrev pub LostTreesReach : Type 0
+LostTreesReach = OverFolders (λ all blocks root path icb. (some : View) → IsPartOf some all → (nodes : List NodeFields) → AreNodes some (address_of icb) nodes
+    → (g : Icb) → LeadsTo some icb g → (n : NodeFields) × Contains nodes n × (icb_of n.icb ≡ g))

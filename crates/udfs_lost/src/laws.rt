@@ -1,5 +1,6 @@
 //! Laws of lost trees, each the contract of a function that does nothing.
-ghost use Rattle.udfs_lost.specs.Subtrees.{LostTreesFit, LostTreesTell, NeededBelow, SubtreeIsBelow, SubtreeIsLawful};
+ghost use Rattle.udfs_lost.specs.LostFiles.{BareEntriesWillDo};
+ghost use Rattle.udfs_lost.specs.Subtrees.{LostTreesFit, LostTreesReach, LostTreesTell, NeededBelow, SubtreeIsBelow, SubtreeIsLawful};
 
 /// The tree from a directory of a lawful tree is lawful.
 pub fn subtree_is_lawful()
@@ -27,4 +28,16 @@ pub fn lost_trees_tell()
 /// From a directory of a lawful volume no more routes lead than a tree may have.
 pub fn lost_trees_fit()
     ensures { LostTreesFit }
+{}
+
+/// What names lead to from a directory of a lawful volume, as far as they are known, is a node of its lost tree. So each lost
+/// folder of such a volume is in the tree of a root.
+pub fn lost_trees_reach()
+    ensures { LostTreesReach }
+{}
+
+/// Of entries without their blocks and holes, as `bare_unnamed` of `udfs_walk` lists them, the same ones are lost folders and
+/// lost files.
+pub fn bare_entries_will_do()
+    ensures { BareEntriesWillDo }
 {}
