@@ -2,6 +2,7 @@
 
 mod fields;
 mod files;
+mod lost;
 mod samples;
 mod spaces;
 mod volumes;

@@ -7,3 +7,5 @@ mod rows;
 mod shared;
 mod stores;
 mod told;
+
+pub use told::{push_node, rooted};

@@ -89,7 +89,7 @@ fn kind(
 }
 
 /// The line of a node.
-fn push_node(alloc: Global, text: &mut String, node: &Node) -> Result<(), AllocError> {
+pub fn push_node(alloc: Global, text: &mut String, node: &Node) -> Result<(), AllocError> {
     standing(alloc, text, &node.standing)?;
     kind(alloc, text, node.kind, node.size, node.stamp)?;
     text.push(' ')?;

@@ -1,0 +1,10 @@
+pub mod Members
+pub mod Kept
+pub mod EntryLemmas
+pub mod MetLemmas
+pub mod SearchLemmas
+pub mod TreeLemmas
+pub mod FileLemmas
+pub mod ReachLemmas
+pub mod FolderTrees
+pub mod PublicLaws

@@ -1,0 +1,5 @@
+use Rattle.udfs_lost.proofs.PublicLaws.{lost_trees_reach as law}
+use Rattle.udfs_lost.proofs.laws.lost_trees_reach.Goals as goal
+
+pub returns : goal.returns
+returns c = law

@@ -1,0 +1,10 @@
+pub mod Links
+pub mod Entries
+pub mod Naming
+pub mod Met
+pub mod Folders
+pub mod Starts
+pub mod LostTrees
+pub mod LostFiles
+pub mod Parents
+pub mod Subtrees

@@ -1,0 +1,89 @@
+//! Lost files: files that no known name leads to, not even in a lost folder.
+
+ghost use Rattle.std.specs.Prelude.{◌≡◌, ◌&&◌, ◌||◌, IfOk, not};
+ghost use Rattle.std.specs.List.{list_any};
+ghost use Rattle.udfs_lattice.specs.Volumes.{Blocks};
+ghost use Rattle.udfs_space.specs.Places.{view};
+ghost use Rattle.udfs_space.specs.Views.{view_now};
+ghost use Rattle.udfs_walk.specs.Targets.{Icb, is_icb};
+ghost use Rattle.udfs_walk.specs.UnnamedEntries.{names};
+ghost use Rattle.udfs_lost.specs.Folders.{icb_of_entry, is_taken};
+ghost use Rattle.udfs_lost.specs.LostFiles.{is_file, is_named_in, lost_files};
+
+use crate::links::is_taken;
+use crate::met::Met;
+use crate::trees::LostTree;
+use std::alloc::{AllocError, Global};
+use udfs_file::Kind;
+use udfs_file::file_sets::address_fault;
+use udfs_osta::OutOfMemory;
+use udfs_space::{Space, View};
+use udfs_tag::LbAddr;
+use udfs_walk::{Node, Unnamed};
+
+/// Whether it is a file.
+fn is_file(kind: Kind) -> bool
+    ensures { result ≡ is_file kind }
+{
+    match kind {
+        Kind::File => true,
+        _ => false,
+    }
+}
+
+/// The information control blocks so far, and those that these nodes name.
+fn with_names(space: &Space, nodes: &[Node], met: Met) -> Result<Met, AllocError>
+    ensures { IfOk result (λ named. (blocks : Blocks) (icb : Icb) → list_any (is_icb icb) named ≡ (list_any (is_icb icb) met || list_any (names (view blocks space.now) icb) nodes.now)) }
+{
+    let mut met = met;
+    for node in nodes {
+        match address_fault(space, node.icb) {
+            Some(_) => {}
+            None => met = met.meet(node.icb.address())?,
+        }
+    }
+    Ok(met)
+}
+
+/// The information control blocks that nodes of the trees name.
+fn named_in(alloc: Global, space: &Space, trees: &[LostTree]) -> Result<Met, AllocError>
+    ensures { IfOk result (λ named. (blocks : Blocks) (icb : Icb) → list_any (is_icb icb) named ≡ is_named_in (view blocks space.now) trees.now icb) }
+{
+    let mut met = Met::none(alloc);
+    for tree in trees {
+        met = with_names(space, &tree.nodes, met)?;
+    }
+    Ok(met)
+}
+
+/// Whether an entry that no name leads to is a lost file, where these are the information control blocks that lost trees name.
+fn is_lost(view: View<'_>, deleted: bool, named: &Met, entry: &Unnamed) -> bool
+    ensures { result ≡ (is_file entry.now.kind && is_taken (view_now view.entry) deleted entry.now && not (list_any (is_icb (icb_of_entry entry.now)) named.now)) }
+{
+    is_file(entry.kind) && is_taken(view, deleted, entry) && !named.contains(entry.address())
+}
+
+/// The lost files among entries that no name leads to: files of link count above 0, or, with `deleted`, of any, that no node of
+/// these trees names. They are in the order of the entries.
+///
+/// # Errors
+///
+/// [`OutOfMemory`] where memory runs out.
+pub fn lost_files(
+    alloc: Global,
+    view: View<'_>,
+    deleted: bool,
+    trees: &[LostTree],
+    entries: &[Unnamed],
+) -> Result<Vec<LbAddr>, OutOfMemory>
+    ensures { IfOk result (λ files. files.items ≡ lost_files (view_now view.entry) deleted trees.now entries.now) }
+{
+    let named = named_in(alloc, view.space, trees)?;
+    let mut files = Vec::new(alloc);
+    for entry in entries {
+        if is_lost(view, deleted, &named, entry) {
+            files.push(entry.address())?;
+        }
+    }
+    Ok(files)
+}

@@ -1,0 +1,23 @@
+// SPDX-License-Identifier: MIT OR Apache-2.0
+//! Lost folders with their names: directories that no known name leads to, the trees below them, and lost files.
+//!
+//! [`lost_roots`] finds the folders from which to walk, [`lost_trees`] their nodes, [`lost_files`] the files that no such tree
+//! names, and [`parent`] the directory in which a folder says that it is. The laws in [`laws`] say what a lost tree tells of
+//! the tree of its volume.
+#![tactic(auto)]
+
+mod entries;
+pub mod files;
+pub mod folders;
+pub mod laws;
+pub mod links;
+mod met;
+pub mod parents;
+mod search;
+pub mod trees;
+
+pub use files::lost_files;
+pub use folders::lost_roots;
+pub use links::link_count;
+pub use parents::parent;
+pub use trees::{LostTree, lost_trees};

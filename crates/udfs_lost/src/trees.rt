@@ -1,0 +1,60 @@
+//! The trees of lost folders.
+
+ghost use Rattle.std.specs.Prelude.{◌≡◌, ◌++◌, ◌∷◌, [], IfOk, MatchResult};
+ghost use Rattle.udfs_space.specs.Views.{view_now};
+ghost use Rattle.udfs_lost.specs.LostTrees.{AreLostTrees, IsTreesRefused};
+
+use crate::entries::entry_address;
+use std::alloc::{AllocError, Global};
+use udfs_space::View;
+use udfs_tag::LbAddr;
+use udfs_walk::{Node, NodesError, bare_nodes};
+
+/// The nodes that all lost trees together may have.
+const MOST_NODES: usize = 65_536;
+
+/// The tree of a lost folder.
+#[derive(Debug, Drop)]
+pub struct LostTree {
+    /// The folder's information control block.
+    pub folder: LbAddr,
+    /// The folder, whose path here is empty, and all that is below it, in the order of a volume's nodes. A torn one is
+    /// without its blocks and holes, which `full_standing` of `udfs_walk` finds again.
+    pub nodes: Vec<Node>,
+}
+
+/// Appends the tree of a folder.
+fn put(trees: &mut Vec<LostTree>, folder: LbAddr, nodes: Vec<Node>) -> Result<(), AllocError>
+    ensures { IfOk result (λ done. trees.new.items ≡ trees.old.items ++ record { folder = folder; nodes = nodes } ∷ []) }
+{
+    trees.push(LostTree { folder, nodes })?;
+    Ok(())
+}
+
+/// The trees of these folders, one of each: what the walk over a volume's routes finds from the folder in place of the root. The
+/// walk of each folder reads a body at most once; what is in the trees of several folders is read once for each.
+///
+/// # Errors
+///
+/// [`NodesError::TooManyPaths`] where more than 65,536 routes lead from all folders together to nodes, unless memory runs out
+/// before, and [`NodesError::OutOfMemory`] where memory runs out.
+pub fn lost_trees(
+    alloc: Global,
+    view: View<'_>,
+    folders: &[LbAddr],
+) -> Result<Vec<LostTree>, NodesError>
+    ensures { MatchResult result (λ trees. AreLostTrees (view_now view.entry) folders.now trees.items)
+        (IsTreesRefused (view_now view.entry) folders.now) }
+{
+    let mut room = MOST_NODES;
+    let mut trees = Vec::new(alloc);
+    for folder in folders {
+        let nodes = bare_nodes(alloc, view, entry_address(*folder))?;
+        if nodes.len() > room {
+            return Err(NodesError::TooManyPaths);
+        }
+        room -= nodes.len();
+        put(&mut trees, *folder, nodes)?;
+    }
+    Ok(trees)
+}
