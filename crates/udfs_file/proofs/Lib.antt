@@ -37,5 +37,6 @@ pub mod StandardDirectories
 pub mod MovedTags
 pub mod PublicLaws
 pub mod PortionCells
+pub mod KnownCells
 mod StorePieces
 mod StoreSteps

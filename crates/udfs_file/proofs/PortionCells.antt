@@ -18,7 +18,7 @@ use Rattle.udfs_file.proofs.PieceCells.{none_cells, part_range, part_same, zero_
 use Rattle.udfs_file.specs.declared.cells.Cell.{Cell}
 use Rattle.udfs_file.specs.declared.cells.Cell.TheVariants.{Byte, Gap}
 
-same_block : (q p : ℕ) → 2048 * q ≤ p → p < 2048 * q + 2048 → p / 2048 ≡ q
+pub same_block : (q p : ℕ) → 2048 * q ≤ p → p < 2048 * q + 2048 → p / 2048 ≡ q
 same_block q p h k = omega arith
 
 gap_in : (b i m n : ℕ) (s : State) → m ≡ n → IsUnreadState s → cell_in b m i s ≡ Gap n
@@ -141,10 +141,10 @@ pub shorter : (r : Portion) (s t : List Cell) → IsFirst r s t → length t < l
 shorter r s t f = let q : length t ≡ length s - portion_count r = ap length f.rest ∙ length-drop (portion_count r) s in
     let o : 1 ≤ portion_count r = f.some in let h : portion_count r ≤ length s = f.there in omega (arith, q, o, h)
 
--- how many cells are left after a portion, whatever its cells are
-pub counted : (v : View) (all : List Stretch) (s : Stretch) (ss : List Stretch) (p k : ℕ) (r : Portion) (whole t : List Cell) → all ≡ s ∷ ss → p < stretch_count s
-    → k ≡ portion_count r → p + portion_count r ≤ stretch_count s → drop p (cells_of v all) ≡ whole → t ≡ drop k (drop p (cells_of v all)) → length whole ≡ portion_count r + length t
-counted v all s ss p k r whole t e h d m w b =
+-- how many cells are left after the first ones, whatever they are
+pub counted : (v : View) (all : List Stretch) (s : Stretch) (ss : List Stretch) (p k n : ℕ) (whole t : List Cell) → all ≡ s ∷ ss → p < stretch_count s
+    → k ≡ n → p + n ≤ stretch_count s → drop p (cells_of v all) ≡ whole → t ≡ drop k (drop p (cells_of v all)) → length whole ≡ n + length t
+counted v all s ss p k n whole t e h d m w b =
     let q : length (drop p (cells_of v all)) ≡ stretch_count s - p + length (cells_of v ss) = left_in v all s ss p e h in
     let z : length t ≡ length (drop p (cells_of v all)) - k = ap length b ∙ length-drop k (drop p (cells_of v all)) in
     let y : length (drop p (cells_of v all)) ≡ length whole = ap length w in omega (arith, q, m, z, y, d)

@@ -16,3 +16,4 @@ pub mod Told
 pub mod Sample
 pub mod Portions
 pub mod StoreCells
+pub mod Knowledge

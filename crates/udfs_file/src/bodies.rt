@@ -1,6 +1,6 @@
 //! The bodies of entries (ECMA-167 4/12.1, 4/14.5, 4/14.14).
 
-ghost use Rattle.std.specs.Prelude.{◌≡◌, ◌≤◌, length, IfOk, OnErr, true};
+ghost use Rattle.std.specs.Prelude.{◌≡◌, ◌≤◌, length, IfOk, IsErrOf, OnErr, true};
 ghost use Rattle.udfs_lattice.specs.Tables.{state_of};
 ghost use Rattle.udfs_space.specs.Places as places;
 ghost use Rattle.udfs_space.specs.Places.{view};
@@ -13,7 +13,7 @@ use crate::faults::{NodeFault, WalkError};
 use crate::stretches::{Follow, Run, Stretch};
 use std::alloc::{AllocError, Global};
 use std::marker::Model;
-use udfs_lattice::{BlockStore, BlockTable, ReadFault};
+use udfs_lattice::{BlockStore, BlockTable, GaveUp, ReadFault};
 use udfs_osta::OutOfMemory;
 use udfs_space::{Space, StoreView, View};
 use udfs_tag::{LbAddr, extent_types};
@@ -165,6 +165,32 @@ impl Body {
     ) -> Result<bool, OutOfMemory>
         ensures { IfOk result (λ tail. tail ≡ is_tail_read (view_now view.entry) reference b (entry_of entry.now)) }
     {
+        let stored = StoreView {
+            blocks: view.table,
+            space: view.space,
+        };
+        match Body::is_tail_read_by(alloc, stored, entry, reference, b) {
+            Ok(tail) => Ok(tail),
+            Err(GaveUp::OutOfMemory) => Err(AllocError),
+            Err(GaveUp::Unread) => unreachable!(),
+        }
+    }
+
+    /// The same as [`Body::is_tail_read`], by any store of blocks.
+    ///
+    /// # Errors
+    ///
+    /// `OutOfMemory` if memory runs out, and `Unread` where the bytes of a known block could not be read.
+    pub fn is_tail_read_by<B: BlockStore>(
+        alloc: Global,
+        view: StoreView<'_, B>,
+        entry: &Entry<'_>,
+        reference: u16,
+        b: u32,
+    ) -> Result<bool, GaveUp>
+        ensures value { IfOk result (λ tail. B.tells → tail ≡ is_tail_read (view_by B.states view.entry) reference b (entry_of entry.now)) }
+        ensures fails { IsErrOf result GaveUp.Unread → B.fails }
+    {
         if entry.form() == 3 || !view.space.profile().takes_tail() {
             return Ok(false);
         }
@@ -179,17 +205,18 @@ impl Body {
     }
 
     /// Whether the descriptors in this area give a body with the tail of the last extent, and none without it.
-    fn needs_tail(
+    fn needs_tail<B: BlockStore>(
         alloc: Global,
-        view: View<'_>,
+        view: StoreView<'_, B>,
         form: u16,
         reference: u16,
         size: u64,
         area: &[u8],
-    ) -> Result<bool, OutOfMemory>
+    ) -> Result<bool, GaveUp>
         requires { length area.now ≤ 2048 }
-        ensures { IfOk result (λ tail. tail ≡ (has_cells (listed_body true (view_now view.entry) form reference size area.now)
-            && not (has_cells (listed_body false (view_now view.entry) form reference size area.now)))) }
+        ensures value { IfOk result (λ tail. B.tells → tail ≡ (has_cells (listed_body true (view_by B.states view.entry) form reference size area.now)
+            && not (has_cells (listed_body false (view_by B.states view.entry) form reference size area.now)))) }
+        ensures fails { IsErrOf result GaveUp.Unread → B.fails }
     {
         if Body::is_listed(alloc, view, false, form, reference, size, area)? {
             return Ok(false);
@@ -198,29 +225,24 @@ impl Body {
     }
 
     /// Whether the descriptors in this area give a body.
-    #[tactic(auto, using(crate::proofs::TailNeeds::gives, crate::proofs::TailNeeds::gives_none))]
-    fn is_listed(
+    fn is_listed<B: BlockStore>(
         alloc: Global,
-        view: View<'_>,
+        view: StoreView<'_, B>,
         tail: bool,
         form: u16,
         reference: u16,
         size: u64,
         area: &[u8],
-    ) -> Result<bool, OutOfMemory>
+    ) -> Result<bool, GaveUp>
         requires { length area.now ≤ 2048 }
-        ensures { IfOk result (λ listed. listed ≡ has_cells (listed_body tail (view_now view.entry) form reference size area.now)) }
+        ensures value { IfOk result (λ listed. B.tells → listed ≡ has_cells (listed_body tail (view_by B.states view.entry) form reference size area.now)) }
+        ensures fails { IsErrOf result GaveUp.Unread → B.fails }
     {
         let mut room = [0; 2048];
-        let view = StoreView {
-            blocks: view.table,
-            space: view.space,
-        };
-        match Body::walk(alloc, view, tail, form, reference, size, area, &mut room) {
-            Ok(Ok(_)) => Ok(true),
-            Ok(Err(WalkError::Fault(_))) => Ok(false),
-            Ok(Err(WalkError::OutOfMemory)) => Err(AllocError),
-            Err(_) => unreachable!(),
+        match Body::walk(alloc, view, tail, form, reference, size, area, &mut room)? {
+            Ok(_) => Ok(true),
+            Err(WalkError::Fault(_)) => Ok(false),
+            Err(WalkError::OutOfMemory) => Err(GaveUp::OutOfMemory),
         }
     }
 

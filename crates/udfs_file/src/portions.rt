@@ -11,7 +11,7 @@ ghost use Rattle.udfs_file.specs.Portions.{GivesPortion, IsPortion, portion_coun
 use crate::bodies::Body;
 use crate::cells::Cells;
 use crate::pieces::bytes_at;
-use crate::store_portions::unread_portion;
+use crate::store_portions::unread_bytes;
 use crate::stretches::{Run, Stretch};
 use std::marker::Model;
 use udfs_lattice::Fact;
@@ -71,8 +71,8 @@ fn recorded_portion<'a>(view: View<'a>, run: Run, at: u64, left: u64) -> Portion
         Some((_, Fact::Known(bytes))) => {
             Portion::Bytes(bytes_at(bytes, (at % 2048) as usize, here as usize))
         }
-        Some((n, Fact::Unknown)) => unread_portion(stored, run, at, n, left),
-        Some((n, Fact::Conflict)) => unread_portion(stored, run, at, n, left),
+        Some((n, Fact::Unknown)) => Portion::Missing(unread_bytes(stored, run, at, n, left)),
+        Some((n, Fact::Conflict)) => Portion::Missing(unread_bytes(stored, run, at, n, left)),
     }
 }
 

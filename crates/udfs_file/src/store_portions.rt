@@ -1,12 +1,12 @@
 //! The bytes of a body, run by run, by any store of blocks.
 
-ghost use Rattle.std.specs.Prelude.{◌≡◌, ℕ, ◌≤◌, ◌<◌, ◌+◌, ◌/◌, ◌^◌, true, drop, length, map, take, IfOk, OnErr};
+ghost use Rattle.std.specs.Prelude.{◌≡◌, ℕ, ◌≤◌, ◌<◌, ◌+◌, ◌-◌, ◌/◌, ◌^◌, true, drop, length, map, take, IfOk, OnErr};
 ghost use Rattle.std.specs.List.{range_with_len};
 ghost use Rattle.udfs_space.specs.Places.{block_at};
 ghost use Rattle.udfs_space.specs.Views.{view_by};
 ghost use Rattle.udfs_file.specs.Bodies.{recorded_cell};
 ghost use Rattle.udfs_file.specs.Stretches.{cells_of, stretch_cells, stretch_count};
-ghost use Rattle.udfs_file.specs.Portions.{GivesCount, GivesPortion, IsPortion, IsUnreadAt, portion_count};
+ghost use Rattle.udfs_file.specs.Portions.{AreUnread, GivesCount, GivesPortion, IsPortion, IsUnreadAt, portion_count};
 
 use crate::bodies::Body;
 use crate::pieces::bytes_at;
@@ -72,30 +72,30 @@ fn unread_run<B: BlockStore>(
 }
 
 /// The missing bytes from byte `at` on, counted from the start of the run's first block, of which the first is in block `n`: at most `left`.
-pub(crate) fn unread_portion<'r, B: BlockStore>(
+pub(crate) fn unread_bytes<B: BlockStore>(
     view: StoreView<'_, B>,
     run: Run,
     at: u64,
     n: u32,
     left: u64,
-) -> Portion<'r>
+) -> Unread
     requires some { 1 ≤ left }
     requires far { left < 2 ^ 32 }
     requires near { at < 2 ^ 33 }
     requires low { n ≤ 4194303 }
     requires unread { B.tells → IsUnreadAt (block_at (view_by B.states view) run.address.reference (run.address.block + at / 2048)) n }
-    ensures cells { B.tells → IsPortion result (map (recorded_cell (view_by B.states view.entry) run.address.reference run.address.block) (range_with_len at (portion_count result))) }
-    ensures some { 1 ≤ portion_count result }
-    ensures most { portion_count result ≤ left }
+    ensures cells { B.tells → AreUnread result.first (result.last + 1 - result.first) (map (recorded_cell (view_by B.states view.entry) run.address.reference run.address.block) (range_with_len at result.count)) }
+    ensures some { 1 ≤ result.count }
+    ensures most { result.count ≤ left }
 {
     let more = ((at % 2048 + left - 1) / 2048) as u32;
     let behind = unread_run(view, run.address, (at / 2048) as u32 + 1, n + 1, more);
     let count = left.min(2048 * (u64::from(behind) + 1) - at % 2048);
-    Portion::Missing(Unread {
+    Unread {
         first: n,
         last: n + behind,
         count,
-    })
+    }
 }
 
 /// The recorded bytes from byte `at` on, counted from the start of the run's first block, as far as one portion goes: at most `left`.
@@ -123,8 +123,8 @@ where
         Some((_, Fact::Known(bytes))) => {
             Ok(Portion::Bytes(bytes_at(bytes, (at % 2048) as usize, here as usize)))
         }
-        Some((n, Fact::Unknown)) => Ok(unread_portion(view, run, at, n, left)),
-        Some((n, Fact::Conflict)) => Ok(unread_portion(view, run, at, n, left)),
+        Some((n, Fact::Unknown)) => Ok(Portion::Missing(unread_bytes(view, run, at, n, left))),
+        Some((n, Fact::Conflict)) => Ok(Portion::Missing(unread_bytes(view, run, at, n, left))),
     }
 }
 

@@ -288,7 +288,8 @@ impl Space {
         reference: u16,
         block: u64,
     ) -> Option<(u32, Fact<()>)>
-        ensures { B.tells → result ≡ option_map (λ found. (found.0, known_as found.1)) (block_at (view (B.states blocks.now) self.now) reference block) }
+        ensures value { B.tells → result ≡ option_map (λ found. (found.0, known_as found.1)) (block_at (view (B.states blocks.now) self.now) reference block) }
+        ensures fits { IfSome result (λ found. found.0 ≤ 4194303) }
     {
         if block >= u64::from(self.size(reference)) {
             return None;

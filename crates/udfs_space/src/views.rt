@@ -120,7 +120,8 @@ impl<'a, B: BlockStore> StoreView<'a, B> {
     /// The block of the volume that holds the logical block `count` blocks after an address, and what is known of it, without its
     /// bytes: none where the logical block has no place. It takes no memory, reads nothing and cannot fail.
     pub fn knowledge_behind(self, address: LbAddr, count: u32) -> Option<(u32, Fact<()>)>
-        ensures { B.tells → result ≡ option_map (λ block. (block.0, known_as block.1)) (block_at (view_by B.states self.entry) address.reference (address.block + count)) }
+        ensures value { B.tells → result ≡ option_map (λ block. (block.0, known_as block.1)) (block_at (view_by B.states self.entry) address.reference (address.block + count)) }
+        ensures fits { IfSome result (λ found. found.0 ≤ 4194303) }
     {
         self.space
             .knowledge_in(self.blocks, address.reference, behind(address, count))

@@ -5,15 +5,14 @@ use Rattle.std.proofs.lemmas.List.{length-take-le, take-append-drop}
 use Rattle.udfs_lattice.specs.Volumes.{ascending, insert_once}
 use Rattle.udfs_file.specs.declared.cells.Cell.{Cell}
 use Rattle.udfs_file.specs.declared.cells.Cell.TheVariants.{Gap}
-use Rattle.udfs_file.specs.declared.portions.Portion.{Portion}
-use Rattle.udfs_file.specs.declared.portions.Portion.TheVariants.{Bytes, Zeros, Missing}
+use Rattle.udfs_file.specs.declared.knowledge.Knowledge.{Knowledge}
+use Rattle.udfs_file.specs.declared.knowledge.Knowledge.TheVariants.{Missing}
 use Rattle.udfs_file.specs.declared.portions.Unread.{Unread}
-use Rattle.udfs_file.specs.Portions.{AreUnread, IsFirst, IsPortion, portion_count}
+use Rattle.udfs_file.specs.Knowledge.{AreKnownCells, IsKnownFirst, IsKnowledge, knowledge_count}
+use Rattle.udfs_file.specs.Portions.{AreUnread}
 use Rattle.udfs_walk.specs.Bare.{bare_standing, no_lists}
-use Rattle.udfs_walk.specs.Gaps.{AreKnownCells}
 use Rattle.udfs_walk.specs.Standings.{cells_standing, missing_blocks, runs_from, torn_or_whole}
 use Rattle.udfs_walk.specs.declared.standings.Standing.TheVariants.{Whole, Torn}
-use Rattle.udfs_walk.proofs.PortionGaps.{portion_bytes, portion_zeros}
 use Rattle.udfs_walk.proofs.RunLemmas.{bytes_blocks}
 
 -- ---- what the cells alone say
@@ -35,29 +34,23 @@ pub whole_by : (cs rest : List Cell) → missing_blocks cs ≡ missing_blocks re
 unfolding cells_standing
 whole_by cs rest e z = sym (ap (λ x. bare_standing (torn_or_whole (ascending x) (runs_from 0 cs))) (e ∙ ap missing_blocks z))
 
--- ---- a portion at the front
-in_front : (p : Portion) (s t : List Cell) → IsFirst p s t → s ≡ take (portion_count p) s ++ t
-in_front p s t f = sym (take-append-drop (portion_count p) s) ∙ ap (λ z. take (portion_count p) s ++ z) (sym f.rest)
+-- ---- what is known of the front
+in_front : (p : Knowledge) (s t : List Cell) → IsKnownFirst p s t → s ≡ take (knowledge_count p) s ++ t
+in_front p s t f = sym (take-append-drop (knowledge_count p) s) ∙ ap (λ z. take (knowledge_count p) s ++ z) (sym f.rest)
 
 -- behind known cells the same blocks are missing
-pub known_before : (cs s t : List Cell) (p : Portion) → missing_blocks cs ≡ missing_blocks s → IsFirst p s t → AreKnownCells (take (portion_count p) s) → missing_blocks cs ≡ missing_blocks t
-known_before cs s t p e f k = e ∙ ap missing_blocks (in_front p s t f) ∙ bytes_blocks (take (portion_count p) s) t k
+pub known_before : (cs s t : List Cell) (p : Knowledge) → missing_blocks cs ≡ missing_blocks s → IsKnownFirst p s t → AreKnownCells (take (knowledge_count p) s) → missing_blocks cs ≡ missing_blocks t
+known_before cs s t p e f k = e ∙ ap missing_blocks (in_front p s t f) ∙ bytes_blocks (take (knowledge_count p) s) t k
 
 -- cells of blocks that are not known begin with a missing one
 unread_first : (n k : ℕ) (cs rest : List Cell) → AreUnread n k cs → 1 ≤ length cs → (ns : List ℕ) × (missing_blocks (cs ++ rest) ≡ n ∷ ns)
 unread_first n zero cs rest u l = absurd (let e : length cs ≡ 0 = ap length u in let z : ⊥ = omega (arith, e, l) in z)
 unread_first n (suc k) cs rest u l = (missing_blocks ((replicate u.0 (Gap n) ++ u.1) ++ rest), ap (λ z. missing_blocks (z ++ rest)) u.2)
 
--- where a portion is missing, the body is torn
-pub missing_before : (cs s t : List Cell) (p : Portion) (run : Unread) → missing_blocks cs ≡ missing_blocks s → IsFirst p s t → p ≡ Missing run → Torn no_lists ≡ bare_standing (cells_standing cs)
+-- where cells are missing, the body is torn
+pub missing_before : (cs s t : List Cell) (p : Knowledge) (run : Unread) → missing_blocks cs ≡ missing_blocks s → IsKnownFirst p s t → p ≡ Missing run → Torn no_lists ≡ bare_standing (cells_standing cs)
 missing_before cs s t p run e f m =
-    let u : AreUnread run.first (run.last + 1 - run.first) (take (portion_count p) s) = subst (λ z. IsPortion z (take (portion_count p) s)) m f.portion in
-    let l : 1 ≤ length (take (portion_count p) s) = let n = length-take-le (portion_count p) s f.there in omega (arith, n, f.some) in
-    let first = unread_first run.first (run.last + 1 - run.first) (take (portion_count p) s) t u l in
+    let u : AreUnread run.first (run.last + 1 - run.first) (take (knowledge_count p) s) = subst (λ z. IsKnowledge z (take (knowledge_count p) s)) m f.knowledge in
+    let l : 1 ≤ length (take (knowledge_count p) s) = let n = length-take-le (knowledge_count p) s f.there in omega (arith, n, f.some) in
+    let first = unread_first run.first (run.last + 1 - run.first) (take (knowledge_count p) s) t u l in
     sym (torn_by run.first first.0 cs (e ∙ ap missing_blocks (in_front p s t f) ∙ first.1))
-
--- a portion that is not missing is known
-pub known_portion : (p : Portion) (cs : List Cell) → ((run : Unread) → p ≡ Missing run → ⊥) → IsPortion p cs → AreKnownCells cs
-known_portion (Bytes b) cs n i = portion_bytes (Bytes b) b cs refl i
-known_portion (Zeros k) cs n i = portion_zeros (Zeros k) k cs refl i
-known_portion (Missing run) cs n i = absurd (n run refl)

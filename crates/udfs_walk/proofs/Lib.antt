@@ -10,7 +10,7 @@ pub mod Trees
 pub mod TargetLemmas
 pub mod Owed
 pub mod NamedLemmas
-pub mod PortionGaps
+pub mod KnownGaps
 pub mod BlockOrder
 pub mod BareNodes
 pub mod BareRereads

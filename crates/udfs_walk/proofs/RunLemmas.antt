@@ -8,7 +8,8 @@ use Rattle.udfs_file.specs.declared.cells.Cell.{Cell}
 use Rattle.udfs_file.specs.declared.cells.Cell.TheVariants.{Byte, Gap}
 use Rattle.udfs_walk.specs.declared.standings.Standing.TheVariants.{Whole, Torn}
 use Rattle.udfs_walk.specs.Standings.{cells_standing, missing_blocks, runs_from, torn_or_whole, with_hole}
-use Rattle.udfs_walk.specs.Gaps.{AreKnownCells, AreGapsOf, GapFields, IsPassed, Leaves, closed, runs_open}
+use Rattle.udfs_file.specs.Knowledge.{AreKnownCells}
+use Rattle.udfs_walk.specs.Gaps.{AreGapsOf, GapFields, IsPassed, Leaves, closed, runs_open}
 
 -- ---- blocks
 pub bytes_blocks : (cs rest : List Cell) → AreKnownCells cs → missing_blocks (cs ++ rest) ≡ missing_blocks rest

@@ -32,20 +32,10 @@ pub record IsPassed (whole rest : List Cell) (g : GapFields) : Type 0 where
 unfoldable pub Leaves : List Cell → List Cell → GapFields → GapFields → Type 0
 Leaves cs rest old new = (whole later : List Cell) → IsPassed whole (cs ++ later) old → IsPassed whole (rest ++ later) new
 
--- the cell has a byte
-abbrev pub IsByte : Cell → Type 0
-IsByte (Byte x holder) = ⊤
-IsByte (Gap n) = ⊥
-
 -- the cell is missing, and needs block n
 abbrev pub IsGapOf : ℕ → Cell → Type 0
 IsGapOf n (Byte x holder) = ⊥
 IsGapOf n (Gap m) = m ≡ n
-
--- all cells are known
-abbrev pub AreKnownCells : List Cell → Type 0
-AreKnownCells [] = ⊤
-AreKnownCells (c ∷ cs) = IsByte c × AreKnownCells cs
 
 -- all cells are missing with this block
 abbrev pub AreGapsOf : ℕ → List Cell → Type 0

@@ -1,12 +1,13 @@
 //! The missing cells of a body, found run by run.
 
-ghost use Rattle.std.specs.Prelude.{◌≡◌, ◌<◌, ◌+◌, ◌-◌, ◌^◌, ◌++◌, List, [], IfOk, IsErrOf, OnErr, length};
+ghost use Rattle.std.specs.Prelude.{◌≡◌, ◌<◌, ◌+◌, ◌-◌, ◌^◌, ◌++◌, List, [], IfOk, length};
 ghost use Rattle.udfs_space.specs.Views.{view_by};
 ghost use Rattle.udfs_file.specs.Stretches.{cells_of};
-ghost use Rattle.udfs_file.specs.Portions.{AreUnread, IsPortion, portion_count};
+ghost use Rattle.udfs_file.specs.Knowledge.{AreKnownCells, IsKnowledge, knowledge_count};
+ghost use Rattle.udfs_file.specs.Portions.{AreUnread};
 ghost use Rattle.udfs_file.specs.declared.cells.Cell.{Cell};
 ghost use Rattle.udfs_walk.specs.Bare.{bare_standing};
-ghost use Rattle.udfs_walk.specs.Gaps.{AreKnownCells, IsPassed, Leaves, closed};
+ghost use Rattle.udfs_walk.specs.Gaps.{IsPassed, Leaves, closed};
 ghost use Rattle.udfs_walk.specs.Standings.{cells_standing};
 
 use crate::bare::no_lists;
@@ -14,8 +15,8 @@ use crate::block_runs::{BlockRun, ascending};
 use crate::standings::{Standing, Torn};
 use std::alloc::{AllocError, Global};
 use std::marker::Model;
-use udfs_file::{Body, Portion, Unread};
-use udfs_lattice::{BlockStore, GaveUp, ReadFault};
+use udfs_file::{Body, Knowledge, Unread};
+use udfs_lattice::BlockStore;
 use udfs_space::StoreView;
 
 /// What is missing of the cells that were gone through.
@@ -86,22 +87,18 @@ impl Gaps {
         Ok(())
     }
 
-    /// Goes through the cells of a portion.
-    fn pass(&mut self, portion: Portion<'_>) -> Result<(), AllocError>
-        requires { self.old.start + self.old.grown + portion_count portion < 2 ^ 64 }
-        ensures passes { IfOk result (λ done. (cs : List Cell) → IsPortion portion.entry cs → length cs ≡ portion_count portion.entry → Leaves cs [] self.old self.new) }
-        ensures place { IfOk result (λ done. self.new.start + self.new.grown ≡ self.old.start + self.old.grown + portion_count portion.entry) }
+    /// Goes through cells of which this is known.
+    fn pass(&mut self, told: Knowledge) -> Result<(), AllocError>
+        requires { self.old.start + self.old.grown + knowledge_count told < 2 ^ 64 }
+        ensures passes { IfOk result (λ done. (cs : List Cell) → IsKnowledge told cs → length cs ≡ knowledge_count told → Leaves cs [] self.old self.new) }
+        ensures place { IfOk result (λ done. self.new.start + self.new.grown ≡ self.old.start + self.old.grown + knowledge_count told) }
     {
-        match portion {
-            Portion::Bytes(bytes) => {
-                self.pass_known(bytes.len() as u64)?;
-                Ok(())
-            }
-            Portion::Zeros(count) => {
+        match told {
+            Knowledge::Known(count) => {
                 self.pass_known(count)?;
                 Ok(())
             }
-            Portion::Missing(run) => {
+            Knowledge::Missing(run) => {
                 self.pass_missing(run)?;
                 Ok(())
             }
@@ -123,15 +120,14 @@ impl Gaps {
     }
 }
 
-/// Whether all cells of a body are known, and else what is missing.
+/// Whether all cells of a body are known, and else what is missing. No block is read.
 pub(crate) fn cells_standing<B: BlockStore>(
     alloc: Global,
     view: StoreView<'_, B>,
     body: &Body,
-) -> Result<Standing, GaveUp>
+) -> Result<Standing, AllocError>
     requires { length (cells_of (view_by B.states view) body.now) < 2 ^ 64 }
-    ensures value { IfOk result (λ standing. B.tells → standing ≡ cells_standing (cells_of (view_by B.states view.entry) body.now)) }
-    ensures fails { IsErrOf result GaveUp.Unread → B.fails }
+    ensures { IfOk result (λ standing. B.tells → standing ≡ cells_standing (cells_of (view_by B.states view.entry) body.now)) }
 {
     let mut gaps = Gaps {
         missing: Vec::new(alloc),
@@ -139,11 +135,10 @@ pub(crate) fn cells_standing<B: BlockStore>(
         start: 0,
         grown: 0,
     };
-    let mut room = [0; 2048];
-    let mut left = body.portions_by(view);
+    let mut left = body.knowledge_by(view);
     'runs: loop {
-        match left.next(&mut room)? {
-            Some(portion) => gaps.pass(portion)?,
+        match left.next() {
+            Some(told) => gaps.pass(told)?,
             None => {
                 let standing = gaps.standing(alloc)?;
                 return Ok(standing);
@@ -153,24 +148,22 @@ pub(crate) fn cells_standing<B: BlockStore>(
 }
 
 /// Whether all cells of a body are known: `Whole`, or `Torn` without its blocks and holes. It stops at the first cell that is
-/// missing, and takes no memory.
+/// missing, takes no memory and reads no block.
 pub(crate) fn bare_cells_standing<B: BlockStore>(
     alloc: Global,
     view: StoreView<'_, B>,
     body: &Body,
-) -> Result<Standing, ReadFault>
-    ensures value { IfOk result (λ standing. B.tells → standing ≡ bare_standing (cells_standing (cells_of (view_by B.states view.entry) body.now))) }
-    ensures fails { OnErr result B.fails }
+) -> Standing
+    ensures { B.tells → result ≡ bare_standing (cells_standing (cells_of (view_by B.states view.entry) body.now)) }
 {
-    let mut room = [0; 2048];
-    let mut left = body.portions_by(view);
+    let mut left = body.knowledge_by(view);
     'runs: loop {
-        match left.next(&mut room)? {
-            Some(portion) => match portion {
-                Portion::Missing(_) => return Ok(Standing::Torn(no_lists(alloc))),
-                _ => {}
+        match left.next() {
+            Some(told) => match told {
+                Knowledge::Missing(_) => return Standing::Torn(no_lists(alloc)),
+                Knowledge::Known(_) => {}
             },
-            None => return Ok(Standing::Whole),
+            None => return Standing::Whole,
         }
     }
 }

@@ -28,7 +28,7 @@ pub use answers::{Node, NodesError, NodesGaveUp, Unnamed};
 pub use bare::{
     full_entries, full_entries_by, full_nodes, full_nodes_by, full_standing, full_standing_by,
 };
-pub use node_bodies::{body_at, body_by, tail_at};
+pub use node_bodies::{body_at, body_by, tail_at, tail_by};
 pub use paths::Path;
 pub use rereads::{bare_reread, bare_reread_by, reread};
 pub use standings::{Standing, Torn};

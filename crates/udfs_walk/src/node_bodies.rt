@@ -73,16 +73,42 @@ pub fn body_by<B: BlockStore>(
 pub fn tail_at(alloc: Global, view: View<'_>, address: LongAd) -> Result<bool, AllocError>
     ensures { IfOk result (λ tail. tail ≡ has_tail (view_now view.entry) address) }
 {
-    let mut room = [0; 2048];
     let stored = StoreView {
         blocks: view.table,
         space: view.space,
     };
-    match target_at(stored, address, &mut room) {
-        Ok(Target::Entry(entry)) => {
-            Body::is_tail_read(alloc, view, &entry, address.reference, address.block)
+    match tail_by(alloc, stored, address) {
+        Ok(tail) => Ok(tail),
+        Err(GaveUp::OutOfMemory) => Err(AllocError),
+        Err(GaveUp::Unread) => unreachable!(),
+    }
+}
+
+/// The same as [`tail_at`], by any store of blocks.
+///
+/// # Errors
+///
+/// `OutOfMemory` if memory runs out, and `Unread` where the bytes of a known block could not be read.
+pub fn tail_by<B: BlockStore>(
+    alloc: Global,
+    view: StoreView<'_, B>,
+    address: LongAd,
+) -> Result<bool, GaveUp>
+    ensures value { IfOk result (λ tail. B.tells → tail ≡ has_tail (view_by B.states view.entry) address) }
+    ensures fails { IsErrOf result GaveUp.Unread → B.fails }
+{
+    let mut room = [0; 2048];
+    match target_at(view, address, &mut room)? {
+        Target::Entry(entry) => {
+            let tail = Body::is_tail_read_by(
+                alloc,
+                view,
+                &entry,
+                address.reference,
+                address.block,
+            )?;
+            Ok(tail)
         }
-        Ok(_) => Ok(false),
-        Err(_) => unreachable!(),
+        _ => Ok(false),
     }
 }

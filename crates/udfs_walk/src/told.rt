@@ -59,7 +59,7 @@ fn kind_told<B: BlockStore>(
     ensures lists { IfOk result (λ told. B.tells → told.lists ≡ nat_lt 0 (length (kind_entries (view_by B.states view.entry).profile kind (cells (cells_of (view_by B.states view.entry) body.now))))) }
     ensures fails { OnErr result B.fails }
 {
-    let standing = bare_cells_standing(alloc, view, body)?;
+    let standing = bare_cells_standing(alloc, view, body);
     match kind {
         Kind::Directory => {
             let end = Dir::end_by(view, body, view.space.profile())?;
@@ -125,7 +125,7 @@ fn kind_entered<B: BlockStore>(
     ensures refused { IfErr result (λ e. B.tells → IfTold (AreRefused most (kind_entries (view_by B.states view.entry).profile kind (cells (cells_of (view_by B.states view.entry) body.now)))) e) }
     ensures fails { IsErrOf result NodesGaveUp.Unread → B.fails }
 {
-    let cells = bare_cells_standing(alloc, view, body)?;
+    let cells = bare_cells_standing(alloc, view, body);
     match kind {
         Kind::Directory => match Dir::front_by(alloc, view, body, view.space.profile(), most)? {
             Ok(front) => {

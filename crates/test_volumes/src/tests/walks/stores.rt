@@ -101,9 +101,22 @@ fn a_failed_read_is_told(rt: HostRuntime) -> Result<(), Fail> {
         );
         assert_case(&rt, unread, broken);
     }
-    match told_without(alloc, &table, 0) {
-        Some(Ok(text)) => assert_text(&rt, text, WHOLE),
-        _ => assert_case(&rt, false, WHOLE),
+    Ok(())
+}
+
+/// How whole a file is, is told without its bytes: blocks of the file A that can not be read change nothing.
+#[test]
+fn bytes_of_files_are_not_read(rt: HostRuntime) -> Result<(), Fail> {
+    let alloc = rt.alloc();
+    let whole: (&[u32], &str) = (&[], WHOLE);
+    for (unread, expected) in [whole, UNREAD[1], UNREAD[2]] {
+        let table = Disc::type1(alloc)?.known_but(alloc, unread)?;
+        for broken in [277, 278, 279] {
+            match told_without(alloc, &table, broken) {
+                Some(Ok(text)) => assert_text(&rt, text, expected),
+                _ => assert_case(&rt, false, broken),
+            }
+        }
     }
     Ok(())
 }

@@ -1,6 +1,6 @@
 use Rattle.std.proofs.Common.{◌∙◌, sym, ap, subst, length, drop, ◌+◌, arith}
 use Rattle.udfs_walk.specs.BlockRuns.{blocks_of}
-use Rattle.udfs_walk.proofs.PortionGaps.{blocks_more}
+use Rattle.udfs_walk.proofs.KnownGaps.{blocks_more}
 use Rattle.udfs_walk.proofs.BlockOrder.{IsJoining, empty, ends_at, none, parts_at, starts, touches_at}
 use Rattle.udfs_walk.proofs.block_runs.joined.Goals as goal
 use Rattle.udfs_walk.proofs.block_runs.joined.Goals.{then-saturating_sub-le1, else-saturating_sub-le1+in_ok-push}

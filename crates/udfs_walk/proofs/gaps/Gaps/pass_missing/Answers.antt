@@ -1,7 +1,7 @@
 use Rattle.std.proofs.Common.{◌∙◌, ap, ◌++◌, ◌+◌, ◌-◌}
 use Rattle.std.specs.List.{range_with_len}
 use Rattle.udfs_walk.specs.BlockRuns.{blocks_of}
-use Rattle.udfs_walk.proofs.PortionGaps.{blocks_more, unread_passes}
+use Rattle.udfs_walk.proofs.KnownGaps.{blocks_more, unread_passes}
 use Rattle.udfs_walk.proofs.gaps.Gaps.pass_missing.Goals as goal
 
 pub returns-clause-passes : goal.returns-clause-passes

@@ -5,7 +5,7 @@ use Rattle.udfs_space.specs.Views.{view_by}
 use Rattle.udfs_file.specs.Bodies.{recorded_cell}
 use Rattle.udfs_file.specs.Portions.{AreUnread, IsUnreadAt}
 use Rattle.udfs_file.proofs.PortionCells.{unread_cells}
-use Rattle.udfs_file.proofs.store_portions.unread_portion.Goals as goal
+use Rattle.udfs_file.proofs.store_portions.unread_bytes.Goals as goal
 
 pub returns-clause-cells : goal.returns-clause-cells
 returns-clause-cells g c told = let v = view_by g.B.BlockStore.states c.args.view in

@@ -1,25 +1,20 @@
--- What is missing in portions, and in the runs of blocks that they name.
+-- What is missing by what is known of cells, and in the runs of blocks that it names.
 use Rattle.std.proofs.Common.{◌≡◌, ◌≤◌, refl, sym, ◌∙◌, ap, subst, ℕ, ◌+◌, List, [], ◌∷◌, ◌++◌, length, take, drop, length-append, arith, replicate, append_assoc, Option, Some, None}
 use Rattle.std.specs.Prelude.{zero, suc}
 use Rattle.std.specs.List.{range_with_len}
 use Rattle.std.proofs.lemmas.List.{append-nil, length-replicate, length-take-le, take-append-drop}
 use Rattle.udfs_lattice.specs.Volumes.{ascending}
 use Rattle.udfs_file.specs.declared.cells.Cell.{Cell}
-use Rattle.udfs_file.specs.declared.cells.Cell.TheVariants.{Byte, Gap}
-use Rattle.std.specs.Borrow.{Bor}
-use Rattle.udfs_file.specs.declared.portions.Portion.{Portion}
-use Rattle.udfs_file.specs.declared.portions.Portion.TheVariants.{Bytes, Zeros}
-use Rattle.udfs_file.specs.Pieces.{byte_cells}
-use Rattle.udfs_file.specs.Portions.{AreUnread, GivesCount, GivesPortion, IsFirst, IsPortion, portion_count}
+use Rattle.udfs_file.specs.declared.cells.Cell.TheVariants.{Gap}
+use Rattle.udfs_file.specs.declared.knowledge.Knowledge.{Knowledge}
+use Rattle.udfs_file.specs.declared.knowledge.Knowledge.TheVariants.{Known}
+use Rattle.udfs_file.specs.Knowledge.{AreKnownCells, GivesKnownCount, GivesKnowledge, IsKnownFirst, IsKnowledge, knowledge_count}
+use Rattle.udfs_file.specs.Portions.{AreUnread}
 use Rattle.udfs_walk.specs.BlockRuns.{blocks_of, run_blocks}
 use Rattle.udfs_walk.specs.declared.block_runs.BlockRun.{BlockRun}
-use Rattle.udfs_walk.specs.Gaps.{AreKnownCells, AreGapsOf, GapFields, IsPassed, Leaves, runs_open}
+use Rattle.udfs_walk.specs.Gaps.{AreGapsOf, GapFields, IsPassed, Leaves, runs_open}
 use Rattle.udfs_walk.specs.Standings.{missing_blocks, runs_from}
 use Rattle.udfs_walk.proofs.RunLemmas.{leaves_all, leaves_more, missing_passes, none_passes}
-
-zeros_are : (k : ℕ) → AreKnownCells (replicate k (Byte 0 None))
-zeros_are zero = tt
-zeros_are (suc k) = (tt, zeros_are k)
 
 gaps_are : (n k : ℕ) → AreGapsOf n (replicate k (Gap n))
 gaps_are n zero = tt
@@ -30,10 +25,6 @@ pub blocks_more : (rs : List BlockRun) (r : BlockRun) → blocks_of (rs ++ r ∷
 unfolding blocks_of
 blocks_more [] r = append-nil (run_blocks r)
 blocks_more (x ∷ xs) r = ap (λ z. run_blocks x ++ z) (blocks_more xs r) ∙ sym (append_assoc (run_blocks x) (blocks_of xs) (run_blocks r))
-
-pub bytes_are : (holder : Option ℕ) (bytes : List ℕ) → AreKnownCells (byte_cells holder bytes)
-bytes_are holder [] = tt
-bytes_are holder (x ∷ xs) = (tt, bytes_are holder xs)
 
 -- ---- what is kept behind missing cells
 abbrev after : GapFields → ℕ → ℕ → ℕ → GapFields
@@ -82,23 +73,23 @@ unread_passes n k m cs old new u l b h s g = subst (λ z. Leaves cs [] old z) sa
     same : after old n k (length cs) ≡ new
     same = λ i. record { missing = sym b i; holes = sym h i; start = sym s i; grown = grown i }
 
--- ---- one turn of the loop over portions
-pub portion_length : (p : Portion) (s t : List Cell) → IsFirst p s t → length s ≡ portion_count p + length t
-portion_length p s t f = sym (ap length (take-append-drop (portion_count p) s)) ∙ length-append (take (portion_count p) s) (drop (portion_count p) s)
-    ∙ ap (λ z. z + length (drop (portion_count p) s)) (length-take-le (portion_count p) s f.there)
-    ∙ ap (λ z. portion_count p + length z) (sym f.rest)
+-- ---- one turn of the loop over what is known
+pub known_length : (p : Knowledge) (s t : List Cell) → IsKnownFirst p s t → length s ≡ knowledge_count p + length t
+known_length p s t f = sym (ap length (take-append-drop (knowledge_count p) s)) ∙ length-append (take (knowledge_count p) s) (drop (knowledge_count p) s)
+    ∙ ap (λ z. z + length (drop (knowledge_count p) s)) (length-take-le (knowledge_count p) s f.there)
+    ∙ ap (λ z. knowledge_count p + length z) (sym f.rest)
 
-pub portion_more : (all s t : List Cell) (p : Portion) (a b c : GapFields) → IsFirst p s t → Leaves all s a b
-    → ((cs : List Cell) → IsPortion p cs → length cs ≡ portion_count p → Leaves cs [] b c) → Leaves all t a c
-portion_more all s t p a b c f l g = leaves_more all (take (portion_count p) s) t a b c
-    (subst (λ z. Leaves all z a b) (sym (take-append-drop (portion_count p) s) ∙ ap (λ z. take (portion_count p) s ++ z) (sym f.rest)) l)
-    (g (take (portion_count p) s) f.portion (length-take-le (portion_count p) s f.there))
+pub known_more : (all s t : List Cell) (p : Knowledge) (a b c : GapFields) → IsKnownFirst p s t → Leaves all s a b
+    → ((cs : List Cell) → IsKnowledge p cs → length cs ≡ knowledge_count p → Leaves cs [] b c) → Leaves all t a c
+known_more all s t p a b c f l g = leaves_more all (take (knowledge_count p) s) t a b c
+    (subst (λ z. Leaves all z a b) (sym (take-append-drop (knowledge_count p) s) ∙ ap (λ z. take (knowledge_count p) s ++ z) (sym f.rest)) l)
+    (g (take (knowledge_count p) s) f.knowledge (length-take-le (knowledge_count p) s f.there))
 
-pub taken : (s t : List Cell) (r : Option Portion) (p : Portion) → r ≡ Some p → GivesPortion s r t → IsFirst p s t
-taken s t r p e g = subst (λ z. GivesPortion s z t) e g
+pub taken : (s t : List Cell) (r : Option Knowledge) (p : Knowledge) → r ≡ Some p → GivesKnowledge s r t → IsKnownFirst p s t
+taken s t r p e g = subst (λ z. GivesKnowledge s z t) e g
 
-pub ended : (s t : List Cell) (r : Option Portion) → r ≡ None → GivesPortion s r t → s ≡ []
-ended s t r e g = (subst (λ z. GivesPortion s z t) e g).0
+pub ended : (s t : List Cell) (r : Option Knowledge) → r ≡ None → GivesKnowledge s r t → s ≡ []
+ended s t r e g = (subst (λ z. GivesKnowledge s z t) e g).0
 
 -- where nothing is left, all is passed
 pub passed_all : (all rest : List Cell) (old new : GapFields) → rest ≡ [] → Leaves all rest old new
@@ -112,16 +103,13 @@ passed_all all rest old new e p m r s o = subst (λ x. IsPassed all x new) (ap (
       runs = ap (runs_from 0) (sym (append-nil all)) ∙ (λ i. sym r i ++ runs_open (sym s i) (sym o i) (all ++ []));
     }
 
--- ---- what a portion says of its cells
-pub portion_bytes : (p : Portion) (b : Bor (List ℕ)) (cs : List Cell) → p ≡ Bytes b → IsPortion p cs → AreKnownCells cs
-portion_bytes p b cs e i = let h : (holder : Option ℕ) × (cs ≡ byte_cells holder b.now) = subst (λ z. IsPortion z cs) e i in subst AreKnownCells (sym h.1) (bytes_are h.0 b.now)
-
-pub portion_zeros : (p : Portion) (n : ℕ) (cs : List Cell) → p ≡ Zeros n → IsPortion p cs → AreKnownCells cs
-portion_zeros p n cs e i = let h : cs ≡ replicate n (Byte 0 None) = subst (λ z. IsPortion z cs) e i in subst AreKnownCells (sym h) (zeros_are n)
+-- ---- what is known of the first cells
+pub all_known : (k : Knowledge) (n : ℕ) (cs : List Cell) → k ≡ Known n → IsKnowledge k cs → AreKnownCells cs
+all_known k n cs e i = subst (λ z. IsKnowledge z cs) e i
 
 pub started : (all s : List Cell) (g : GapFields) → s ≡ all → Leaves all s g g
 started all s g e = subst (λ z. Leaves all z g g) (sym e) (leaves_all all g)
 
 -- ---- how many cells are left, whatever is told of them
-pub fewer_left : (m n : ℕ) (r : Option Portion) (p : Portion) → r ≡ Some p → GivesCount m r n → (1 ≤ portion_count p) × (m ≡ portion_count p + n)
-fewer_left m n r p e g = subst (λ z. GivesCount m z n) e g
+pub fewer_left : (m n : ℕ) (r : Option Knowledge) (p : Knowledge) → r ≡ Some p → GivesKnownCount m r n → (1 ≤ knowledge_count p) × (m ≡ knowledge_count p + n)
+fewer_left m n r p e g = subst (λ z. GivesKnownCount m z n) e g
