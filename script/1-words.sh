@@ -26,7 +26,7 @@ patience=${RESCUE_PATIENCE:-300}    # after how many seconds a quick pass over t
 ddrescue=${DDRESCUE:-ddrescue}
 program=${UDFSALVAGE:-udfsalvage}
 
-asked_mode='' drive='' only='' retries=3 to='' title='' device='' folder=''
+asked_mode='' words_given='' drive='' only='' retries=3 to='' title='' device='' folder=''
 stop=0 child='' reader='' watcher='' locked=0 round=0 given=''
 
 # ---- Words ----

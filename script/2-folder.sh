@@ -33,6 +33,7 @@ at_once() {
     [ -z "$watcher" ] || kill "$watcher" 2> /dev/null
     clear_line
     note "ended at once by a signal"
+    printf 'Ended at once. Start the same command again to go on.\n' >&3 2> /dev/null
     leave "$1"
 }
 
@@ -67,11 +68,12 @@ attend() {
 read_arguments() {
     while [ $# -gt 0 ]; do
         case $1 in
-            --needed) asked_mode=needed ;;
-            --full) asked_mode=full ;;
+            --needed) asked_mode=needed words_given="$words_given --needed" ;;
+            --full) asked_mode=full words_given="$words_given --full" ;;
             --name | --only | --retries | --to | --title)
                 [ $# -gt 1 ] || wrong "$1 wants a value"
                 read_option "$1" "$2"
+                words_given="$words_given $1 $(quoted "$2")"
                 shift
                 ;;
             -h | --help) printf '%s\n%s\n' "$usage" "$words"; exit 0 ;;
@@ -90,7 +92,10 @@ read_arguments() {
 read_option() {
     case $1 in
         --name) drive=$2 ;;
-        --only) only="$only --only $(quoted "$2")" ;;
+        --only)
+            case $2 in /*) ;; *) wrong '--only takes a path that begins with /' ;; esac
+            only="$only --only $(quoted "$2")"
+            ;;
         --retries) retries=$2 ;;
         --to) to=$2 ;;
         --title) title=$2 ;;
@@ -133,6 +138,7 @@ has() {
 
 # Whether the device can be read at all, its size, and which drive it is.
 check_device() {
+    [ -e "$device" ] || [ ! -e "$folder" ] || [ -d "$folder" ] || wrong 'the DEVICE comes first, and then the FOLDER'
     [ -e "$device" ] || fail "$device is not there" 'Discs are mostly /dev/sr0, a second drive is /dev/sr1. Is the drive plugged in?'
     [ ! -d "$device" ] || fail "$device is a folder" 'Give the drive itself, such as /dev/sr0, and not the place where the disc is mounted.'
     if [ ! -r "$device" ]; then
@@ -216,7 +222,7 @@ take_lock() {
         # shellcheck disable=SC2086
         set -- $holder
         if [ $# -ge 3 ] && [ "$3" = "$(cat /proc/sys/kernel/random/boot_id)" ] && [ "$(began "$1")" = "$2" ]; then
-            fail "another rescue works in $folder (process $1)"
+            fail "another rescue works in $folder (process $1)" 'Wait until it has ended, or end it by Ctrl-C where it runs.'
         elif [ $# -ge 4 ] && [ "$4" != "$(uname -n)" ]; then
             fail "a rescue on the machine $4 works in $folder, or was killed there" "If it does not run any more: rm $(quoted "$folder/lock")"
         fi

@@ -15,7 +15,8 @@ closed() {
         return
     fi
     case $volume in
-        holes*) tell "The disc does not open yet. It needs one of these blocks:${volume#holes}." ;;
+        holes\ *\ *) tell "The disc does not open yet. It needs one of these blocks:${volume#holes}." ;;
+        holes*) tell "The disc does not open yet. It needs block${volume#holes}." ;;
         *NoAnchor*) tell 'There is no UDF on this disc: it is blank, or of another kind, such as audio or video.' ;;
         *Domain*) tell 'UDF 2.50 or later, as on Blu-ray discs, is not read.' ;;
         *MapKind*)
@@ -84,12 +85,20 @@ conflicts() {
     while IFS= read -r path; do tell "$path"; done < work/paths
     tell '  To forget these blocks, and read them again:'
     tell "    $(quoted "$program") forget --conflicts --out $(quoted "$folder/disc.tab") $(quoted "$folder/disc.tab")"
-    tell "    $(again "$device")"
+    tell "    $(again "$only" "$device")"
 }
 
-# again DEVICE: this command, as it is typed, with another device
+# again WORDS DEVICE: this command, as it is typed, with these options and this device
 again() {
-    printf 'udfsalvage-rescue%s %s %s' "$only" "$(quoted "$1")" "$(quoted "$folder")"
+    printf 'udfsalvage-rescue%s %s %s' "$1" "$(quoted "$2")" "$(quoted "$folder")"
+}
+
+# other_drive: the device of a drive that has not been used in this folder
+other_drive() {
+    for one in /dev/sr0 /dev/sr1 /dev/sr2; do
+        [ "$device" = "$one" ] || [ -n "$(get "drive ${one#/dev/} is")" ] || { echo "$one"; return; }
+    done
+    echo DEVICE
 }
 
 write_report() {
@@ -152,12 +161,10 @@ finish() {
 ways() {
     if [ "$stop" != 0 ]; then
         tell "  Go on:"
-        tell "    $(again "$device")"
+        tell "    $(again "$words_given" "$device")"
     elif [ -s work/needed ]; then
-        other=/dev/sr1
-        [ "$device" != /dev/sr1 ] || other=/dev/sr0
-        tell "  Clean the disc, or take another drive:"
-        tell "    $(again "$other")"
+        tell "  Clean the disc and start again, or take another drive than $(sed -n 's/^drive \([^ ]*\) is .*/\1/p' state | sort -u | paste -s -d ,):"
+        tell "    $(again "$only" "$(other_drive)")"
     fi
     if [ "$files" != 0 ] && [ -z "$to" ]; then
         tell "  Take what is whole:"
