@@ -64,19 +64,22 @@ fn has_where_told(ran: &Outcome, line: &str, memory: &Memory, path: &str, bytes:
     !ran.out.as_str().contains(line) || memory.has(path, bytes)
 }
 
-/// A merge of a reading of two records over an old output. It is done, or fails with the line that memory ran out, and the old output stays.
+/// An old table file, without a block.
+const OLD_TABLE: &[u8] = b"UDFTABL1\0\x08\0\0\0\0\0\0";
+
+/// A merge of a reading of two records over an old table. It is done, or fails with the line that memory ran out, and the old table stays.
 pub fn merge_wants_memory(alloc: Global) -> Result<bool, AllocError> {
     let whole = table(alloc, &[(300, 0x61), (301, 0x62)])?;
     let mut memory = Memory::new(alloc);
     let two = reading(alloc, &[(300, 0x61), (301, 0x62)])?;
     memory.store("two.rd", two.as_slice())?;
-    memory.store("t.tab", &[0x77; 5000])?;
+    memory.store("t.tab", OLD_TABLE)?;
     let ran = ran_with_memory(alloc, &mut memory, "merge --v1 --out t.tab two.rd")?;
     if ran.status == 0 {
         return Ok(ran.is_silent() && memory.has("t.tab", whole.as_slice()));
     }
     let is_refused = ran.is_refused("udfsalvage: out of memory\n");
-    Ok(is_refused && memory.has("t.tab", &[0x77; 5000]))
+    Ok(is_refused && memory.has("t.tab", OLD_TABLE))
 }
 
 /// An old page.
