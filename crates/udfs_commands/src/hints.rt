@@ -389,11 +389,7 @@ fn of_lost_folder(
 }
 
 /// What is said of a path of `--only` that is that of no node.
-fn of_no_node(
-    alloc: Global,
-    only: &[&str],
-    number: usize,
-) -> Result<Option<String>, AllocError> {
+fn of_no_node(alloc: Global, only: &[&str], number: usize) -> Result<Option<String>, AllocError> {
     match only.get(number.saturating_sub(1)) {
         Some(path) if !path.starts_with('/') => Ok(Some(format!(in alloc;
             "{} does not begin with /: the paths are those that list --paths prints",
