@@ -3,7 +3,7 @@
 ghost use Rattle.udfs_lattice.specs.Tables.{state_of};
 
 use super::rows::{UNREAD, WHOLE};
-use super::told::{rooted, told_by};
+use super::told::{nodes_told_by, rooted, told_by};
 use crate::tests::{assert_case, assert_text};
 use std::alloc::Global;
 use std::test::Fail;
@@ -101,6 +101,10 @@ fn a_failed_read_is_told(rt: HostRuntime) -> Result<(), Fail> {
         );
         assert_case(&rt, unread, broken);
     }
+    match told_without(alloc, &table, 0) {
+        Some(Ok(text)) => assert_text(&rt, text, WHOLE),
+        _ => assert_case(&rt, false, WHOLE),
+    }
     Ok(())
 }
 
@@ -111,10 +115,19 @@ fn bytes_of_files_are_not_read(rt: HostRuntime) -> Result<(), Fail> {
     let whole: (&[u32], &str) = (&[], WHOLE);
     for (unread, expected) in [whole, UNREAD[1], UNREAD[2]] {
         let table = Disc::type1(alloc)?.known_but(alloc, unread)?;
+        let (space, root) = rooted(alloc, &table).ok_or("no root")?;
         for broken in [277, 278, 279] {
-            match told_without(alloc, &table, broken) {
-                Some(Ok(text)) => assert_text(&rt, text, expected),
-                _ => assert_case(&rt, false, broken),
+            let blocks = Copied {
+                table: &table,
+                broken,
+            };
+            let view = StoreView {
+                blocks: &blocks,
+                space: &space,
+            };
+            match nodes_told_by(alloc, view, root) {
+                Ok(text) => assert_text(&rt, text, expected),
+                Err(_) => assert_case(&rt, false, broken),
             }
         }
     }

@@ -162,3 +162,17 @@ pub fn told_by<B: BlockStore>(
     let text = lines(alloc, &nodes, &entries, &blocks)?;
     Ok(text)
 }
+
+/// What is reported of the nodes and of the blocks to read again, and nothing of entries that no node names: these are looked for in
+/// every known block.
+pub fn nodes_told_by<B: BlockStore>(
+    alloc: Global,
+    view: StoreView<'_, B>,
+    root: LongAd,
+) -> Result<String, NodesGaveUp> {
+    let bare = bare_nodes_by(alloc, view, root)?;
+    let blocks = bare_reread_by(alloc, view, &bare)?;
+    let nodes = full_nodes_by(alloc, view, bare)?;
+    let text = lines(alloc, &nodes, &[], &blocks)?;
+    Ok(text)
+}
