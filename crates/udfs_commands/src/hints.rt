@@ -463,17 +463,26 @@ fn of_past_end(
 }
 
 /// What is said of a mapfile that gives no size.
-fn of_no_size(
+fn of_no_size<F: Files>(
     alloc: Global,
     request: &Request<'_>,
     reason: Option<Error>,
+    files: &F,
 ) -> Result<Option<String>, AllocError> {
     let Some(LastSource::OfMap(map)) = last_of(request) else {
         return Ok(None);
     };
-    let line = match reason {
-        Some(error) => format!(in alloc; "{map}: {error}")?,
-        None => format!(in alloc; "{map} is no mapfile of GNU ddrescue, or has no run")?,
+    let line = match (files.resolve(alloc, map)?, reason) {
+        (Ok(target), _) if target.kind == Kind::Absent => {
+            format!(in alloc; "{} is not there", Shown(map))?
+        }
+        (_, Some(error)) => format!(in alloc; "{}: {error}", Shown(map))?,
+        (_, None) => {
+            format!(in alloc;
+                "{} is no mapfile of GNU ddrescue, or has no run",
+                Shown(map)
+            )?
+        }
     };
     Ok(Some(line))
 }
@@ -490,7 +499,7 @@ fn of_other<F: Files>(
         (Refusal::Output, _) => return of_output(alloc, request, reason),
         (Refusal::Spared, _) => return why_spared(alloc, request, files),
         (Refusal::PastEnd(block), _) => return of_past_end(alloc, request, *block),
-        (Refusal::NoSize, _) => return of_no_size(alloc, request, reason),
+        (Refusal::NoSize, _) => return of_no_size(alloc, request, reason, files),
         (Refusal::ListOpen | Refusal::ListRead, Request::Forget(forget)) => {
             of_list(alloc, forget.lists.as_slice(), reason, files)?
         }

@@ -219,6 +219,9 @@ refused udfsalvage: cannot take the size from the mapfile\n
 $ list --size-of bad.map absent.rd
 refused udfsalvage: cannot take the size from the mapfile\n
 
+$ summary -v --size-of absent.map absent.rd
+refused udfsalvage: cannot take the size from the mapfile\n  absent.map is not there\n
+
 $ summary -v --size-of none.map absent.rd
 refused udfsalvage: cannot take the size from the mapfile\n  none.map is no mapfile of GNU ddrescue, or has no run\n
 
