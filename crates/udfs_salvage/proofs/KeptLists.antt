@@ -20,7 +20,7 @@ use Rattle.udfs_walk.specs.declared.standings.Standing.TheVariants.{Whole, Torn,
 use Rattle.udfs_salvage.specs.KeptLists.{AreKeptLists}
 
 -- two ICBs have one number only if they are one
-one_icb : (x y : Icb) → x.block < 4294967296 → y.block < 4294967296 → is_eq (nat_cmp (number_of x) (number_of y)) ≡ true → (x.reference ≡ y.reference) × (x.block ≡ y.block)
+pub one_icb : (x y : Icb) → x.block < 4294967296 → y.block < 4294967296 → is_eq (nat_cmp (number_of x) (number_of y)) ≡ true → (x.reference ≡ y.reference) × (x.block ≡ y.block)
 one_icb x y h l e =
     let k : number_of x ≡ number_of y = eqb-true (number_of x) (number_of y) (sym (eq_by_cmp-nat (number_of x) (number_of y)) ∙ e) in
     (omega (arith, k, h, l), omega (arith, k, h, l))
@@ -42,7 +42,7 @@ same_lists v a d p q r b = lists_by v a p
     ∙ same_target v a d (target_at None d.block (block_at v d.reference d.block)) r b
     ∙ sym (lists_by v d q)
 
-some_is : {A : Type 0} (x y : A) → Some x ≡ Some y → x ≡ y
+pub some_is : {A : Type 0} (x y : A) → Some x ≡ Some y → x ≡ y
 some_is x y e = ap (λ o. elim o [ None ↦ x | Some z ↦ z ]) e
 
 -- where nothing is kept

@@ -36,6 +36,7 @@ pub mod PublicLaws
 pub mod UnnamedEntries
 pub mod ListedNodes
 pub mod KeptLists
+pub mod KeptTails
 pub mod ChoosingLemmas
 pub mod AskedNames
 mod ChosenAll

@@ -19,5 +19,6 @@ pub mod Listings
 pub mod JsonPieces
 pub mod UnnamedExtraction
 pub mod KeptLists
+pub mod KeptTails
 pub mod Choosing
 pub mod InLine

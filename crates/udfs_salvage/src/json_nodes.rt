@@ -6,9 +6,11 @@ ghost use Rattle.serde_json.specs.View.{members_view, view};
 ghost use Rattle.udfs_space.specs.Views.{view_now};
 ghost use Rattle.udfs_salvage.specs.NodeTexts.{kind_name, path_name, standing_name};
 ghost use Rattle.udfs_walk.specs.Rereads.{holes_of, missing_of};
+ghost use Rattle.udfs_salvage.specs.KeptTails.{AreKeptTails};
 ghost use Rattle.udfs_salvage.specs.JsonNodes.{count, hole_data, list_data, node_data, node_in, size_data, tail_in, time_data, told_members, unnamed_data};
 
 use crate::appending::{push_path_name, push_word};
+use crate::tails::KeptTails;
 use crate::words::{kind_word, standing_word};
 use serde_json::{Map, Value, json, put};
 use std::alloc::{AllocError, Global};
@@ -17,7 +19,7 @@ use udfs_osta::Stamp;
 use udfs_space::View;
 use udfs_tag::LongAd;
 use udfs_volume::Profile;
-use udfs_walk::{Node, Path, Standing, Unnamed, tail_at};
+use udfs_walk::{Node, Path, Standing, Unnamed};
 
 /// A standing.
 pub(crate) fn standing_value(alloc: Global, standing: &Standing) -> Result<Value, AllocError>
@@ -149,13 +151,16 @@ pub(crate) fn tail_in(
     alloc: Global,
     profile: Profile,
     view: View<'_>,
+    kept: &mut KeptTails,
     address: LongAd,
 ) -> Result<bool, AllocError>
-    ensures { IfOk result (λ tail. tail ≡ tail_in profile (view_now view.entry) address) }
+    requires { AreKeptTails (view_now view) kept.old.tails }
+    ensures tail { IfOk result (λ tail. tail ≡ tail_in profile (view_now view.entry) address) }
+    ensures kept { IfOk result (λ tail. AreKeptTails (view_now view.entry) kept.new.tails) }
 {
     match profile {
         Profile::Strict => Ok(false),
-        Profile::Wide => tail_at(alloc, view, address),
+        Profile::Wide => kept.tail_at(alloc, view, address),
     }
 }
 
@@ -190,11 +195,14 @@ fn node_value_in(
     alloc: Global,
     profile: Profile,
     volume: View<'_>,
+    kept: &mut KeptTails,
     node: &Node,
 ) -> Result<Value, AllocError>
-    ensures { IfOk result (λ v. view v ≡ node_in profile (view_now volume.entry) node.now) }
+    requires { AreKeptTails (view_now volume) kept.old.tails }
+    ensures value { IfOk result (λ v. view v ≡ node_in profile (view_now volume.entry) node.now) }
+    ensures kept { IfOk result (λ v. AreKeptTails (view_now volume.entry) kept.new.tails) }
 {
-    let tail = tail_in(alloc, profile, volume, node.icb)?;
+    let tail = tail_in(alloc, profile, volume, kept, node.icb)?;
     node_value(alloc, tail, node)
 }
 
@@ -207,9 +215,10 @@ pub(crate) fn nodes_value_in(
 ) -> Result<Value, AllocError>
     ensures { IfOk result (λ v. view v ≡ list_data (node_in profile (view_now volume.entry)) nodes.now) }
 {
+    let mut kept = KeptTails::new(alloc);
     let mut items = Vec::new(alloc);
     for node in nodes {
-        items.push(node_value_in(alloc, profile, volume, node)?)?;
+        items.push(node_value_in(alloc, profile, volume, &mut kept, node)?)?;
     }
     Ok(Value::Array(items))
 }

@@ -12,6 +12,7 @@ ghost use Rattle.udfs_salvage.specs.JsonNodes.{list_data, node_in, unnamed_data}
 ghost use Rattle.udfs_salvage.specs.JsonPieces.{entry_end, entry_front, more_values, node_end, node_front, report_end, report_front, reread_words};
 ghost use Rattle.udfs_salvage.specs.JsonReports.{json_text_by, nodes_data, reread_data};
 ghost use Rattle.udfs_salvage.specs.KeptLists.{AreKeptLists};
+ghost use Rattle.udfs_salvage.specs.KeptTails.{AreKeptTails};
 ghost use Rattle.udfs_salvage.specs.Surveys.{survey_now};
 ghost use Rattle.udfs_salvage.specs.Texts.{has_two, line};
 
@@ -26,6 +27,7 @@ use crate::kept_lists::KeptLists;
 use crate::lines::has_two;
 use crate::printing::{flush, pass_on};
 use crate::surveys::Survey;
+use crate::tails::KeptTails;
 use crate::volumes::Volume;
 use std::alloc::Global;
 use udfs_reading::Sink;
@@ -69,15 +71,18 @@ fn put_node<W: Sink>(
     profile: Profile,
     view: View<'_>,
     kept: &mut KeptLists,
+    tails: &mut KeptTails,
     front: &str,
     node: &Node,
 ) -> Result<(), RunError>
-    requires { AreKeptLists (view_now view) kept.old.lists }
+    requires lists { AreKeptLists (view_now view) kept.old.lists }
+    requires tails { AreKeptTails (view_now view) tails.old.tails }
     ensures text { PassesOn (W.stream sink.old) (W.stream sink.new) (string_bytes text.old) (string_bytes text.new) (front.now ++ compact_text (node_in profile (view_now view.entry) (full_node (view_now view.entry) node.now))) result }
     ensures lists { IfOk result (λ done. AreKeptLists (view_now view.entry) kept.new.lists) }
+    ensures tails { IfOk result (λ done. AreKeptTails (view_now view.entry) tails.new.tails) }
 {
     let full = kept.full_standing(alloc, view, node.icb, &node.standing)?;
-    let tail = tail_in(alloc, profile, view, node.icb)?;
+    let tail = tail_in(alloc, profile, view, tails, node.icb)?;
     put_node_front(text, sink, front, node.hidden)?;
     put_told(alloc, text, sink, &full, node.kind)?;
     put_node_end(alloc, text, sink, tail, node)
@@ -91,13 +96,15 @@ fn put_more_nodes<W: Sink>(
     profile: Profile,
     view: View<'_>,
     kept: &mut KeptLists,
+    tails: &mut KeptTails,
     nodes: &[Node],
 ) -> Result<(), RunError>
-    requires { AreKeptLists (view_now view) kept.old.lists }
+    requires lists { AreKeptLists (view_now view) kept.old.lists }
+    requires tails { AreKeptTails (view_now view) tails.old.tails }
     ensures { PassesOn (W.stream sink.old) (W.stream sink.new) (string_bytes text.old) (string_bytes text.new) (more_values (λ n. node_in profile (view_now view.entry) (full_node (view_now view.entry) n)) nodes.now) result }
 {
     for node in nodes {
-        put_node(alloc, text, sink, profile, view, kept, ",", node)?;
+        put_node(alloc, text, sink, profile, view, kept, tails, ",", node)?;
     }
     Ok(())
 }
@@ -117,8 +124,13 @@ fn put_nodes<W: Sink>(
         return put_words(text, sink, "[]");
     };
     let mut kept = KeptLists::new(alloc);
-    put_node(alloc, text, sink, profile, view, &mut kept, "[", first)?;
-    put_more_nodes(alloc, text, sink, profile, view, &mut kept, rest)?;
+    let mut tails = KeptTails::new(alloc);
+    put_node(
+        alloc, text, sink, profile, view, &mut kept, &mut tails, "[", first,
+    )?;
+    put_more_nodes(
+        alloc, text, sink, profile, view, &mut kept, &mut tails, rest,
+    )?;
     put_words(text, sink, "]")
 }
 

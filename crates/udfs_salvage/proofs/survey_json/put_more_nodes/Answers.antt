@@ -19,4 +19,5 @@ loop-node-preserved g c =
       text = passed_item (λ (n : NodeFields). 44 ∷ compact_text (node_in c.args.profile (view_now c.args.view) (full_node (view_now c.args.view) n))) c.args.nodes.now c.loop-node.node-index c.node-item.result c.loop-node-test.true c.node-item.is c.loop-node.invariant.text
           c.in_ok-put_node.ensures.text;
       lists = c.in_ok-put_node.ensures.lists;
+      tails = c.in_ok-put_node.ensures.tails;
     }

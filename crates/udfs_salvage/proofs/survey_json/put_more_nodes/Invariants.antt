@@ -6,6 +6,7 @@ use Rattle.udfs_walk.specs.Bare.{full_node}
 use Rattle.udfs_salvage.specs.JsonNodes.{node_in}
 use Rattle.udfs_salvage.specs.JsonPieces.{more_values}
 use Rattle.udfs_salvage.specs.KeptLists.{AreKeptLists}
+use Rattle.udfs_salvage.specs.KeptTails.{AreKeptTails}
 use Rattle.udfs_salvage.proofs.survey_json.put_more_nodes.Given as goal
 
 -- the values so far
@@ -15,4 +16,5 @@ invariant-loop-node g l =
       text : Passed (W.stream l.fn.sink) (W.stream l.sink) (string_bytes l.fn.text) (string_bytes l.text)
           (more_values (λ n. node_in l.profile (view_now l.view) (full_node (view_now l.view) n)) (take l.node-index l.nodes));
       lists : AreKeptLists (view_now l.view) l.kept.lists;
+      tails : AreKeptTails (view_now l.view) l.tails.tails;
     }

@@ -17,7 +17,7 @@ returns-in_err-put_node_front-clause-text g c =
     let v = view_now c.args.view in
     let s = c.in_ok-full.full in
     let pieces = full_node_pieces c.args.front.now c.args.profile v c.args.node.now n.hidden n.kind s c.in_ok-tail.tail (ap (λ (m : NodeFields). m.hidden) c.node.view_is) (ap (λ (m : NodeFields). m.kind) c.node.view_is)
-    (c.in_ok-full.ensures.full ∙ ap (λ (m : NodeFields). (full_node v m).standing) c.node.view_is) (c.in_ok-tail.ensures ∙ ap (λ (m : NodeFields). tail_in c.args.profile v m.icb) c.node.view_is) in
+    (c.in_ok-full.ensures.full ∙ ap (λ (m : NodeFields). (full_node v m).standing) c.node.view_is) (c.in_ok-tail.ensures.tail ∙ ap (λ (m : NodeFields). tail_in c.args.profile v m.icb) c.node.view_is) in
     rw (p.1, p.2) (stopped_first_of _ (c.args.front.now ++ node_front n.hidden) (told_piece s n.kind ++ node_end c.in_ok-tail.tail c.args.node.now) _ pieces c.in_err-put_node_front.ensures)
 
 pub returns-in_err-put_told-clause-text : goal.returns-in_err-put_told-clause-text
@@ -27,7 +27,7 @@ returns-in_err-put_told-clause-text g c =
     let v = view_now c.args.view in
     let s = c.in_ok-full.full in
     let pieces = full_node_pieces c.args.front.now c.args.profile v c.args.node.now n.hidden n.kind s c.in_ok-tail.tail (ap (λ (m : NodeFields). m.hidden) c.node.view_is) (ap (λ (m : NodeFields). m.kind) c.node.view_is)
-    (c.in_ok-full.ensures.full ∙ ap (λ (m : NodeFields). (full_node v m).standing) c.node.view_is) (c.in_ok-tail.ensures ∙ ap (λ (m : NodeFields). tail_in c.args.profile v m.icb) c.node.view_is) in
+    (c.in_ok-full.ensures.full ∙ ap (λ (m : NodeFields). (full_node v m).standing) c.node.view_is) (c.in_ok-tail.ensures.tail ∙ ap (λ (m : NodeFields). tail_in c.args.profile v m.icb) c.node.view_is) in
     rw (p.1, p.2) (stopped_second_of (c.args.front.now ++ node_front n.hidden) (told_piece s n.kind) (node_end c.in_ok-tail.tail c.args.node.now) _ pieces c.in_ok-put_node_front.ensures c.in_err-put_told.ensures)
 
 pub returns-clause-text : goal.returns-clause-text
@@ -37,6 +37,6 @@ returns-clause-text g c =
     let v = view_now c.args.view in
     let s = c.in_ok-full.full in
     let pieces = full_node_pieces c.args.front.now c.args.profile v c.args.node.now n.hidden n.kind s c.in_ok-tail.tail (ap (λ (m : NodeFields). m.hidden) c.node.view_is) (ap (λ (m : NodeFields). m.kind) c.node.view_is)
-    (c.in_ok-full.ensures.full ∙ ap (λ (m : NodeFields). (full_node v m).standing) c.node.view_is) (c.in_ok-tail.ensures ∙ ap (λ (m : NodeFields). tail_in c.args.profile v m.icb) c.node.view_is) in
+    (c.in_ok-full.ensures.full ∙ ap (λ (m : NodeFields). (full_node v m).standing) c.node.view_is) (c.in_ok-tail.ensures.tail ∙ ap (λ (m : NodeFields). tail_in c.args.profile v m.icb) c.node.view_is) in
     passes_three (W.stream c.put_node_end.new.sink) (string_bytes c.put_node_end.new.text) (c.args.front.now ++ node_front n.hidden) (told_piece s n.kind) (node_end c.in_ok-tail.tail c.args.node.now) _ c.put_node_end.result
     pieces c.in_ok-put_node_front.ensures c.in_ok-put_told.ensures c.put_node_end.ensures
