@@ -10,10 +10,11 @@ use Rattle.clap.specs.declared.parser.matches.MatchedArg.{MatchedArg}
 use Rattle.clap.proofs.WalkLemmas.{first_value-rows, one_text-rows, raw_values-rows}
 use Rattle.udfs_words.specs.Asking.{IsGoodGroup, IsGroup, IsKnownProfile, IsLastOfSize, IsOneEnd, IsPicked, IsToldLast, are_two_streams, input_texts, is_mapped, is_twice, list_texts, names_stream, number_of, takes_streams}
 use Rattle.udfs_words.specs.Grammar.{program_app}
+use Rattle.udfs_words.specs.Lines.{IsOfMap}
 use Rattle.udfs_words.specs.Requests.{IsLastSource, optional_text}
 use Rattle.udfs_words.specs.declared.group.GroupSize.{GroupSize}
 use Rattle.udfs_words.specs.declared.request.LastSource.{LastSource}
-use Rattle.udfs_words.specs.declared.request.LastSource.TheVariants.{Block, OfMaps}
+use Rattle.udfs_words.specs.declared.request.LastSource.TheVariants.{Block, OfMap, OfMaps}
 use Rattle.udfs_words.specs.Obeying.{IsAsked, given_in}
 use Rattle.udfs_words.specs.Sizes.{IsSize}
 use Rattle.udfs_words.proofs.SizeLemmas.{one_size_of}
@@ -50,9 +51,19 @@ differ {name = name} {a = a} {b = b} is other apart alike = false≢true (sym ap
 pub is_picked : {A : Type 0} (words : Found) (flag : Text) (given absent picked : A) → IsPicked words flag given absent picked → one_text words flag ≡ Some (codes "true") → picked ≡ given
 is_picked words flag given absent picked is e = is.with_flag e
 
--- no size is given
-pub no_size : (words : Found) → first_value words (codes "size") ≡ None → IsOneEnd words
-no_size words none text given = let z : Some text ≡ None = sym given ∙ none in absurd (let never : ⊥ = cc in never)
+-- no size is given, and no mapfile that gives it
+pub no_size : (words : Found) → first_value words (codes "size") ≡ None → is_some (matched_of words (codes "size-of")) ≡ false → IsOneEnd words
+no_size words none no_map = record {
+  size = λ text given. let z : Some text ≡ None = sym given ∙ none in absurd (let never : ⊥ = cc in never);
+  map = λ given. absurd (false≢true (sym no_map ∙ given));
+}
+
+-- a mapfile alone gives the size
+pub map_alone : (words : Found) → first_value words (codes "size") ≡ None → is_some (matched_of words (codes "last")) ≡ false → is_some (matched_of words (codes "size")) ≡ false → IsOneEnd words
+map_alone words none no_last unsized = record {
+  size = λ text given. let z : Some text ≡ None = sym given ∙ none in absurd (let never : ⊥ = cc in never);
+  map = λ given. (no_last, unsized);
+}
 
 -- no rules are named
 pub no_profile : (words : Found) → first_value words (codes "profile") ≡ None → IsKnownProfile words
@@ -84,7 +95,8 @@ last_is words (Block m) text n is e given numeral value low = go is.1
     go : IsToldLast words m → Block m ≡ Block n
     go (inl told) = ap Block (sym told.2 ∙ ap (λ (t : Text). digits_value 10 (without_leading_plus t)) (same _ _ (sym told.1 ∙ e)) ∙ value)
     go (inr untold) = absurd (untold.0 text e (numeral, subst (λ (k : ℕ). k < 2 ^ 32) (sym value) low))
-last_is words OfMaps text n is e given numeral value low = absurd (false≢true (sym is.0 ∙ given))
+last_is words (OfMap path) text n is e given numeral value low = absurd (false≢true (sym is.0.0 ∙ given))
+last_is words OfMaps text n is e given numeral value low = absurd (false≢true (sym is.0.0 ∙ given))
 
 -- the block before the end of a disc of the size that is given
 pub size_is : (words : Found) (source : LastSource) (text : Text) (n : ℕ) → IsLastSource words source → one_text words (codes "last") ≡ None → first_value words (codes "size") ≡ Some text → is_some (matched_of words (codes "size")) ≡ true → IsSize text (2048 * (n + 1)) → n < 2 ^ 32 → source ≡ Block n
@@ -100,16 +112,27 @@ size_is words (Block m) text n is none e given sized low = go is.1
     go (inl told) = let z : Some told.0 ≡ None = sym told.1 ∙ none in absurd (let never : ⊥ = cc in never)
     go (inr (untold, inl (size, (other, also, is), ends))) = ap Block (block size (one_size_of text size (2048 * (n + 1)) (subst (λ (t : Text). IsSize t size) (same _ _ (sym also ∙ e)) is) sized) ends)
     go (inr (untold, inr (unsized, _))) = absurd (unsized (2048 * (n + 1)) (text, e, sized))
-size_is words OfMaps text n is none e given sized low = absurd (false≢true (sym is.1 ∙ given))
+size_is words (OfMap path) text n is none e given sized low = absurd (false≢true (sym is.0.1 ∙ given))
+size_is words OfMaps text n is none e given sized low = absurd (false≢true (sym is.0.1 ∙ given))
 
 -- a size of whole blocks alone
-pub one_size : (words : Found) (text : Text) (n : ℕ) → first_value words (codes "size") ≡ Some text → IsSize text (2048 * (n + 1)) → is_some (matched_of words (codes "last")) ≡ false → IsOneEnd words
-one_size words text n e sized none other given = (none, (2048 * (n + 1), subst (λ (t : Text). IsSize t (2048 * (n + 1))) (same _ _ (sym e ∙ given)) sized, (λ nothing. omega (arith, nothing)), omega arith))
+pub one_size : (words : Found) (text : Text) (n : ℕ) → first_value words (codes "size") ≡ Some text → IsSize text (2048 * (n + 1)) → is_some (matched_of words (codes "last")) ≡ false → is_some (matched_of words (codes "size-of")) ≡ false → IsOneEnd words
+one_size words text n e sized none no_map = record {
+  size = λ other given. (none, (2048 * (n + 1), subst (λ (t : Text). IsSize t (2048 * (n + 1))) (same _ _ (sym e ∙ given)) sized, (λ nothing. omega (arith, nothing)), omega arith));
+  map = λ given. absurd (false≢true (sym no_map ∙ given));
+}
 
--- a size that is the end of nothing, where neither is given
-pub of_maps : (words : Found) (source : LastSource) → IsLastSource words source → is_some (matched_of words (codes "last")) ≡ false → is_some (matched_of words (codes "size")) ≡ false → source ≡ OfMaps
-of_maps words (Block m) is none unsized = absurd (false≢true (sym (ap₂ (λ (a b : Bool). a || b) none unsized) ∙ is.0))
-of_maps words OfMaps is none unsized = refl
+-- the end of the mapfiles of the inputs, where neither is given, nor a mapfile that gives the size
+pub of_maps : (words : Found) (source : LastSource) → IsLastSource words source → is_some (matched_of words (codes "last")) ≡ false → is_some (matched_of words (codes "size")) ≡ false → optional_text words (codes "size-of") ≡ None → source ≡ OfMaps
+of_maps words (Block m) is none unsized no_map = absurd (false≢true (sym (ap₂ (λ (a b : Bool). a || b) none unsized) ∙ is.0))
+of_maps words (OfMap path) is none unsized no_map = let z : Some path.now ≡ None = sym is.1 ∙ no_map in absurd (let never : ⊥ = cc in never)
+of_maps words OfMaps is none unsized no_map = refl
+
+-- the end of the mapfile that is given
+pub map_is : (words : Found) (source : LastSource) (path : Text) → IsLastSource words source → is_some (matched_of words (codes "last")) ≡ false → is_some (matched_of words (codes "size")) ≡ false → optional_text words (codes "size-of") ≡ Some path → IsOfMap source path
+map_is words (Block m) path is none unsized given = absurd (false≢true (sym (ap₂ (λ (a b : Bool). a || b) none unsized) ∙ is.0))
+map_is words (OfMap other) path is none unsized given = same _ _ (sym is.1 ∙ given)
+map_is words OfMaps path is none unsized given = let z : Some path ≡ None = sym given ∙ is.1 in absurd (let never : ⊥ = cc in never)
 
 -- the path that is given, or none
 pub optional_is : (words : Found) (id : Text) (path : Text) → first_value words id ≡ Some path → is_some (matched_of words id) ≡ true → optional_text words id ≡ Some path

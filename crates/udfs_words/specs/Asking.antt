@@ -19,13 +19,12 @@
 --     has_only words, only_texts words            paths of nodes are asked for, and which; or else that of the root
 --     has_manifest words, manifest_text words     a manifest is asked for, and its path
 --     has_lost words, lost_text words             a folder for lost files is asked for, and its path
---     IsOneEnd words                              the last block, or the size of a disc, and not both
+--     IsOneEnd words                              the last block, or the size of a disc, or a mapfile that gives it, and not two of them
 --     IsEndFault words fault                      what is wrong with how the end of the disc was given
 --     EndsMap end bytes                           these bytes are a mapfile whose runs end here
 --     MapsEndAt found end inputs                  all inputs are images whose mapfiles end here
 --     IsLastOfSize size last                      the last block of a disc of this size; or 0, for which there is no report, where no disc has it
 --     IsToldLast words last                       the last block as given, or else `IsLastOfSize` of the size given; or 0, where there is neither
---     IsLast found inputs words last              the same, or where neither is given the block with which all mapfiles end
 use Rattle.std.specs.Prelude.{◌≡◌, ◌≢◌, ◌⊎◌, ◌↔◌, ℕ, ◌+◌, ◌*◌, ◌%◌, ◌^◌, ◌<◌, ◌&&◌, ◌||◌, Bool, false, is_some, List, [], ◌∷◌, ◌++◌, All, Option, Some, None, IfSome, Ok, codes, map, option_map, unwrap_or, if◌then◌else◌, true}
 use Rattle.std.specs.Str.{bytes_eq}
 use Rattle.clap.specs.Matches.{matched_of, first_value, one_text, raw_values}
@@ -206,11 +205,18 @@ abbrev pub IsGivenSize : Found → ℕ → Type 0
 IsGivenSize words size = (text : List ℕ) × (first_value words (codes "size") ≡ Some text) × IsSize text size
 
 -- a size that was given is that of whole blocks, and no last block was given beside it
-abbrev pub IsOneEnd : Found → Type 0
-IsOneEnd words = (text : List ℕ) → first_value words (codes "size") ≡ Some text → (is_some (matched_of words (codes "last")) ≡ false) × ((size : ℕ) × IsSize text size × (size ≢ 0) × (size % 2048 ≡ 0))
+abbrev pub IsGoodSize : Found → Type 0
+IsGoodSize words = (text : List ℕ) → first_value words (codes "size") ≡ Some text → (is_some (matched_of words (codes "last")) ≡ false) × ((size : ℕ) × IsSize text size × (size ≢ 0) × (size % 2048 ≡ 0))
 
--- a last block and a size were given; or a size alone, which the fault names: one that is that of no disc of whole blocks, or what is no size
+-- the same; and beside a mapfile that gives the size neither a last block nor a size was given
+pub record IsOneEnd (words : Found) : Type 0 where
+  pub size : IsGoodSize words
+  pub map : is_some (matched_of words (codes "size-of")) ≡ true → (is_some (matched_of words (codes "last")) ≡ false) × (is_some (matched_of words (codes "size")) ≡ false)
+
+-- two of the three were given; or a size without a last block, which the fault names: one that is that of no disc of whole blocks, or what is no size
 abbrev pub IsEndFault : Found → EndFault → Type 0
+IsEndFault words fault.LastAndMap = (is_some (matched_of words (codes "size-of")) ≡ true) × (is_some (matched_of words (codes "last")) ≡ true)
+IsEndFault words fault.SizeAndMap = (is_some (matched_of words (codes "size-of")) ≡ true) × (is_some (matched_of words (codes "size")) ≡ true)
 IsEndFault words fault.Both = (is_some (first_value words (codes "size")) ≡ true) × (is_some (matched_of words (codes "last")) ≡ true)
 IsEndFault words (fault.Size text) = (first_value words (codes "size") ≡ Some text.now) × (is_some (matched_of words (codes "last")) ≡ false) × ((size : ℕ) × IsSize text.now size × ((size ≡ 0) ⊎ (size % 2048 ≢ 0)))
 IsEndFault words (fault.NoSize text) = (first_value words (codes "size") ≡ Some text.now) × (is_some (matched_of words (codes "last")) ≡ false) × ((size : ℕ) → ¬ IsSize text.now size)
@@ -239,17 +245,3 @@ IsLastOfSize size last = (size ≡ 2048 * (last + 1)) ⊎ ((last ≡ 0) × IsNoS
 -- what was given as the last block; or else the block with which a disc of the size that was given ends; or 0 where there is neither
 abbrev pub IsToldLast : Found → ℕ → Type 0
 IsToldLast words last = IsNumber words (codes "last") last ⊎ (IsNoNumber words (codes "last") × (((size : ℕ) × IsGivenSize words size × IsLastOfSize size last) ⊎ (((size : ℕ) → ¬ IsGivenSize words size) × (last ≡ 0))))
-
--- neither was given; there are inputs, and all are images whose mapfiles end with this block
-pub record IsLastOfMaps (found : List ℕ → Option (Option (List ℕ))) (inputs : List InputPath) (words : Found) (last : ℕ) : Type 0 where
-  pub no_last : is_some (matched_of words (codes "last")) ≡ false
-  pub no_size : is_some (matched_of words (codes "size")) ≡ false
-  pub some : inputs ≢ []
-  pub size : ℕ
-  pub whole : (size ≢ 0) × (size % 2048 ≡ 0)
-  pub ends : MapsEndAt found size inputs
-  pub is_last : IsLastOfSize size last
-
--- the last block, as the arguments give it, or else as the mapfiles do
-abbrev pub IsLast : (List ℕ → Option (Option (List ℕ))) → List InputPath → Found → ℕ → Type 0
-IsLast found inputs words last = ((is_some (matched_of words (codes "last")) || is_some (matched_of words (codes "size")) ≡ true) × IsToldLast words last) ⊎ IsLastOfMaps found inputs words last

@@ -29,6 +29,10 @@ last_rule needed = record (option_rule (codes "last") needed) { parser = Some (S
 abbrev pub size_rule : Rule
 size_rule = option_rule (codes "size") false
 
+-- `--size-of MAPFILE`
+abbrev pub size_of_rule : Rule
+size_of_rule = option_rule (codes "size-of") false
+
 -- `--mapfile FILE`
 abbrev pub mapfile_rule : Rule
 mapfile_rule = option_rule (codes "mapfile") false
@@ -65,19 +69,23 @@ with_inputs command pairs = with_rule (with_rule (with_rule (with_rule command (
 abbrev pub merge_app : Bool → App
 merge_app pairs = with_inputs (with_rule (with_rule (with_rule (new_app (codes "merge")) out_rule) (flag_rule (codes "v1"))) (flag_rule (codes "force"))) pairs
 
--- a command of this name with arguments for where the disc ends
+-- arguments for where the disc ends
+abbrev pub with_end : App → Bool → App
+with_end command needed = with_rule (with_rule (with_rule command (last_rule needed)) size_rule) size_of_rule
+
+-- a command of this name with these
 abbrev pub with_last : Text → Bool → App
-with_last name needed = with_rule (with_rule (new_app name) (last_rule needed)) size_rule
+with_last name needed = with_end (new_app name) needed
 
 -- a command of this name with arguments for where the disc ends, and by which rules it is read
 abbrev pub with_profile : Text → Bool → App
 with_profile name size = with_rule (with_last name size) profile_rule
 
--- `report (--last N | --size BYTES) [--profile PROFILE] [--json] [--force] IN...`
+-- `report (--last N | --size BYTES | --size-of MAPFILE) [--profile PROFILE] [--json] [--force] IN...`
 abbrev pub report_app : Given → App
 report_app given = with_inputs (with_rule (with_rule (with_profile (codes "report") given.needs_last) (flag_rule (codes "json"))) (flag_rule (codes "force"))) given.pairs
 
--- `reread (--last N | --size BYTES) [--profile PROFILE] [--mapfile FILE] [--group G] [--no-witnesses] [--force] IN...`
+-- `reread (--last N | --size BYTES | --size-of MAPFILE) [--profile PROFILE] [--mapfile FILE] [--group G] [--no-witnesses] [--force] IN...`
 abbrev pub reread_app : Given → App
 reread_app given = with_inputs (with_rule (with_rule (with_rule (with_rule (with_profile (codes "reread") given.needs_last) mapfile_rule) group_rule) (flag_rule (codes "no-witnesses"))) (flag_rule (codes "force"))) given.pairs
 
@@ -93,7 +101,7 @@ manifest_rule = option_rule (codes "manifest") false
 abbrev pub unnamed_rule : Rule
 unnamed_rule = option_rule (codes "unnamed") false
 
--- `extract (--last N | --size BYTES) [--profile PROFILE] --to DIR [--fill] [--only PATH]... [--manifest FILE] [--unnamed DIR] [--times] [--short-names] [--force] IN...`
+-- `extract (--last N | --size BYTES | --size-of MAPFILE) [--profile PROFILE] --to DIR [--fill] [--only PATH]... [--manifest FILE] [--unnamed DIR] [--times] [--short-names] [--force] IN...`
 abbrev pub extract_app : Given → App
 extract_app given = with_inputs (with_rule (with_rule (with_rule (with_rule (with_rule (with_rule (with_rule (with_rule (with_profile (codes "extract") given.needs_last) (value_rule (codes "to"))) (flag_rule (codes "fill"))) only_rule) manifest_rule) unnamed_rule) (flag_rule (codes "times"))) (flag_rule (codes "short-names"))) (flag_rule (codes "force"))) given.pairs
 
@@ -101,19 +109,19 @@ extract_app given = with_inputs (with_rule (with_rule (with_rule (with_rule (wit
 abbrev pub forget_app : Given → App
 forget_app given = with_inputs (with_rule (with_rule (with_rule (with_rule (new_app (codes "forget")) out_rule) (flag_rule (codes "conflicts"))) (blocks_rule given.conflicts)) (flag_rule (codes "force"))) given.pairs
 
--- `list [--torn] [--null] [--paths] [--force] (--last N | --size BYTES) [--profile PROFILE] IN...`
+-- `list [--torn] [--null] [--paths] [--force] (--last N | --size BYTES | --size-of MAPFILE) [--profile PROFILE] IN...`
 abbrev pub list_app : Given → App
 list_app given = with_inputs (with_rule (with_rule (with_rule (with_rule (with_profile (codes "list") given.needs_last) (flag_rule (codes "torn"))) (flag_rule (codes "null"))) (flag_rule (codes "paths"))) (flag_rule (codes "force"))) given.pairs
 
--- `summary (--last N | --size BYTES) [--profile PROFILE] [--force] IN...`
+-- `summary (--last N | --size BYTES | --size-of MAPFILE) [--profile PROFILE] [--force] IN...`
 abbrev pub summary_app : Given → App
 summary_app given = with_inputs (with_rule (with_profile (codes "summary") given.needs_last) (flag_rule (codes "force"))) given.pairs
 
--- `image --out IMAGE --mapfile MAPFILE [--force] (--last N | --size BYTES) IN...`
+-- `image --out IMAGE --mapfile MAPFILE [--force] (--last N | --size BYTES | --size-of MAPFILE) IN...`
 abbrev pub image_app : Given → App
 image_app given = with_inputs (with_rule (with_rule (with_rule (with_last (codes "image") given.needs_last) out_rule) (value_rule (codes "mapfile"))) (flag_rule (codes "force"))) given.pairs
 
--- `page --out FILE (--last N | --size BYTES) [--profile PROFILE] [--force] IN...`
+-- `page --out FILE (--last N | --size BYTES | --size-of MAPFILE) [--profile PROFILE] [--force] IN...`
 abbrev pub page_app : Given → App
 page_app given = with_inputs (with_rule (with_rule (with_profile (codes "page") given.needs_last) out_rule) (flag_rule (codes "force"))) given.pairs
 

@@ -13,12 +13,12 @@ use Rattle.udfs_words.specs.declared.forms.Version.TheVariants.{One}
 use Rattle.udfs_words.specs.declared.group.GroupSize.TheVariants.{Sixteen}
 use Rattle.udfs_words.specs.declared.request.Inputs.{Inputs}
 use Rattle.udfs_words.specs.declared.request.LastSource.{LastSource}
-use Rattle.udfs_words.specs.declared.request.LastSource.TheVariants.{Block, OfMaps}
+use Rattle.udfs_words.specs.declared.request.LastSource.TheVariants.{Block, OfMap, OfMaps}
 use Rattle.udfs_words.specs.declared.request.VolumeSource.{VolumeSource}
 use Rattle.udfs_words.specs.declared.request.Request.{Request}
 use Rattle.udfs_words.specs.declared.request.Request.TheVariants as request
 
--- the grammar takes the line; it names this command; a last block and a size are not both given, nor a size that is not that of whole blocks, nor rules that there are not, nor standard input twice, nor groups without a size or a mapfile; and each request that it asks for is such a one
+-- the grammar takes the line; it names this command; of a last block, a size and a mapfile that gives it one at most is given, and no size that is not that of whole blocks, nor rules that there are not, nor standard input twice, nor groups without a size or a mapfile; and each request that it asks for is such a one
 pub record IsLine (name : Text) (line : List Text) (Is : Request → Type 0) : Type 0 where
   pub takes : GrammarTakes line
   pub names : Asks line name
@@ -32,6 +32,12 @@ Have inputs files parts = (texts inputs.files.items ≡ files) × (texts inputs.
 -- the volume of these files, up to this last block, by these rules
 abbrev pub Reads : VolumeSource → Text → LastSource → Profile → Type 0
 Reads volume file last profile = Have volume.inputs (file ∷ []) [] × (volume.last ≡ last) × (volume.profile ≡ profile)
+
+-- where this mapfile ends
+abbrev pub IsOfMap : LastSource → Text → Type 0
+IsOfMap (Block n) map = ⊥
+IsOfMap (OfMap path) map = path.now ≡ map
+IsOfMap OfMaps map = ⊥
 
 -- `udfsalvage merge --v1 --out all.tab first.rdg second.rdg`
 abbrev pub merge_line : List Text
@@ -96,13 +102,13 @@ abbrev pub IsSomeSummary : Request → Type 0
 IsSomeSummary (request.Summary r) = Reads r.volume (codes "all.tab") (Block 1000) Wide
 IsSomeSummary _ = ⊥
 
--- `udfsalvage page --last 1000 --out - all.tab`
+-- `udfsalvage page --size-of old.map --out - all.tab`
 abbrev pub page_line : List Text
-page_line = codes "udfsalvage" ∷ codes "page" ∷ codes "--last" ∷ codes "1000" ∷ codes "--out" ∷ codes "-" ∷ codes "all.tab" ∷ []
+page_line = codes "udfsalvage" ∷ codes "page" ∷ codes "--size-of" ∷ codes "old.map" ∷ codes "--out" ∷ codes "-" ∷ codes "all.tab" ∷ []
 
--- onto standard output
+-- up to where the mapfile ends, onto standard output
 abbrev pub IsSomePage : Request → Type 0
-IsSomePage (request.Page r) = Reads r.volume (codes "all.tab") (Block 1000) Strict × (r.out.now ≡ codes "/dev/stdout")
+IsSomePage (request.Page r) = Have r.volume.inputs (codes "all.tab" ∷ []) [] × IsOfMap r.volume.last (codes "old.map") × (r.volume.profile ≡ Strict) × (r.out.now ≡ codes "/dev/stdout")
 IsSomePage _ = ⊥
 
 -- `udfsalvage extract --last 1000 --to files --fill --only /a --only /b --manifest sums --times all.tab`

@@ -18,9 +18,9 @@ abbrev pub is_given : Text → Text → List Text → Bool
 is_given option signed [] = false
 is_given option signed (word ∷ words) = names option signed word || is_given option signed words
 
--- whether images with their mapfiles are given; whether the last block is needed, since neither they nor the size are; whether conflicts are to be forgotten
+-- whether images with their mapfiles are given; whether the last block is needed, since neither they nor the size nor a mapfile that gives it are; whether conflicts are to be forgotten
 abbrev pub given_in : List Text → Given
-given_in words = record { pairs = is_given (codes "--ddrescue") (codes "--ddrescue=") words; needs_last = not (is_given (codes "--size") (codes "--size=") words) && not (is_given (codes "--ddrescue") (codes "--ddrescue=") words); conflicts = is_given (codes "--conflicts") (codes "--conflicts=") words }
+given_in words = record { pairs = is_given (codes "--ddrescue") (codes "--ddrescue=") words; needs_last = not (is_given (codes "--size") (codes "--size=") words) && not (is_given (codes "--size-of") (codes "--size-of=") words) && not (is_given (codes "--ddrescue") (codes "--ddrescue=") words); conflicts = is_given (codes "--conflicts") (codes "--conflicts=") words }
 
 -- the grammar takes the arguments, of which the first is the program's name
 abbrev pub GrammarTakes : List Text → Type 0

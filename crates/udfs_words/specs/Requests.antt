@@ -11,7 +11,7 @@
 --     Reads name words request         the same, and no fault is in them that clap does not see
 --     IsUsageFault name words fault    why the arguments of the command of this name are no request
 --     Asked line request               the command line asks for this
-use Rattle.std.specs.Prelude.{◌≡◌, ◌⊎◌, ◌||◌, ◌++◌, ℕ, true, false, List, Option, [], codes, is_some, map, option_map, unwrap_or, if◌then◌else◌}
+use Rattle.std.specs.Prelude.{◌≡◌, ◌⊎◌, ◌||◌, ◌++◌, ℕ, true, false, List, Option, Some, None, [], codes, is_some, map, option_map, unwrap_or, if◌then◌else◌}
 use Rattle.std.specs.Str.{bytes_eq}
 use Rattle.std.specs.Borrow.{Bor}
 use Rattle.clap.specs.Matches.{first_value, matched_of}
@@ -23,7 +23,7 @@ use Rattle.udfs_words.specs.declared.forms.Form.TheVariants.{Json, Text}
 use Rattle.udfs_words.specs.declared.forms.Version.TheVariants.{One, Two}
 use Rattle.udfs_words.specs.declared.request.Inputs.{Inputs}
 use Rattle.udfs_words.specs.declared.request.LastSource.{LastSource}
-use Rattle.udfs_words.specs.declared.request.LastSource.TheVariants.{Block, OfMaps}
+use Rattle.udfs_words.specs.declared.request.LastSource.TheVariants.{Block, OfMap, OfMaps}
 use Rattle.udfs_words.specs.declared.request.VolumeSource.{VolumeSource}
 use Rattle.udfs_words.specs.declared.request.MergeRequest.{MergeRequest}
 use Rattle.udfs_words.specs.declared.request.ForgetRequest.{ForgetRequest}
@@ -65,10 +65,15 @@ pub record AreInputs (given pairs : List (List ℕ)) (inputs : Inputs) : Type 0 
 
 -- ---- the volume
 
--- with the last block that was given, or with that of the size; or neither was given
+-- neither a last block nor a size was given
+abbrev pub HasNoNumber : Found → Type 0
+HasNoNumber words = (is_some (matched_of words (codes "last")) ≡ false) × (is_some (matched_of words (codes "size")) ≡ false)
+
+-- with the last block that was given, or with that of the size; or neither was given, and then where the mapfile ends that was given, or else where those of the inputs do
 abbrev pub IsLastSource : Found → LastSource → Type 0
 IsLastSource words (Block last) = ((is_some (matched_of words (codes "last")) || is_some (matched_of words (codes "size"))) ≡ true) × IsToldLast words last
-IsLastSource words OfMaps = (is_some (matched_of words (codes "last")) ≡ false) × (is_some (matched_of words (codes "size")) ≡ false)
+IsLastSource words (OfMap path) = HasNoNumber words × (optional_text words (codes "size-of") ≡ Some path.now)
+IsLastSource words OfMaps = HasNoNumber words × (optional_text words (codes "size-of") ≡ None)
 
 -- what was read of the disc, where it ends, the rules, and whether what is of another disc is to be joined
 pub record IsVolumeSource (given : List (List ℕ)) (words : Found) (volume : VolumeSource) : Type 0 where
@@ -153,7 +158,7 @@ IsRequest name words (request.Summary r) = (name ≡ codes "summary") × IsSumma
 IsRequest name words (request.Page r) = (name ≡ codes "page") × IsPage words r
 IsRequest name words (request.Extract r) = (name ≡ codes "extract") × IsExtract words r
 
--- a last block and a size are not both given, nor a size that is not that of whole blocks; rules that are named are known; groups have a size, and a mapfile; standard input is taken once
+-- of a last block, a size and a mapfile that gives it one at most is given, and no size that is not that of whole blocks; rules that are named are known; groups have a size, and a mapfile; standard input is taken once
 pub record Reads (name : List ℕ) (words : Found) (request : Request) : Type 0 where
   pub is : IsRequest name words request
   pub one_end : IsOneEnd words

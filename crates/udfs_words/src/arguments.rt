@@ -2,11 +2,11 @@
 
 ghost use Rattle.std.specs.Prelude.{◌≡◌, false, codes};
 ghost use Rattle.clap.specs.Words.{rule_of};
-ghost use Rattle.udfs_words.specs.Grammar.{blocks_rule, flag_rule, group_rule, inputs_rule, last_rule, letter_rule, manifest_rule, mapfile_rule, only_rule, option_rule, out_rule, pairs_rule, profile_rule, size_rule, unnamed_rule, value_rule};
+ghost use Rattle.udfs_words.specs.Grammar.{blocks_rule, flag_rule, group_rule, inputs_rule, last_rule, letter_rule, manifest_rule, mapfile_rule, only_rule, option_rule, out_rule, pairs_rule, profile_rule, size_of_rule, size_rule, unnamed_rule, value_rule};
 
 use crate::words::{
     BLOCKS, FORCE, GROUP, INPUTS, LAST, MANIFEST, MAPFILE, ONLY, OUT, PAIRS, PROFILE, QUIET, SIZE,
-    TO, UNNAMED, VERBOSE,
+    SIZE_OF, TO, UNNAMED, VERBOSE,
 };
 use clap::{Arg, ArgAction, value_parser};
 use std::alloc::Global;
@@ -260,6 +260,19 @@ pub fn disc_size<'a>(alloc: Global) -> Arg<'a>
         SIZE,
         "BYTES",
         "The size of the disc, in place of --last: bytes, or with s after it blocks of 2048 bytes, with k, M or G powers of 1000, with Ki, Mi or Gi powers of 1024",
+        false,
+    )
+}
+
+/// The mapfile that ends where the disc does.
+pub fn size_of<'a>(alloc: Global) -> Arg<'a>
+    ensures { (rule_of result ≡ size_of_rule) × (result.global ≡ false) }
+{
+    option(
+        alloc,
+        SIZE_OF,
+        "MAPFILE",
+        "The GNU ddrescue mapfile of a pass, which ends where the disc does, in place of --last",
         false,
     )
 }

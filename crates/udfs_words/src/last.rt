@@ -2,10 +2,10 @@
 
 ghost use Rattle.std.specs.Prelude.{◌≡◌, ◌≢◌, ◌↔◌, ◌%◌, ℕ, IsTrue, MatchOption};
 ghost use Rattle.clap.specs.Matches.{found_of};
-ghost use Rattle.udfs_words.specs.Asking.{IsEndFault, IsGivenSize, IsLastOfSize, IsOneEnd, IsToldLast};
+ghost use Rattle.udfs_words.specs.Asking.{IsEndFault, IsGivenSize, IsGoodSize, IsLastOfSize, IsOneEnd, IsToldLast};
 
 use crate::sizes::size_in;
-use crate::words::{LAST, SIZE};
+use crate::words::{LAST, SIZE, SIZE_OF};
 use clap::ArgMatches;
 use std::fmt;
 
@@ -14,6 +14,10 @@ use std::fmt;
 pub enum EndFault<'a> {
     /// Both the last block and the size are given.
     Both,
+    /// Both the last block and a mapfile that gives the size are given.
+    LastAndMap,
+    /// Both the size and a mapfile that gives it are given.
+    SizeAndMap,
     /// The size, as it was given, is 0 or no multiple of 2048.
     Size(&'a str),
     /// What was given as the size is none.
@@ -26,6 +30,12 @@ impl<'a> fmt::Display for EndFault<'a> {
         match self {
             EndFault::Both => f.write_str(
                 "the argument '--last <N>' cannot be used with '--size <BYTES>'",
+            ),
+            EndFault::LastAndMap => f.write_str(
+                "the argument '--last <N>' cannot be used with '--size-of <MAPFILE>'",
+            ),
+            EndFault::SizeAndMap => f.write_str(
+                "the argument '--size <BYTES>' cannot be used with '--size-of <MAPFILE>'",
             ),
             EndFault::Size(size) => write!(
                 f,
@@ -46,9 +56,9 @@ pub fn is_whole(size: u64) -> bool
     size != 0 && size % 2048 == 0
 }
 
-/// What is wrong with the arguments that say where the disc ends.
-pub fn end_fault<'a>(words: &ArgMatches<'a>) -> Option<EndFault<'a>>
-    ensures { MatchOption result (IsOneEnd (found_of words.now)) (IsEndFault (found_of words.now)) }
+/// What is wrong with the size among the arguments, or with a last block beside it.
+fn size_fault<'a>(words: &ArgMatches<'a>) -> Option<EndFault<'a>>
+    ensures { MatchOption result (IsGoodSize (found_of words.now)) (IsEndFault (found_of words.now)) }
 {
     let Some(size) = words.get_str(SIZE) else {
         return None;
@@ -61,6 +71,19 @@ pub fn end_fault<'a>(words: &ArgMatches<'a>) -> Option<EndFault<'a>>
         Some(_) => Some(EndFault::Size(size)),
         None => Some(EndFault::NoSize(size)),
     }
+}
+
+/// What is wrong with the arguments that say where the disc ends.
+pub fn end_fault<'a>(words: &ArgMatches<'a>) -> Option<EndFault<'a>>
+    ensures { MatchOption result (IsOneEnd (found_of words.now)) (IsEndFault (found_of words.now)) }
+{
+    if words.contains_id(SIZE_OF) && words.contains_id(LAST) {
+        return Some(EndFault::LastAndMap);
+    }
+    if words.contains_id(SIZE_OF) && words.contains_id(SIZE) {
+        return Some(EndFault::SizeAndMap);
+    }
+    size_fault(words)
 }
 
 /// The number of the last block of a disc of `size` bytes. It is 0, for which there is no report, where `size` is not a multiple of 2048 above 0, or the

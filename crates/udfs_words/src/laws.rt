@@ -39,7 +39,7 @@ pub fn some_line_of_summary()
     ensures { IsLine (codes "summary") summary_line IsSomeSummary }
 {}
 
-/// A page is to be written onto standard output.
+/// A page of a disc that ends where a mapfile does is to be written onto standard output.
 pub fn some_line_of_page()
     ensures { IsLine (codes "page") page_line IsSomePage }
 {}

@@ -19,7 +19,7 @@ use crate::request::{
 use crate::streams::are_two_streams;
 use crate::words::{
     BLOCKS, FILL, INPUTS, LAST, MANIFEST, MAPFILE, NULL, ONLY, PAIRS, PATHS, SHORT_NAMES, SIZE,
-    TIMES, TORN, UNNAMED,
+    SIZE_OF, TIMES, TORN, UNNAMED,
 };
 use clap::ArgMatches;
 use std::alloc::{AllocError, Global};
@@ -102,13 +102,16 @@ fn read_streamed<'a>(alloc: Global, words: &ArgMatches<'a>) -> Result<Inputs<'a>
 }
 
 /// Where the disc ends.
-fn read_last(words: &ArgMatches<'_>) -> LastSource
+fn read_last<'a>(words: &ArgMatches<'a>) -> LastSource<'a>
     ensures { IsLastSource (found_of words.now) result }
 {
     if words.contains_id(LAST) || words.contains_id(SIZE) {
         return LastSource::Block(asked_last(words));
     }
-    LastSource::OfMaps
+    match read_optional(words, SIZE_OF) {
+        Some(path) => LastSource::OfMap(path),
+        None => LastSource::OfMaps,
+    }
 }
 
 /// The path that was given as this, if one was.
@@ -318,7 +321,7 @@ fn read_command<'a>(
 ///
 /// # Errors
 ///
-/// The first of these faults that is in them: both the last block and the size are given, or a size that is that of no disc of whole blocks (`End`); rules are
+/// The first of these faults that is in them: two of the last block, the size and a mapfile that gives it are given, or a size that is that of no disc of whole blocks (`End`); rules are
 /// named that there are not (`Profile`); `--group` has no size of a group, or there is no `--mapfile` (`Group`); standard input is to be read twice (`TwoStreams`). `NoCommand` where no command has this name, and `OutOfMemory` if
 /// memory runs out.
 pub fn read<'a>(

@@ -19,9 +19,11 @@ pub struct Inputs<'a> {
 
 /// Where a disc ends.
 #[derive(Clone, Copy, Debug, PartialEq, Eq)]
-pub enum LastSource {
+pub enum LastSource<'a> {
     /// With the block of this number.
     Block(u32),
+    /// Where the mapfile at this path ends.
+    OfMap(&'a str),
     /// Where the mapfiles of all inputs end.
     OfMaps,
 }
@@ -32,7 +34,7 @@ pub struct VolumeSource<'a> {
     /// What was read of its disc.
     pub inputs: Inputs<'a>,
     /// Where the disc ends.
-    pub last: LastSource,
+    pub last: LastSource<'a>,
     /// The rules by which the volume is read.
     pub profile: Profile,
     /// Images that are of another disc by their blocks are to be joined all the same.
@@ -70,7 +72,7 @@ pub struct ForgetRequest<'a> {
 pub struct ImageRequest<'a> {
     pub inputs: Inputs<'a>,
     /// Where the disc ends.
-    pub last: LastSource,
+    pub last: LastSource<'a>,
     /// The path of the image.
     pub image: &'a str,
     /// The path of the mapfile.

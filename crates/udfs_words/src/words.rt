@@ -4,11 +4,12 @@ ghost use Rattle.std.specs.Prelude.{◌≡◌, IfOk, codes, map};
 ghost use Rattle.std.specs.String.{string_bytes};
 ghost use Rattle.udfs_words.specs.Obeying.{given_in, is_given, names};
 ghost use Rattle.clap.specs.Words.{app_of, new_app};
-ghost use Rattle.udfs_words.specs.Grammar.{extract_app, forget_app, image_app, list_app, merge_app, page_app, program, program_app, report_app, reread_app, summary_app, with_inputs};
+ghost use Rattle.udfs_words.specs.Grammar.{extract_app, forget_app, image_app, list_app, merge_app, page_app, program, program_app, report_app, reread_app, summary_app, with_end, with_inputs};
 
 use crate::arguments::{
     blocks, disc_size, domain, flag, folder, force, group, image_file, image_map, inputs, joining,
-    last, lost_folder, manifest, only, page_file, pair_inputs, profile, quiet, table_file, verbose,
+    last, lost_folder, manifest, only, page_file, pair_inputs, profile, quiet, size_of, table_file,
+    verbose,
 };
 use clap::Command;
 use std::alloc::{AllocError, Global};
@@ -30,6 +31,9 @@ pub const LAST: &str = "last";
 
 /// The id of the disc's size among the matches.
 pub const SIZE: &str = "size";
+
+/// The id of the mapfile that ends where the disc does among the matches.
+pub const SIZE_OF: &str = "size-of";
 
 /// The id of the rules by which the volume is read among the matches.
 pub const PROFILE: &str = "profile";
@@ -96,7 +100,7 @@ pub const QUIET: &str = "quiet";
 pub struct Given {
     /// Images with their mapfiles are given: then no other input is needed.
     pub pairs: bool,
-    /// Neither the size of the disc nor images, whose mapfiles may give it, are given: then the last block is needed.
+    /// Neither the size of the disc nor a mapfile that gives it is given, nor images, whose mapfiles may give it: then the last block is needed.
     pub needs_last: bool,
     /// Conflicts are to be forgotten: then no list of blocks is needed.
     pub conflicts: bool,
@@ -132,6 +136,7 @@ pub fn given_in(words: &[String]) -> Given
     Given {
         pairs: is_given("--ddrescue", b"--ddrescue=", words),
         needs_last: !is_given("--size", b"--size=", words)
+            && !is_given("--size-of", b"--size-of=", words)
             && !is_given("--ddrescue", b"--ddrescue=", words),
         conflicts: is_given("--conflicts", b"--conflicts=", words),
     }
@@ -175,30 +180,32 @@ fn merge<'a>(alloc: Global, pairs: bool) -> Result<Command<'a>, AllocError>
     with_inputs(alloc, command, pairs)
 }
 
-/// `report (--last N | --size BYTES) [--profile PROFILE] [--json] [--force] IN...`
+/// `report (--last N | --size BYTES | --size-of MAPFILE) [--profile PROFILE] [--json] [--force] IN...`
 fn report<'a>(alloc: Global, given: Given) -> Result<Command<'a>, AllocError>
     ensures { IfOk result (λ command. app_of command ≡ report_app given) }
 {
-    let command = Command::new(alloc, "report")
+    let bare = Command::new(alloc, "report")
         .about("Prints what is known of the volume, file by file, and which blocks to read again")
-        .override_usage("udfsalvage report [OPTIONS] [--last <N> | --size <BYTES>] <IN>...")
-        .arg(last(alloc, given.needs_last))?
-        .arg(disc_size(alloc))?
+        .override_usage(
+            "udfsalvage report [OPTIONS] [--last <N> | --size <BYTES> | --size-of <MAPFILE>] <IN>...",
+        );
+    let command = with_end(alloc, bare, given.needs_last)?
         .arg(profile(alloc))?
         .arg(flag(alloc, JSON, "Print it as JSON"))?
         .arg(joining(alloc))?;
     with_inputs(alloc, command, given.pairs)
 }
 
-/// `reread (--last N | --size BYTES) [--profile PROFILE] [--mapfile FILE] [--group G] [--no-witnesses] [--force] IN...`
+/// `reread (--last N | --size BYTES | --size-of MAPFILE) [--profile PROFILE] [--mapfile FILE] [--group G] [--no-witnesses] [--force] IN...`
 fn reread<'a>(alloc: Global, given: Given) -> Result<Command<'a>, AllocError>
     ensures { IfOk result (λ command. app_of command ≡ reread_app given) }
 {
-    let command = Command::new(alloc, "reread")
+    let bare = Command::new(alloc, "reread")
         .about("Prints the numbers of the blocks to read again")
-        .override_usage("udfsalvage reread [OPTIONS] [--last <N> | --size <BYTES>] <IN>...")
-        .arg(last(alloc, given.needs_last))?
-        .arg(disc_size(alloc))?
+        .override_usage(
+            "udfsalvage reread [OPTIONS] [--last <N> | --size <BYTES> | --size-of <MAPFILE>] <IN>...",
+        );
+    let command = with_end(alloc, bare, given.needs_last)?
         .arg(profile(alloc))?
         .arg(domain(alloc))?
         .arg(group(alloc))?
@@ -218,17 +225,16 @@ fn bare_extract<'a>(alloc: Global) -> Command<'a>
     Command::new(alloc, "extract")
         .about("Writes the files that are whole into a new folder")
         .override_usage(
-            "udfsalvage extract [OPTIONS] [--last <N> | --size <BYTES>] --to <DIR> <IN>...",
+            "udfsalvage extract [OPTIONS] [--last <N> | --size <BYTES> | --size-of <MAPFILE>] --to <DIR> <IN>...",
         )
 }
 
-/// `extract (--last N | --size BYTES) [--profile PROFILE] --to DIR [--fill] [--only PATH]... [--manifest FILE] [--unnamed DIR] [--times] [--short-names] [--force] IN...`
+/// `extract (--last N | --size BYTES | --size-of MAPFILE) [--profile PROFILE] --to DIR [--fill] [--only PATH]... [--manifest FILE] [--unnamed DIR] [--times] [--short-names] [--force] IN...`
 fn extract<'a>(alloc: Global, given: Given) -> Result<Command<'a>, AllocError>
     ensures { IfOk result (λ command. app_of command ≡ extract_app given) }
 {
-    let command = bare_extract(alloc)
-        .arg(last(alloc, given.needs_last))?
-        .arg(disc_size(alloc))?
+    let bare = bare_extract(alloc);
+    let command = with_end(alloc, bare, given.needs_last)?
         .arg(profile(alloc))?
         .arg(folder(alloc))?
         .arg(flag(
@@ -277,16 +283,17 @@ fn bare_list<'a>(alloc: Global) -> Command<'a>
         .about(
             "Prints a line for each file and folder: standing, kind, bytes lost, size, time and path",
         )
-        .override_usage("udfsalvage list [OPTIONS] [--last <N> | --size <BYTES>] <IN>...")
+        .override_usage(
+            "udfsalvage list [OPTIONS] [--last <N> | --size <BYTES> | --size-of <MAPFILE>] <IN>...",
+        )
 }
 
-/// `list [--torn] [--null] [--paths] [--force] (--last N | --size BYTES) [--profile PROFILE] IN...`
+/// `list [--torn] [--null] [--paths] [--force] (--last N | --size BYTES | --size-of MAPFILE) [--profile PROFILE] IN...`
 fn list<'a>(alloc: Global, given: Given) -> Result<Command<'a>, AllocError>
     ensures { IfOk result (λ command. app_of command ≡ list_app given) }
 {
-    let command = bare_list(alloc)
-        .arg(last(alloc, given.needs_last))?
-        .arg(disc_size(alloc))?
+    let bare = bare_list(alloc);
+    let command = with_end(alloc, bare, given.needs_last)?
         .arg(profile(alloc))?
         .arg(flag(alloc, TORN, "Leave out what is whole"))?
         .arg(flag(alloc, NULL, "End lines with a zero byte"))?
@@ -295,17 +302,16 @@ fn list<'a>(alloc: Global, given: Given) -> Result<Command<'a>, AllocError>
     with_inputs(alloc, command, given.pairs)
 }
 
-/// `image --out IMAGE --mapfile MAPFILE [--force] (--last N | --size BYTES) IN...`
+/// `image --out IMAGE --mapfile MAPFILE [--force] (--last N | --size BYTES | --size-of MAPFILE) IN...`
 fn image<'a>(alloc: Global, given: Given) -> Result<Command<'a>, AllocError>
     ensures { IfOk result (λ command. app_of command ≡ image_app given) }
 {
-    let command = Command::new(alloc, "image")
+    let bare = Command::new(alloc, "image")
         .about("Writes what is known of the disc as an image, with its mapfile")
         .override_usage(
-            "udfsalvage image [OPTIONS] [--last <N> | --size <BYTES>] --out <IMAGE> --mapfile <MAPFILE> <IN>...",
-        )
-        .arg(last(alloc, given.needs_last))?
-        .arg(disc_size(alloc))?
+            "udfsalvage image [OPTIONS] [--last <N> | --size <BYTES> | --size-of <MAPFILE>] --out <IMAGE> --mapfile <MAPFILE> <IN>...",
+        );
+    let command = with_end(alloc, bare, given.needs_last)?
         .arg(image_file(alloc))?
         .arg(image_map(alloc))?
         .arg(flag(
@@ -314,6 +320,20 @@ fn image<'a>(alloc: Global, given: Given) -> Result<Command<'a>, AllocError>
             "Write over an image or a mapfile that is not one of the inputs, and join an image of another disc",
         ))?;
     with_inputs(alloc, command, given.pairs)
+}
+
+/// What each command takes that looks at a disc: where it ends.
+fn with_end<'a>(
+    alloc: Global,
+    command: Command<'a>,
+    needed: bool,
+) -> Result<Command<'a>, AllocError>
+    ensures { IfOk result (λ whole. app_of whole ≡ with_end (app_of command.entry) needed) }
+{
+    command
+        .arg(last(alloc, needed))?
+        .arg(disc_size(alloc))?
+        .arg(size_of(alloc))
 }
 
 /// What every command takes: its inputs, and how much it says.
@@ -331,31 +351,31 @@ fn with_inputs<'a>(
         .arg(inputs(alloc, pairs))
 }
 
-/// `summary (--last N | --size BYTES) [--profile PROFILE] [--force] IN...`
+/// `summary (--last N | --size BYTES | --size-of MAPFILE) [--profile PROFILE] [--force] IN...`
 fn summary<'a>(alloc: Global, given: Given) -> Result<Command<'a>, AllocError>
     ensures { IfOk result (λ command. app_of command ≡ summary_app given) }
 {
-    let command = Command::new(alloc, "summary")
+    let bare = Command::new(alloc, "summary")
         .about("Prints what a person wants to know of the volume, on one screen")
-        .override_usage("udfsalvage summary [OPTIONS] [--last <N> | --size <BYTES>] <IN>...")
-        .arg(last(alloc, given.needs_last))?
-        .arg(disc_size(alloc))?
+        .override_usage(
+            "udfsalvage summary [OPTIONS] [--last <N> | --size <BYTES> | --size-of <MAPFILE>] <IN>...",
+        );
+    let command = with_end(alloc, bare, given.needs_last)?
         .arg(profile(alloc))?
         .arg(joining(alloc))?;
     with_inputs(alloc, command, given.pairs)
 }
 
-/// `page --out FILE (--last N | --size BYTES) [--profile PROFILE] [--force] IN...`
+/// `page --out FILE (--last N | --size BYTES | --size-of MAPFILE) [--profile PROFILE] [--force] IN...`
 fn page<'a>(alloc: Global, given: Given) -> Result<Command<'a>, AllocError>
     ensures { IfOk result (λ command. app_of command ≡ page_app given) }
 {
-    let command = Command::new(alloc, "page")
+    let bare = Command::new(alloc, "page")
         .about("Writes what is known of the volume as a page for a browser, to print or to keep")
         .override_usage(
-            "udfsalvage page [OPTIONS] [--last <N> | --size <BYTES>] --out <FILE> <IN>...",
-        )
-        .arg(last(alloc, given.needs_last))?
-        .arg(disc_size(alloc))?
+            "udfsalvage page [OPTIONS] [--last <N> | --size <BYTES> | --size-of <MAPFILE>] --out <FILE> <IN>...",
+        );
+    let command = with_end(alloc, bare, given.needs_last)?
         .arg(profile(alloc))?
         .arg(page_file(alloc))?
         .arg(joining(alloc))?;

@@ -20,11 +20,11 @@ unfolding clap_on_literals
 named = refl
 
 -- all that is read of the line
-abbrev read : Text → List Row → Text × Option (List Text) × Option (List Text) × Option Text × Option Text × Option (List Text) × Option Text × Option (List Text) × Option Text × Option (List Text) × Option Text × Option Text × Option Text × Option Text × Option (List Text) × Option (List Text) × Option Text
-read name rows = (name, all_of (codes "input") rows, all_of (codes "ddrescue") rows, first_of (codes "size") rows, first_of (codes "profile") rows, all_of (codes "blocks") rows, one_of (codes "last") rows, all_of (codes "last") rows, first_of (codes "to") rows, all_of (codes "only") rows, one_of (codes "fill") rows, one_of (codes "short-names") rows, one_of (codes "times") rows, first_of (codes "manifest") rows, all_of (codes "manifest") rows, all_of (codes "unnamed") rows, first_of (codes "group") rows)
+abbrev read : Text → List Row → Text × Option (List Text) × Option (List Text) × Option Text × Option Text × Option (List Text) × Option Text × Option (List Text) × Option Text × Option (List Text) × Option Text × Option Text × Option Text × Option Text × Option (List Text) × Option (List Text) × Option Text × Option (List Text)
+read name rows = (name, all_of (codes "input") rows, all_of (codes "ddrescue") rows, first_of (codes "size") rows, first_of (codes "profile") rows, all_of (codes "blocks") rows, one_of (codes "last") rows, all_of (codes "last") rows, first_of (codes "to") rows, all_of (codes "only") rows, one_of (codes "fill") rows, one_of (codes "short-names") rows, one_of (codes "times") rows, first_of (codes "manifest") rows, all_of (codes "manifest") rows, all_of (codes "unnamed") rows, first_of (codes "group") rows, all_of (codes "size-of") rows)
 
-abbrev said : Text × Option (List Text) × Option (List Text) × Option Text × Option Text × Option (List Text) × Option Text × Option (List Text) × Option Text × Option (List Text) × Option Text × Option Text × Option Text × Option Text × Option (List Text) × Option (List Text) × Option Text
-said = (codes "extract", Some (codes "all.tab" ∷ []), None, None, None, None, Some (codes "1000"), Some (codes "1000" ∷ []), Some (codes "files"), Some (codes "/a" ∷ codes "/b" ∷ []), Some (codes "true"), Some (codes "false"), Some (codes "true"), Some (codes "sums"), Some (codes "sums" ∷ []), None, None)
+abbrev said : Text × Option (List Text) × Option (List Text) × Option Text × Option Text × Option (List Text) × Option Text × Option (List Text) × Option Text × Option (List Text) × Option Text × Option Text × Option Text × Option Text × Option (List Text) × Option (List Text) × Option Text × Option (List Text)
+said = (codes "extract", Some (codes "all.tab" ∷ []), None, None, None, None, Some (codes "1000"), Some (codes "1000" ∷ []), Some (codes "files"), Some (codes "/a" ∷ codes "/b" ∷ []), Some (codes "true"), Some (codes "false"), Some (codes "true"), Some (codes "sums"), Some (codes "sums" ∷ []), None, None, None)
 
 says : (name : Text) (words : Found) → IsAsked extract_line name words → read name (rows_of words) ≡ said
 unfolding clap_on_literals
@@ -52,7 +52,7 @@ returns c = record {
   takes = taken;
   names = named;
   lawful = λ words asked. let e = says (codes "extract") words asked in (
-    no_size words (first_is words (codes "size") _ (ap (λ t. t.3) e)),
+    no_size words (first_is words (codes "size") _ (ap (λ t. t.3) e)) (given_is words (codes "size-of") _ _ (ap (λ t. t.17) e) refl),
     no_profile words (first_is words (codes "profile") _ (ap (λ t. t.4) e)),
     one_stream (codes "extract") words _ _ (all_are words (codes "input") _ _ _ (ap (λ t. t.1) e) refl) (all_are words (codes "blocks") _ _ _ (ap (λ t. t.5) e) refl) refl,
     no_group words (first_is words (codes "group") _ (ap (λ t. t.16) e)),

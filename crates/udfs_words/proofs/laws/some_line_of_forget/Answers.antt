@@ -21,11 +21,11 @@ unfolding clap_on_literals
 named = refl
 
 -- all that is read of the line
-abbrev read : Text → List Row → Text × Option (List Text) × Option (List Text) × Option Text × Option Text × Option (List Text) × Option Text × Option Text × Option Text × Option Text
-read name rows = (name, all_of (codes "input") rows, all_of (codes "ddrescue") rows, first_of (codes "size") rows, first_of (codes "profile") rows, all_of (codes "blocks") rows, one_of (codes "conflicts") rows, first_of (codes "out") rows, one_of (codes "force") rows, first_of (codes "group") rows)
+abbrev read : Text → List Row → Text × Option (List Text) × Option (List Text) × Option Text × Option Text × Option (List Text) × Option Text × Option Text × Option Text × Option Text × Option (List Text)
+read name rows = (name, all_of (codes "input") rows, all_of (codes "ddrescue") rows, first_of (codes "size") rows, first_of (codes "profile") rows, all_of (codes "blocks") rows, one_of (codes "conflicts") rows, first_of (codes "out") rows, one_of (codes "force") rows, first_of (codes "group") rows, all_of (codes "size-of") rows)
 
-abbrev said : Text × Option (List Text) × Option (List Text) × Option Text × Option Text × Option (List Text) × Option Text × Option Text × Option Text × Option Text
-said = (codes "forget", Some (codes "all.tab" ∷ []), None, None, None, Some (codes "-" ∷ []), Some (codes "true"), Some (codes "left.tab"), Some (codes "true"), None)
+abbrev said : Text × Option (List Text) × Option (List Text) × Option Text × Option Text × Option (List Text) × Option Text × Option Text × Option Text × Option Text × Option (List Text)
+said = (codes "forget", Some (codes "all.tab" ∷ []), None, None, None, Some (codes "-" ∷ []), Some (codes "true"), Some (codes "left.tab"), Some (codes "true"), None, None)
 
 says : (name : Text) (words : Found) → IsAsked forget_line name words → read name (rows_of words) ≡ said
 unfolding clap_on_literals
@@ -46,7 +46,7 @@ returns c = record {
   takes = taken;
   names = named;
   lawful = λ words asked. let e = says (codes "forget") words asked in (
-    no_size words (first_is words (codes "size") _ (ap (λ t. t.3) e)),
+    no_size words (first_is words (codes "size") _ (ap (λ t. t.3) e)) (given_is words (codes "size-of") _ _ (ap (λ t. t.10) e) refl),
     no_profile words (first_is words (codes "profile") _ (ap (λ t. t.4) e)),
     one_stream (codes "forget") words _ _ (all_are words (codes "input") _ _ _ (ap (λ t. t.1) e) refl) (all_are words (codes "blocks") _ _ _ (ap (λ t. t.5) e) refl) refl,
     no_group words (first_is words (codes "group") _ (ap (λ t. t.9) e)),

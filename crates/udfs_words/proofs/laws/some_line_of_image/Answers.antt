@@ -9,7 +9,7 @@ use Rattle.udfs_words.specs.Requests.{IsRequest}
 use Rattle.udfs_words.specs.Lines.{IsSomeImage, image_line}
 use Rattle.udfs_words.specs.declared.request.Request.{Request}
 use Rattle.udfs_words.specs.declared.request.Request.TheVariants as request
-use Rattle.udfs_words.proofs.LineLemmas.{all_are, differ, first_is, given_is, no_group, no_profile, no_size, of_maps, one_is, one_stream, rows_say}
+use Rattle.udfs_words.proofs.LineLemmas.{all_are, differ, first_is, given_is, no_group, no_profile, no_size, of_maps, one_is, one_stream, optional_none, rows_say}
 use Rattle.udfs_words.proofs.laws.some_line_of_image.Goals as goal
 
 taken : GrammarTakes image_line
@@ -21,11 +21,11 @@ unfolding clap_on_literals
 named = refl
 
 -- all that is read of the line
-abbrev read : Text → List Row → Text × Option (List Text) × Option (List Text) × Option Text × Option Text × Option (List Text) × Option Text × Option Text × Option Text × Option (List Text) × Option (List Text) × Option Text
-read name rows = (name, all_of (codes "input") rows, all_of (codes "ddrescue") rows, first_of (codes "size") rows, first_of (codes "profile") rows, all_of (codes "blocks") rows, first_of (codes "out") rows, first_of (codes "mapfile") rows, one_of (codes "force") rows, all_of (codes "last") rows, all_of (codes "size") rows, first_of (codes "group") rows)
+abbrev read : Text → List Row → Text × Option (List Text) × Option (List Text) × Option Text × Option Text × Option (List Text) × Option Text × Option Text × Option Text × Option (List Text) × Option (List Text) × Option Text × Option (List Text)
+read name rows = (name, all_of (codes "input") rows, all_of (codes "ddrescue") rows, first_of (codes "size") rows, first_of (codes "profile") rows, all_of (codes "blocks") rows, first_of (codes "out") rows, first_of (codes "mapfile") rows, one_of (codes "force") rows, all_of (codes "last") rows, all_of (codes "size") rows, first_of (codes "group") rows, all_of (codes "size-of") rows)
 
-abbrev said : Text × Option (List Text) × Option (List Text) × Option Text × Option Text × Option (List Text) × Option Text × Option Text × Option Text × Option (List Text) × Option (List Text) × Option Text
-said = (codes "image", Some (codes "all.tab" ∷ []), Some (codes "old.img" ∷ codes "old.map" ∷ []), None, None, None, Some (codes "disc.img"), Some (codes "disc.map"), Some (codes "false"), None, None, None)
+abbrev said : Text × Option (List Text) × Option (List Text) × Option Text × Option Text × Option (List Text) × Option Text × Option Text × Option Text × Option (List Text) × Option (List Text) × Option Text × Option (List Text)
+said = (codes "image", Some (codes "all.tab" ∷ []), Some (codes "old.img" ∷ codes "old.map" ∷ []), None, None, None, Some (codes "disc.img"), Some (codes "disc.map"), Some (codes "false"), None, None, None, None)
 
 says : (name : Text) (words : Found) → IsAsked image_line name words → read name (rows_of words) ≡ said
 unfolding clap_on_literals
@@ -34,7 +34,7 @@ says name words asked = rows_say read image_line name words said asked refl
 by : (name : Text) (words : Found) (r : Request) → read name (rows_of words) ≡ said → IsRequest name words r → IsSomeImage r
 by name words (request.Image r) e is = (
   (is.1.inputs.files ∙ ap (map stream_path) (all_are words (codes "input") _ _ _ (ap (λ t. t.1) e) refl), is.1.inputs.parts ∙ (all_are words (codes "ddrescue") _ _ _ (ap (λ t. t.2) e) refl)),
-  of_maps words _ is.1.last (given_is words (codes "last") _ _ (ap (λ t. t.9) e) refl) (given_is words (codes "size") _ _ (ap (λ t. t.10) e) refl),
+  of_maps words _ is.1.last (given_is words (codes "last") _ _ (ap (λ t. t.9) e) refl) (given_is words (codes "size") _ _ (ap (λ t. t.10) e) refl) (optional_none words _ (given_is words (codes "size-of") _ _ (ap (λ t. t.12) e) refl)),
   is.1.image ∙ ap (λ (o : Option Text). unwrap_or o []) (first_is words (codes "out") _ (ap (λ t. t.6) e)),
   is.1.mapfile ∙ ap (λ (o : Option Text). unwrap_or o []) (first_is words (codes "mapfile") _ (ap (λ t. t.7) e)),
   is.1.force.without_flag (one_is words (codes "force") _ (ap (λ t. t.8) e)),
@@ -46,7 +46,7 @@ returns c = record {
   takes = taken;
   names = named;
   lawful = λ words asked. let e = says (codes "image") words asked in (
-    no_size words (first_is words (codes "size") _ (ap (λ t. t.3) e)),
+    no_size words (first_is words (codes "size") _ (ap (λ t. t.3) e)) (given_is words (codes "size-of") _ _ (ap (λ t. t.12) e) refl),
     no_profile words (first_is words (codes "profile") _ (ap (λ t. t.4) e)),
     one_stream (codes "image") words _ _ (all_are words (codes "input") _ _ _ (ap (λ t. t.1) e) refl) (all_are words (codes "blocks") _ _ _ (ap (λ t. t.5) e) refl) refl,
     no_group words (first_is words (codes "group") _ (ap (λ t. t.11) e)),

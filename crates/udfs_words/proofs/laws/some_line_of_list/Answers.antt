@@ -21,11 +21,11 @@ unfolding clap_on_literals
 named = refl
 
 -- all that is read of the line
-abbrev read : Text → List Row → Text × Option (List Text) × Option (List Text) × Option Text × Option Text × Option (List Text) × Option Text × Option (List Text) × Option (List Text) × Option Text × Option Text × Option Text × Option Text
-read name rows = (name, all_of (codes "input") rows, all_of (codes "ddrescue") rows, first_of (codes "size") rows, first_of (codes "profile") rows, all_of (codes "blocks") rows, one_of (codes "last") rows, all_of (codes "last") rows, all_of (codes "size") rows, one_of (codes "torn") rows, one_of (codes "null") rows, one_of (codes "paths") rows, first_of (codes "group") rows)
+abbrev read : Text → List Row → Text × Option (List Text) × Option (List Text) × Option Text × Option Text × Option (List Text) × Option Text × Option (List Text) × Option (List Text) × Option Text × Option Text × Option Text × Option Text × Option (List Text)
+read name rows = (name, all_of (codes "input") rows, all_of (codes "ddrescue") rows, first_of (codes "size") rows, first_of (codes "profile") rows, all_of (codes "blocks") rows, one_of (codes "last") rows, all_of (codes "last") rows, all_of (codes "size") rows, one_of (codes "torn") rows, one_of (codes "null") rows, one_of (codes "paths") rows, first_of (codes "group") rows, all_of (codes "size-of") rows)
 
-abbrev said : Text × Option (List Text) × Option (List Text) × Option Text × Option Text × Option (List Text) × Option Text × Option (List Text) × Option (List Text) × Option Text × Option Text × Option Text × Option Text
-said = (codes "list", Some (codes "-" ∷ []), None, Some (codes "1001s"), None, None, None, None, Some (codes "1001s" ∷ []), Some (codes "true"), Some (codes "false"), Some (codes "true"), None)
+abbrev said : Text × Option (List Text) × Option (List Text) × Option Text × Option Text × Option (List Text) × Option Text × Option (List Text) × Option (List Text) × Option Text × Option Text × Option Text × Option Text × Option (List Text)
+said = (codes "list", Some (codes "-" ∷ []), None, Some (codes "1001s"), None, None, None, None, Some (codes "1001s" ∷ []), Some (codes "true"), Some (codes "false"), Some (codes "true"), None, None)
 
 says : (name : Text) (words : Found) → IsAsked list_line name words → read name (rows_of words) ≡ said
 unfolding clap_on_literals
@@ -49,7 +49,7 @@ returns c = record {
   takes = taken;
   names = named;
   lawful = λ words asked. let e = says (codes "list") words asked in (
-    one_size words _ 1000 (first_is words (codes "size") _ (ap (λ t. t.3) e)) thousand_and_one (given_is words (codes "last") _ _ (ap (λ t. t.7) e) refl),
+    one_size words _ 1000 (first_is words (codes "size") _ (ap (λ t. t.3) e)) thousand_and_one (given_is words (codes "last") _ _ (ap (λ t. t.7) e) refl) (given_is words (codes "size-of") _ _ (ap (λ t. t.13) e) refl),
     no_profile words (first_is words (codes "profile") _ (ap (λ t. t.4) e)),
     one_stream (codes "list") words _ _ (all_are words (codes "input") _ _ _ (ap (λ t. t.1) e) refl) (all_are words (codes "blocks") _ _ _ (ap (λ t. t.5) e) refl) refl,
     no_group words (first_is words (codes "group") _ (ap (λ t. t.12) e)),

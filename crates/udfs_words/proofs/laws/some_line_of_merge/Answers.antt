@@ -20,11 +20,11 @@ unfolding clap_on_literals
 named = refl
 
 -- all that is read of the line
-abbrev read : Text → List Row → Text × Option (List Text) × Option (List Text) × Option Text × Option Text × Option Text × Option Text × Option Text × Option (List Text) × Option Text
-read name rows = (name, all_of (codes "input") rows, all_of (codes "ddrescue") rows, one_of (codes "v1") rows, first_of (codes "out") rows, one_of (codes "force") rows, first_of (codes "size") rows, first_of (codes "profile") rows, all_of (codes "blocks") rows, first_of (codes "group") rows)
+abbrev read : Text → List Row → Text × Option (List Text) × Option (List Text) × Option Text × Option Text × Option Text × Option Text × Option Text × Option (List Text) × Option Text × Option (List Text)
+read name rows = (name, all_of (codes "input") rows, all_of (codes "ddrescue") rows, one_of (codes "v1") rows, first_of (codes "out") rows, one_of (codes "force") rows, first_of (codes "size") rows, first_of (codes "profile") rows, all_of (codes "blocks") rows, first_of (codes "group") rows, all_of (codes "size-of") rows)
 
-abbrev said : Text × Option (List Text) × Option (List Text) × Option Text × Option Text × Option Text × Option Text × Option Text × Option (List Text) × Option Text
-said = (codes "merge", Some (codes "first.rdg" ∷ codes "second.rdg" ∷ []), None, Some (codes "true"), Some (codes "all.tab"), Some (codes "false"), None, None, None, None)
+abbrev said : Text × Option (List Text) × Option (List Text) × Option Text × Option Text × Option Text × Option Text × Option Text × Option (List Text) × Option Text × Option (List Text)
+said = (codes "merge", Some (codes "first.rdg" ∷ codes "second.rdg" ∷ []), None, Some (codes "true"), Some (codes "all.tab"), Some (codes "false"), None, None, None, None, None)
 
 says : (name : Text) (words : Found) → IsAsked merge_line name words → read name (rows_of words) ≡ said
 unfolding clap_on_literals
@@ -44,7 +44,7 @@ returns c = record {
   takes = taken;
   names = named;
   lawful = λ words asked. let e = says (codes "merge") words asked in (
-    no_size words (first_is words (codes "size") _ (ap (λ t. t.6) e)),
+    no_size words (first_is words (codes "size") _ (ap (λ t. t.6) e)) (given_is words (codes "size-of") _ _ (ap (λ t. t.10) e) refl),
     no_profile words (first_is words (codes "profile") _ (ap (λ t. t.7) e)),
     one_stream (codes "merge") words _ _ (all_are words (codes "input") _ _ _ (ap (λ t. t.1) e) refl) (all_are words (codes "blocks") _ _ _ (ap (λ t. t.8) e) refl) refl,
     no_group words (first_is words (codes "group") _ (ap (λ t. t.9) e)),
