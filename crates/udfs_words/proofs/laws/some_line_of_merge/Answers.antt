@@ -8,7 +8,7 @@ use Rattle.udfs_words.specs.Requests.{IsRequest}
 use Rattle.udfs_words.specs.Lines.{IsSomeMerge, merge_line}
 use Rattle.udfs_words.specs.declared.request.Request.{Request}
 use Rattle.udfs_words.specs.declared.request.Request.TheVariants as request
-use Rattle.udfs_words.proofs.LineLemmas.{all_are, differ, first_is, no_group, no_profile, no_size, one_is, one_stream, rows_say}
+use Rattle.udfs_words.proofs.LineLemmas.{all_are, differ, first_is, given_is, no_group, no_profile, no_size, one_is, one_stream, rows_say}
 use Rattle.udfs_words.proofs.laws.some_line_of_merge.Goals as goal
 
 taken : GrammarTakes merge_line

@@ -6,7 +6,7 @@ use Rattle.udfs_words.proofs.words.image.Goals as goal
 
 pub returns : goal.returns
 returns c =
-    let start : app_of c.override_usage.result ≡ new_app (codes "image") = search rules in
+    let start : app_of c.override_usage-bare.result ≡ new_app (codes "image") = search rules in
     let one = c.in_ok-with_end.ensures ∙ ap₂ with_end start refl in
     let two = c.in_ok-arg.ensures.shape c.image_file.ensures.1 ∙ ap₂ with_rule one c.image_file.ensures.0 in
     let three = c.in_ok-arg-2.ensures.shape c.image_map.ensures.1 ∙ ap₂ with_rule two c.image_map.ensures.0 in

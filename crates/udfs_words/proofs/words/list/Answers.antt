@@ -6,7 +6,7 @@ use Rattle.udfs_words.proofs.words.list.Goals as goal
 
 pub returns : goal.returns
 returns c =
-    let one = c.in_ok-with_end.ensures ∙ ap₂ with_end c.bare_list.ensures refl in
+    let one = c.in_ok-with_end.ensures ∙ ap₂ with_end c.bare_list-bare.ensures refl in
     let two = c.in_ok-arg.ensures.shape c.profile.ensures.1 ∙ ap₂ with_rule one c.profile.ensures.0 in
     let three = c.in_ok-arg-2.ensures.shape c.flag.ensures.1 ∙ ap₂ with_rule two c.flag.ensures.0 in
     let four = c.in_ok-arg-3.ensures.shape c.flag-2.ensures.1 ∙ ap₂ with_rule three c.flag-2.ensures.0 in
