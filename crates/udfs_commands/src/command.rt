@@ -2,7 +2,7 @@
 
 ghost use Rattle.std.specs.Prelude.{◌≡◌, ◌≢◌, ◌⊎◌, [], Bool, IfOk, OnErr, cond, map};
 ghost use Rattle.std.specs.String.{string_bytes};
-ghost use Rattle.clap.specs.Words.{fault_of};
+ghost use Rattle.clap.specs.Words.{fault_of, kind_of};
 ghost use Rattle.udfs_words.specs.Grammar.{program_app};
 ghost use Rattle.udfs_words.specs.Obeying.{GrammarTakes, given_in};
 ghost use Rattle.udfs_words.specs.Requests.{Asked};
@@ -11,8 +11,9 @@ ghost use Rattle.udfs_commands.specs.Doing.{Does, Leaves, MayFail};
 
 use crate::performing::perform;
 use crate::printing::send;
-use crate::refusing::{ask_for_last, explain, refuse, show, tell, tell_profile};
-use clap::ArgMatches;
+use crate::refusing::{ask_for_last, explain, explain_last, refuse, show, tell, tell_profile};
+use clap::error::ErrorKind;
+use clap::{ArgMatches, Error};
 use std::alloc::{AllocError, Global};
 use udfs_common::files::Files;
 use udfs_common::known::Known;
@@ -28,7 +29,7 @@ const TWO_STREAMS: &[u8] =
 
 /// Runs the command that the arguments ask for, the program's name first, and returns its exit status: 0 where it is done and nothing is lacking, 1 where it is
 /// done and something is lacking, as where a volume is not whole, 2 where it fails. A failure is a line on `err`, with at most one more that explains it, and a
-/// fault of the arguments is clap's text there. Help and the version go to `out`.
+/// fault of the arguments is clap's text there, with one line more where the last block alone is missing. Help and the version go to `out`.
 pub fn run<F: Files, O: Sink, E: Sink>(
     alloc: Global,
     words: &[String],
@@ -53,7 +54,7 @@ pub fn run<F: Files, O: Sink, E: Sink>(
     };
     let matches = match command.try_get_matches_from(words) {
         Ok(matches) => matches,
-        Err(error) => return show(alloc, &error, out, err),
+        Err(error) => return show_error(alloc, &error, words, files, out, err),
     };
     let (name, found) = match matches.subcommand() {
         Some(found) => found,
@@ -67,6 +68,27 @@ pub fn run<F: Files, O: Sink, E: Sink>(
     set_tone(found, files);
     let outcome = perform(alloc, &request, files, out);
     finish(alloc, outcome, &request, found, words, files, err)
+}
+
+/// Prints clap's text, and beneath it where to find the last block where that alone is missing. It returns the exit status: 0, or 2 for a fault, where memory runs
+/// out, or where `out` does not take the text.
+fn show_error<F: Files, O: Sink, E: Sink>(
+    alloc: Global,
+    error: &Error,
+    line: &[String],
+    files: &F,
+    out: &mut O,
+    err: &mut E,
+) -> u8
+    ensures status { (result ≡ 0) ⊎ (result ≡ 2) }
+    ensures silent { result ≡ 0 → err.new ≡ err.old }
+    ensures memory { kind_of error.now ≡ ErrorKind.OutOfMemory → result ≡ 2 }
+{
+    let status = show(alloc, error, out, err);
+    if status == 2 {
+        explain_last(alloc, line, files, err);
+    }
+    status
 }
 
 /// Says why arguments that clap takes are no request, and returns the exit status, 2.
@@ -116,7 +138,11 @@ fn finish<F: Files, E: Sink>(
     match outcome {
         Ok(true) => 0,
         Ok(false) => 1,
-        Err(Refusal::NoLast) => ask_for_last(alloc, line, err),
+        Err(Refusal::NoLast) => {
+            let status = ask_for_last(alloc, line, err);
+            explain(alloc, &Refusal::NoLast, request, words, files, err);
+            status
+        }
         Err(refusal) => {
             let status = refuse(alloc, &refusal, err);
             explain(alloc, &refusal, request, words, files, err);

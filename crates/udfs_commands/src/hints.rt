@@ -21,6 +21,10 @@ const TOO_MANY_OPEN: i32 = 24;
 /// The system's error code of a read at a position of a pipe.
 const NO_POSITIONS: i32 = 29;
 
+/// What is said where the last block was not given: where to find it.
+pub const WHERE_THE_SIZE_IS: &str =
+    "blockdev --getsize64 /dev/sr0 prints the size for --size, or --size-of p1.map takes it from a mapfile";
+
 /// The bytes of a header, of a reading and of a table file: its name, the size of a block, and how many records follow.
 const HEADER: usize = 16;
 
@@ -308,7 +312,7 @@ fn inputs_of<'r, 'a>(request: &'r Request<'a>) -> &'r Inputs<'a> {
 }
 
 /// Where the disc ends, for a command that asks for it.
-fn last_of(request: &Request<'_>) -> Option<LastSource> {
+fn last_of<'a>(request: &Request<'a>) -> Option<LastSource<'a>> {
     match request {
         Request::Merge(_) | Request::Forget(_) => None,
         Request::Image(image) => Some(image.last),
@@ -452,6 +456,10 @@ fn of_past_end(
         Some(LastSource::Block(last)) => {
             Ok(Some(format!(in alloc; "block {block} is known, so the last block is not {last}")?))
         }
+        Some(LastSource::OfMap(path)) => Ok(Some(format!(in alloc;
+            "block {block} is known, so the disc does not end where {} does",
+            Shown(path)
+        )?)),
         Some(LastSource::OfMaps) => {
             Ok(Some(format!(in alloc;
                 "block {block} is known, so the disc does not end where the mapfiles do"
@@ -459,6 +467,39 @@ fn of_past_end(
         }
         None => Ok(None),
     }
+}
+
+/// What is said of a last block that no disc has.
+fn of_range(alloc: Global, request: &Request<'_>) -> Result<String, AllocError> {
+    match last_of(request) {
+        Some(LastSource::OfMap(path)) => format!(in alloc;
+            "{} does not end where a disc of 514 to 4194304 blocks of 2048 bytes does",
+            Shown(path)
+        ),
+        _ => format!(in alloc;
+            "the last block is from 513 to 4194303: the disc's size in bytes / 2048 - 1, or give --size"
+        ),
+    }
+}
+
+/// What is said of a mapfile that is to give the size of the disc, and was not read.
+fn of_size_map(
+    alloc: Global,
+    refusal: &Refusal,
+    request: &Request<'_>,
+    reason: Option<Error>,
+) -> Result<Option<String>, AllocError> {
+    let Some(LastSource::OfMap(path)) = last_of(request) else {
+        return Ok(None);
+    };
+    let line = match refusal {
+        Refusal::MapLine(_) => format!(in alloc;
+            "{}: --size-of wants the mapfile of a pass, as ddrescue writes it",
+            Shown(path)
+        )?,
+        _ => format!(in alloc; "{}: {}", Shown(path), Said(reason))?,
+    };
+    Ok(Some(line))
 }
 
 /// What is said of an error that names no input, if anything.
@@ -481,10 +522,10 @@ fn of_other<F: Files>(
                 "a list of --blocks has one decimal number a line, from 0 to 4194303"
             )?
         }
-        (Refusal::LastRange, _) => {
-            format!(in alloc;
-                "the last block is from 513 to 4194303: the disc's size in bytes / 2048 - 1, or give --size"
-            )?
+        (Refusal::LastRange, _) => of_range(alloc, request)?,
+        (Refusal::NoLast, _) => format!(in alloc; "{WHERE_THE_SIZE_IS}")?,
+        (Refusal::MapOpen | Refusal::MapLine(_) | Refusal::MapRead, _) => {
+            return of_size_map(alloc, refusal, request, reason);
         }
         (Refusal::Memory(_), _) => {
             format!(in alloc;

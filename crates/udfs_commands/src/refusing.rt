@@ -4,7 +4,7 @@ ghost use Rattle.std.specs.Prelude.{◌≡◌, ◌⊎◌, Some, true, codes};
 ghost use Rattle.clap.specs.Matches.{found_of, one_text};
 ghost use Rattle.clap.specs.Words.{kind_of};
 
-use crate::hints::second_line;
+use crate::hints::{WHERE_THE_SIZE_IS, second_line};
 use crate::printing::send;
 use clap::error::ErrorKind;
 use clap::{ArgMatches, Error};
@@ -29,6 +29,13 @@ const NOTHING_TO_FORGET: &str = "\n  <--conflicts|--blocks <LIST>>\n";
 const NOT_TEXT: &[u8] =
     b"error: invalid UTF-8 was detected in one or more arguments\n\nFor more information, try '--help'.\n";
 
+/// Whether a second line is printed: standard error is watched by a person or `--verbose` is given, and `--quiet` is not.
+fn is_explained<F: Files>(words: &ArgMatches<'_>, files: &F) -> bool
+    ensures { one_text (found_of words.now) (codes "quiet") ≡ Some (codes "true") → result ≡ false }
+{
+    !words.get_flag(QUIET) && (files.is_watched() || words.get_flag(VERBOSE))
+}
+
 /// Prints a second line beneath that of an error of what was asked for, where standard error is watched by a person or `--verbose` is given, and `--quiet` is not.
 /// It prints nothing where there is no more to say, or memory runs out.
 pub fn explain<F: Files, E: Sink>(
@@ -41,13 +48,34 @@ pub fn explain<F: Files, E: Sink>(
 )
     ensures quiet { one_text (found_of words.now) (codes "quiet") ≡ Some (codes "true") → err.new ≡ err.old }
 {
-    if words.get_flag(QUIET) || !(files.is_watched() || words.get_flag(VERBOSE)) {
+    if !is_explained(words, files) {
         return;
     }
     if let Ok(Some(more)) = second_line(alloc, refusal, request, files)
         && let Ok(line) = format!(in alloc; "  {more}\n")
     {
         let _ = send(line.as_bytes(), err);
+    }
+}
+
+/// Prints where to find the last block, beneath clap's text, where nothing but it is missing among the arguments, and where [`explain`] would print a line.
+pub fn explain_last<F: Files, E: Sink>(alloc: Global, line: &[String], files: &F, err: &mut E) {
+    let mut given = given_in(line);
+    if !given.needs_last {
+        return;
+    }
+    given.needs_last = false;
+    let Ok(command) = grammar(alloc, given) else {
+        return;
+    };
+    let Ok(matches) = command.try_get_matches_from(line) else {
+        return;
+    };
+    if let Some((_, words)) = matches.subcommand()
+        && is_explained(words, files)
+        && let Ok(text) = format!(in alloc; "  {WHERE_THE_SIZE_IS}\n")
+    {
+        let _ = send(text.as_bytes(), err);
     }
 }
 

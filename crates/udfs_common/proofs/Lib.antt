@@ -3,6 +3,6 @@ pub mod KeepingLemmas
 pub mod PlacingLemmas
 pub mod JobLemmas
 pub mod PutsLemmas
-pub mod OldClauses
 pub mod TakingLemmas
 pub mod VolumeLemmas
+pub mod EndLemmas

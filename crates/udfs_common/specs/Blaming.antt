@@ -5,10 +5,7 @@
 --     BlamesSource                      one of these sources could not be read, and what is said of it
 --     BlamesInput                       the same of the sources of some paths
 --     InputsRefused                     the inputs of some paths were not joined: memory ran out, or one of them is shut, or could not be read, or is of another disc
---     EndRefused                        no last block is known: the arguments give none, and it has to be given, or the inputs are to blame
-use Rattle.std.specs.Prelude.{◌≡◌, ◌⊎◌, ⊤, ℕ, ◌+◌, ◌-◌, List, [], ◌∷◌, Option, Some, None, IfSome, length, slice_get, alloc_error, nat_eq, if◌then◌else◌, false, is_some, codes}
-use Rattle.clap.specs.Matches.{matched_of}
-use Rattle.clap.specs.declared.parser.matches.Found.{Found}
+use Rattle.std.specs.Prelude.{◌≡◌, ◌⊎◌, ⊤, ℕ, ◌+◌, ◌-◌, List, [], ◌∷◌, Option, Some, None, IfSome, length, slice_get, alloc_error, nat_eq, if◌then◌else◌}
 use Rattle.udfs_reading.specs.Several.{InputFails}
 use Rattle.udfs_reading.specs.declared.inputs.InputError.{InputError}
 use Rattle.udfs_rescue.specs.Opening.{PairFails}
@@ -19,7 +16,7 @@ use Rattle.udfs_common.specs.Keeping.{Opens}
 use Rattle.udfs_common.specs.OtherDiscs.{IsOtherDisc}
 use Rattle.udfs_common.specs.Refusing.{refusal_for, refusal_of}
 use Rattle.udfs_common.specs.declared.refusal.Refusal.{Refusal}
-use Rattle.udfs_common.specs.declared.refusal.Refusal.TheVariants.{Memory, NoLast, Open}
+use Rattle.udfs_common.specs.declared.refusal.Refusal.TheVariants.{Memory, Open}
 use Rattle.udfs_common.specs.declared.sources.AnySource.{AnySource}
 use Rattle.udfs_common.specs.declared.sources.AnySource.TheVariants.{File, Paired, Refused}
 use Rattle.udfs_words.specs.declared.input_path.InputPath.{InputPath}
@@ -103,11 +100,3 @@ pub record BlamesInput {R I : Type 0} (found : List ℕ → Option (Option (List
 -- why the inputs of these paths were not joined
 pub record InputsRefused {R I : Type 0} (found : List ℕ → Option (Option (List ℕ))) (shut : List ℕ → Type 0) (remaining : AnySource R I → Option (List ℕ)) (faults : AnySource R I → ℕ) (paths : List InputPath) (refusal : Refusal) : Type 0 where
   pub why : (refusal ≡ Memory alloc_error) ⊎ IsShut shut paths refusal ⊎ BlamesInput found remaining faults paths refusal ⊎ IsOtherDisc found remaining paths refusal
-
--- neither a last block nor the size of a disc was given
-abbrev pub HasNoEnd : Found → Type 0
-HasNoEnd words = (is_some (matched_of words (codes "last")) ≡ false) × (is_some (matched_of words (codes "size")) ≡ false)
-
--- why no last block is known
-abbrev pub EndRefused : {R I : Type 0} → (List ℕ → Option (Option (List ℕ))) → (List ℕ → Type 0) → (AnySource R I → Option (List ℕ)) → (AnySource R I → ℕ) → List InputPath → Found → Refusal → Type 0
-EndRefused found shut remaining faults paths words refusal = HasNoEnd words × ((refusal ≡ NoLast) ⊎ InputsRefused found shut remaining faults paths refusal)

@@ -1,29 +1,25 @@
-//! Where a disc ends: by the arguments, or by the mapfiles of all inputs.
+//! Where a disc ends: by the arguments, by a mapfile, or by the mapfiles of all inputs.
 
 ghost use Rattle.std.specs.Prelude.{◌≡◌, ◌≢◌, ◌⊎◌, ◌%◌, true, [], IfOk, IfErr, IfSome};
-ghost use Rattle.clap.specs.Matches.{found_of};
-ghost use Rattle.udfs_common.specs.Blaming.{EndRefused, InputsRefused};
-ghost use Rattle.udfs_common.specs.Ends.{HasNoLast, IsEnd};
+ghost use Rattle.udfs_common.specs.Blaming.{InputsRefused};
+ghost use Rattle.udfs_common.specs.Ends.{HasEnd, HasNoLast, IsEnd, IsMapRefused};
 ghost use Rattle.udfs_common.specs.Reach.{found_at};
 ghost use Rattle.udfs_common.specs.Refusing.{NamesNoOther};
 ghost use Rattle.udfs_common.specs.declared.sources.AnySource.{AnySource};
-ghost use Rattle.udfs_words.specs.Asking.{EndsAt, EndsMap, IsLast, MapsEndAt};
+ghost use Rattle.udfs_words.specs.Asking.{EndsAt, EndsMap, MapsEndAt};
 
 use crate::files::Files;
 use crate::inputs::joined;
 use crate::known::Known;
 use crate::refusal::Refusal;
 use crate::sources::AnySource;
-use clap::ArgMatches;
 use std::alloc::{AllocError, Global};
 use udfs_files::Kind;
 use udfs_reading::Source;
 use udfs_rescue::{MapError, Mapfile};
-use udfs_words::asking::asked_force;
 use udfs_words::input_path::InputPath;
-use udfs_words::last::{asked_last, is_whole, last_of_size};
+use udfs_words::last::{is_whole, last_of_size};
 use udfs_words::request::LastSource;
-use udfs_words::words::{LAST, SIZE};
 
 /// Where the runs of a mapfile end, in bytes; nothing where it is no file, or none that is a mapfile with a run. A pipe is not read: it can be read but once.
 fn end_of_map<F: Files>(alloc: Global, path: &str, files: &F) -> Result<Option<u64>, AllocError>
@@ -117,15 +113,33 @@ fn no_end<F: Files>(alloc: Global, inputs: &[InputPath<'_>], force: bool, files:
     Refusal::NoLast
 }
 
-/// The last block of a disc: the one that was given, or else the one with which the mapfiles of all inputs end.
+/// Where the runs of the mapfile at a path end, in bytes.
+fn map_end<F: Files>(alloc: Global, path: &str, files: &F) -> Result<u64, Refusal>
+    ensures ends { IfOk result (HasEnd (found_at ⟦<F as Known>⟧.reach files.now path.now)) }
+    ensures why { IfErr result (IsMapRefused ⟦<F as Known>⟧.reach files.now path.now) }
+{
+    let Ok(mut file) = files.open(path) else {
+        return Err(Refusal::MapOpen);
+    };
+    match Mapfile::read(alloc, &mut file) {
+        // What is read as a mapfile has a run.
+        Ok(map) => Ok(map.end().unwrap_or(0)),
+        Err(MapError::Line(fault)) => Err(Refusal::MapLine(fault)),
+        Err(MapError::Io) => Err(Refusal::MapRead),
+        Err(MapError::OutOfMemory) => Err(Refusal::Memory(AllocError)),
+    }
+}
+
+/// The last block of a disc: the one that was given, or else the one with which a mapfile ends, or the mapfiles of all inputs do. It is 0, for which there is
+/// no report, where the one mapfile ends where no disc of whole blocks does.
 ///
 /// # Errors
 ///
-/// `NoLast` where none was given, and the inputs are not all images whose mapfiles end at one and the same multiple of 2048 bytes; what is wrong with the images
-/// comes first. `Memory` where memory ran out.
+/// Of a mapfile that is to give the size: `MapOpen`, `MapRead`, or `MapLine` with its first fault. `NoLast` where nothing is given, and the inputs are not all
+/// images whose mapfiles end at one and the same multiple of 2048 bytes; what is wrong with the images comes first. `Memory` where memory ran out.
 pub fn last_block<F: Files>(
     alloc: Global,
-    source: LastSource,
+    source: LastSource<'_>,
     inputs: &[InputPath<'_>],
     force: bool,
     files: &F,
@@ -137,37 +151,14 @@ pub fn last_block<F: Files>(
 {
     match source {
         LastSource::Block(last) => Ok(last),
+        LastSource::OfMap(path) => match map_end(alloc, path, files) {
+            Ok(end) => Ok(last_of_size(end)),
+            Err(refusal) => Err(refusal),
+        },
         LastSource::OfMaps => match size_by_maps(alloc, inputs, files) {
             Ok(Some(end)) => Ok(last_of_size(end)),
             Ok(None) => Err(no_end(alloc, inputs, force, files)),
             Err(AllocError) => Err(Refusal::Memory(AllocError)),
         },
-    }
-}
-
-/// The last block: the one among the arguments, or that of the size among them, or else the one with which the mapfiles of all inputs end.
-///
-/// # Errors
-///
-/// `NoLast` where neither is among the arguments, and the inputs are not all images whose mapfiles end at one and the same multiple of 2048 bytes; what is
-/// wrong with the images comes first. `Memory` where memory ran out.
-pub fn asked_end<F: Files>(
-    alloc: Global,
-    words: &ArgMatches<'_>,
-    inputs: &[InputPath<'_>],
-    files: &F,
-) -> Result<u32, Refusal>
-    ensures last { IfOk result (λ last. IsLast (λ path. F.holds files.now (F.real files.now path)) inputs.now (found_of words.now) last) }
-    ensures told { IfErr result (λ refusal. (refusal ≢ Refusal.Output) × (refusal ≢ Refusal.Unkept) × (refusal ≢ Refusal.Spared)) }
-    // Only where the arguments give no end of the disc: the last block has to be given, or the inputs are to blame, or memory ran out.
-    ensures blamed { IfErr result (EndRefused (λ path. F.holds files.now (F.real files.now path)) (F.shut files.now) (⟦<AnySource<F::Input, F::Image> as Source>⟧.remaining) (⟦<AnySource<F::Input, F::Image> as Source>⟧.faults) inputs.now (found_of words.now)) }
-{
-    if words.contains_id(LAST) || words.contains_id(SIZE) {
-        return Ok(asked_last(words));
-    }
-    match size_by_maps(alloc, inputs, files) {
-        Ok(Some(size)) => Ok(last_of_size(size)),
-        Ok(None) => Err(no_end(alloc, inputs, asked_force(words), files)),
-        Err(AllocError) => Err(Refusal::Memory(AllocError)),
     }
 }

@@ -53,6 +53,18 @@ pub enum Refusal {
     #[error("the last block was not given")]
     NoLast,
 
+    /// The mapfile that is to give the size of the disc cannot be opened.
+    #[error("cannot open mapfile")]
+    MapOpen,
+
+    /// That mapfile is malformed.
+    #[error("{0}")]
+    MapLine(LineFault),
+
+    /// The device of that mapfile failed.
+    #[error("cannot read mapfile")]
+    MapRead,
+
     /// A list of blocks cannot be opened.
     #[error("cannot open list")]
     ListOpen,

@@ -1,7 +1,7 @@
 -- The first bytes of a page.
 use Rattle.std.proofs.Common.{◌≡◌, ◌∙◌, refl, ap, ℕ, List, ◌++◌, append_assoc}
 use Rattle.std.specs.Prelude.{codes}
-use Rattle.udfs_lattice.specs.Tables.{Table}
+use Rattle.udfs_lattice.specs.Tables.{Table, state_of}
 use Rattle.udfs_volume.specs.declared.profiles.Profile.{Profile}
 use Rattle.udfs_salvage.specs.Reports.{Report}
 use Rattle.udfs_page.specs.Heads.{before_title, head_back, page_mark}
@@ -23,7 +23,7 @@ unfolding page_html
 begins_marked rules table last report = (
   _,
   and_more _ (markup page_mark) _ (markup (codes "</body>\n</html>\n"))
-      (and_more _ (markup page_mark) _ (files_html report.volume report)
+      (and_more _ (markup page_mark) _ (files_html (state_of table) report.volume report)
       (and_more _ (markup page_mark) _ (disc_html rules table last report)
       (and_more _ (markup page_mark) _ head_back (and_more (markup page_mark ++ markup before_title) (markup page_mark) (markup before_title) (title_html report.volume) refl)))),
 )

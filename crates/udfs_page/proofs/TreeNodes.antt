@@ -7,7 +7,7 @@ use Rattle.udfs_space.specs.Places.{View}
 use Rattle.udfs_walk.specs.Bare.{full_node}
 use Rattle.udfs_walk.specs.NodeFields.{NodeFields}
 use Rattle.udfs_overview.specs.SafeNames.{safe_name}
-use Rattle.udfs_page.specs.Trees.{first_depth, node_html, nodes_html, own_name, with_next}
+use Rattle.udfs_page.specs.Trees.{first_depth, node_in, nodes_html, own_name, with_next}
 
 -- each node is there with the depth of the next
 with_next_length : (ns : List NodeFields) → length (with_next ns) ≡ length ns
@@ -35,7 +35,7 @@ full_at v (m ∷ ms) (suc i) n h e = full_at v ms i n (omega (arith, h)) e
 
 -- the nodes so far
 abbrev pub nodes_so_far : View → List NodeFields → ℕ → List ℕ
-nodes_so_far v ns i = flat_map (λ (p : NodeFields × ℕ). node_html p.0 p.1) (take i (with_next (map (full_node v) ns)))
+nodes_so_far v ns i = flat_map (node_in v) (take i (with_next (map (full_node v) ns)))
 
 -- there is one at each place of a node
 pub next_within : (v : View) (ns : List NodeFields) (i : ℕ) → i < length ns → i < length (with_next (map (full_node v) ns))
@@ -54,12 +54,12 @@ node_at v ns i n next h is depth =
     ap (λ k. (full_node v n, k)) deep ∙ with_next_at fulls i (full_node v n) (full_node v n, next) within (full_at v ns i n h is)
 
 -- all nodes
-pub all_nodes : (v : View) (ns : List NodeFields) → nodes_so_far v ns (length ns) ≡ nodes_html (map (full_node v) ns)
+pub all_nodes : (v : View) (ns : List NodeFields) → nodes_so_far v ns (length ns) ≡ nodes_html v (map (full_node v) ns)
 unfolding nodes_html
 all_nodes v ns =
     let fulls = map (full_node v) ns in
     let size : length (with_next fulls) ≡ length ns = with_next_length fulls ∙ length-map ns (full_node v) in
-    ap (λ ps. flat_map (λ (p : NodeFields × ℕ). node_html p.0 p.1) ps) (ap (λ k. take k (with_next fulls)) (sym size) ∙ take-length (with_next fulls))
+    ap (flat_map (node_in v)) (ap (λ k. take k (with_next fulls)) (sym size) ∙ take-length (with_next fulls))
 
 -- the last name of a path is its own
 pub own_last : (path : List (List ℕ)) (name : List ℕ) → slice_get path (length path - 1) ≡ Some name → own_name path ≡ safe_name name

@@ -1,8 +1,10 @@
 -- The page of a report.
 --     page_html rules table last report     all of it
 use Rattle.std.specs.Prelude.{ℕ, ◌+◌, List, [], ◌++◌, codes, take}
-use Rattle.udfs_lattice.specs.Tables.{Table}
+use Rattle.udfs_lattice.specs.Tables.{Table, state_of}
+use Rattle.udfs_lattice.specs.Volumes.{Blocks}
 use Rattle.udfs_volume.specs.Answers.{Answer, found, holes, faulty}
+use Rattle.udfs_space.specs.Places.{View, view}
 use Rattle.udfs_walk.specs.NodeFields.{NodeFields}
 use Rattle.udfs_salvage.specs.Found.{Found}
 use Rattle.udfs_salvage.specs.Reports.{Report}
@@ -24,14 +26,14 @@ abbrev pub torn_of : List NodeFields → List ℕ
 torn_of nodes = torn_html (tally_of nodes).torn_files (take shown_rows (by_loss (torn_rows nodes)))
 
 -- what the page says of nodes
-abbrev pub nodes_of : List NodeFields → List ℕ
-nodes_of nodes = torn_of nodes ++ tree_html nodes
+abbrev pub nodes_of : View → List NodeFields → List ℕ
+nodes_of view nodes = torn_of nodes ++ tree_html view nodes
 
 -- what the page says of the nodes of a volume, if that opens
-abbrev pub files_html : Answer Found → Report → List ℕ
-files_html (found f) r = nodes_of r.nodes
-files_html (holes blocks) r = []
-files_html (faulty f) r = []
+abbrev pub files_html : Blocks → Answer Found → Report → List ℕ
+files_html blocks (found f) r = nodes_of (view blocks f.space) r.nodes
+files_html blocks (holes unread) r = []
+files_html blocks (faulty f) r = []
 
 -- what the page says of the disc: what it is, what is known of it, and what to do next
 abbrev pub disc_html : Profile → Table → ℕ → Report → List ℕ
@@ -40,4 +42,4 @@ disc_html rules table last r =
 
 -- all of it, of a report by the rules of a profile
 unfoldable pub page_html : Profile → Table → ℕ → Report → List ℕ
-page_html rules table last r = head_text (title_html r.volume) ++ disc_html rules table last r ++ files_html r.volume r ++ markup (codes "</body>\n</html>\n")
+page_html rules table last r = head_text (title_html r.volume) ++ disc_html rules table last r ++ files_html (state_of table) r.volume r ++ markup (codes "</body>\n</html>\n")

@@ -1,12 +1,14 @@
 -- The files and folders, each inside its folder.
 --     class_of standing          how whole a node is, as the style knows it
---     note_html s k size         what the page says of a node beside its name
---     node_html n next           a node, and what begins or ends with it
---     tree_html nodes            all nodes
-use Rattle.std.specs.Prelude.{ℕ, ◌-◌, nat_lt, List, [], ◌∷◌, ◌++◌, Option, Some, None, codes, flat_map, length, if◌then◌else◌}
+--     note_html tail s k size    what the page says of a node beside its name
+--     node_html tail n next      a node, whose body is read by a tail or not, and what begins or ends with it
+--     tree_html view nodes       all nodes
+use Rattle.std.specs.Prelude.{ℕ, Bool, ◌-◌, nat_lt, List, [], ◌∷◌, ◌++◌, Option, Some, None, codes, flat_map, length, if◌then◌else◌}
 use Rattle.udfs_file.specs.declared.faults.Kind.{Kind}
 use Rattle.udfs_file.specs.declared.faults.Kind.TheVariants as kind
 use Rattle.udfs_file.specs.declared.faults.NodeFault.{NodeFault}
+use Rattle.udfs_space.specs.Places.{View}
+use Rattle.udfs_walk.specs.NodeBodies.{has_tail}
 use Rattle.udfs_walk.specs.NodeFields.{NodeFields}
 use Rattle.udfs_walk.specs.declared.standings.Standing.{Standing}
 use Rattle.udfs_walk.specs.declared.standings.Standing.TheVariants as standing
@@ -69,13 +71,17 @@ standing_html (standing.Torn torn) k = lost_html (lost_of (standing.Torn torn) k
 standing_html standing.Loop k = markup (codes ", a loop: it stands inside itself")
 standing_html (standing.Fault f) k = fault_html f
 
+-- the word of a body that is read by the tail of its last extent, with what that means
+abbrev pub tail_html : Bool → List ℕ
+tail_html tail = if tail then markup (codes ", <abbr title='The last bytes are read behind its last extent, from the rest of the same block. If the disc was removed between two writes, they may be old.'>tail</abbr>") else []
+
 -- what the page says beside its name
-abbrev pub note_html : Standing → Kind → Option ℕ → List ℕ
-note_html s k size = markup (codes "<small>") ++ kind_html k size ++ standing_html s k ++ markup (codes "</small>")
+abbrev pub note_html : Bool → Standing → Kind → Option ℕ → List ℕ
+note_html tail s k size = markup (codes "<small>") ++ kind_html k size ++ tail_html tail ++ standing_html s k ++ markup (codes "</small>")
 
 -- its name, and what the page says beside it
-unfoldable pub told_html : NodeFields → List ℕ
-told_html n = shown_name (own_name n.path) ++ note_html n.standing n.kind n.size
+unfoldable pub told_html : Bool → NodeFields → List ℕ
+told_html tail n = shown_name (own_name n.path) ++ note_html tail n.standing n.kind n.size
 
 -- ---- what begins and ends with it
 
@@ -88,20 +94,20 @@ abbrev pub folder_front : ℕ → Standing → List ℕ
 folder_front depth s = details_front depth ++ markup (class_of s) ++ markup (codes "><summary>")
 
 -- the node begins a folder
-abbrev pub folder_html : NodeFields → List ℕ
-folder_html n = folder_front (length n.path) n.standing ++ told_html n ++ markup (codes "</summary>\n")
+abbrev pub folder_html : Bool → NodeFields → List ℕ
+folder_html tail n = folder_front (length n.path) n.standing ++ told_html tail n ++ markup (codes "</summary>\n")
 
 -- what the line of a node begins with
 abbrev pub leaf_front : Standing → List ℕ
 leaf_front s = markup (codes "<div class=") ++ markup (class_of s) ++ markup (codes ">")
 
 -- the line of the node, after which `ended` folders end
-abbrev pub leaf_html : NodeFields → ℕ → List ℕ
-leaf_html n ended = leaf_front n.standing ++ told_html n ++ markup (codes "</div>\n") ++ closings ended
+abbrev pub leaf_html : Bool → NodeFields → ℕ → List ℕ
+leaf_html tail n ended = leaf_front n.standing ++ told_html tail n ++ markup (codes "</div>\n") ++ closings ended
 
 -- a node, by how many names the path of the next one has
-unfoldable pub node_html : NodeFields → ℕ → List ℕ
-node_html n next = if nat_lt (length n.path) next then folder_html n else leaf_html n (length n.path - next)
+unfoldable pub node_html : Bool → NodeFields → ℕ → List ℕ
+node_html tail n next = if nat_lt (length n.path) next then folder_html tail n else leaf_html tail n (length n.path - next)
 
 -- ---- all nodes
 
@@ -115,10 +121,14 @@ abbrev pub with_next : List NodeFields → List (NodeFields × ℕ)
 with_next [] = []
 with_next (n ∷ ns) = (n, first_depth ns) ∷ with_next ns
 
+-- a node in a view, with how many names the path of the next one has
+abbrev pub node_in : View → NodeFields × ℕ → List ℕ
+node_in view p = node_html (has_tail view p.0.icb) p.0 p.1
+
 -- the nodes in their order, in which those of a folder come after it
-unfoldable pub nodes_html : List NodeFields → List ℕ
-nodes_html nodes = flat_map (λ (p : NodeFields × ℕ). node_html p.0 p.1) (with_next nodes)
+unfoldable pub nodes_html : View → List NodeFields → List ℕ
+nodes_html view nodes = flat_map (node_in view) (with_next nodes)
 
 -- all nodes
-abbrev pub tree_html : List NodeFields → List ℕ
-tree_html nodes = markup (codes "<h2>All files</h2>\n") ++ nodes_html nodes
+abbrev pub tree_html : View → List NodeFields → List ℕ
+tree_html view nodes = markup (codes "<h2>All files</h2>\n") ++ nodes_html view nodes

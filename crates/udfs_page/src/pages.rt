@@ -4,7 +4,7 @@ ghost use Rattle.std.specs.Prelude.{◌≡◌, ◌++◌, ◌+◌, ℕ, List, OnO
 ghost use Rattle.std.specs.String.{string_bytes};
 ghost use Rattle.udfs_space.specs.Views.{view_now};
 ghost use Rattle.udfs_walk.specs.Bare.{full_node};
-ghost use Rattle.udfs_lattice.specs.Tables.{Table};
+ghost use Rattle.udfs_lattice.specs.Tables.{Table, state_of};
 ghost use Rattle.udfs_volume.specs.declared.profiles.Profile.{Profile};
 ghost use Rattle.udfs_salvage.specs.Found.{volume_now};
 ghost use Rattle.udfs_salvage.specs.Reports.{Report};
@@ -87,7 +87,7 @@ fn put_about_nodes<W: Sink>(
     nodes: &[Node],
 ) -> Result<(), RunError>
     ensures { PassesOn (W.stream sink.old) (W.stream sink.new) (string_bytes text.old) (string_bytes text.new)
-        (nodes_of (map (full_node (view_now view.entry)) nodes.now)) result }
+        (nodes_of (view_now view.entry) (map (full_node (view_now view.entry)) nodes.now)) result }
 {
     push_torn_files(alloc, text, view, nodes)?;
     put_tree(alloc, text, sink, view, nodes)
@@ -101,7 +101,7 @@ fn put_about_files<W: Sink>(
     survey: &Survey<'_>,
 ) -> Result<(), RunError>
     ensures { PassesOn (W.stream sink.old) (W.stream sink.new) (string_bytes text.old) (string_bytes text.new)
-        (files_html (volume_now survey.now.volume) (survey_now survey.now)) result }
+        (files_html (state_of survey.now.table.now) (volume_now survey.now.volume) (survey_now survey.now)) result }
 {
     match &survey.volume {
         Volume::Open(opened) => {

@@ -9,7 +9,7 @@ ghost use Rattle.udfs_walk.specs.NodeFields.{NodeFields};
 ghost use Rattle.udfs_salvage.specs.Printing.{PassesOn};
 ghost use Rattle.udfs_page.specs.Markups.{markup, shown_name};
 ghost use Rattle.udfs_page.specs.Nestings.{IsStepwise, open_after};
-ghost use Rattle.udfs_page.specs.Trees.{class_of, details_front, fault_html, first_depth, folder_front, folder_html, kind_html, known_lost, leaf_front, leaf_html, lost_html, node_html, nodes_html, note_html, other_html, own_name, size_html, standing_html, told_html, tree_html};
+ghost use Rattle.udfs_page.specs.Trees.{class_of, details_front, fault_html, first_depth, folder_front, folder_html, kind_html, known_lost, leaf_front, leaf_html, lost_html, node_html, node_in, nodes_html, note_html, other_html, own_name, size_html, standing_html, tail_html, told_html, tree_html};
 
 use crate::holes::{push_closings, push_ranges};
 use crate::markups::{push_figure, push_markup, push_shown};
@@ -20,7 +20,7 @@ use udfs_overview::{lost_of, push_safe_name, push_size};
 use udfs_reading::Sink;
 use udfs_salvage::{RunError, pass_on};
 use udfs_space::View;
-use udfs_walk::{Node, Path, Standing, full_standing};
+use udfs_walk::{Node, Path, Standing, full_standing, tail_at};
 
 /// How whole a node is, as the style knows it.
 fn push_class(text: &mut String, standing: &Standing) -> Result<(), OutOfMemory>
@@ -125,33 +125,50 @@ fn push_standing(text: &mut String, standing: &Standing, kind: Kind) -> Result<(
     }
 }
 
+/// The word of a body that is read by the tail of its last extent, with what that means.
+fn push_tail(text: &mut String, tail: bool) -> Result<(), OutOfMemory>
+    ensures { OnOk result (string_bytes text.new ≡ string_bytes text.old ++ tail_html tail) }
+{
+    if tail {
+        push_markup(
+            text,
+            ", <abbr title='The last bytes are read behind its last extent, from the rest of the same block. If the disc was removed between two writes, they may be old.'>tail</abbr>",
+        )
+    } else {
+        Ok(())
+    }
+}
+
 /// What the page says of a node beside its name.
 fn push_note(
     text: &mut String,
+    tail: bool,
     standing: &Standing,
     kind: Kind,
     size: Option<u64>,
 ) -> Result<(), OutOfMemory>
-    ensures { OnOk result (string_bytes text.new ≡ string_bytes text.old ++ note_html standing.now kind size) }
+    ensures { OnOk result (string_bytes text.new ≡ string_bytes text.old ++ note_html tail standing.now kind size) }
 {
     push_markup(text, "<small>")?;
     push_kind(text, kind, size)?;
+    push_tail(text, tail)?;
     push_standing(text, standing, kind)?;
     push_markup(text, "</small>")
 }
 
-/// The name of a node with this standing, and what the page says beside it.
+/// The name of a node with this standing, whose body is read by a tail or not, and what the page says beside it.
 #[tactic(auto, unfolding(crate::specs::Trees::told_html))]
 fn push_told(
     alloc: Global,
     text: &mut String,
+    tail: bool,
     node: &Node,
     standing: &Standing,
 ) -> Result<(), OutOfMemory>
-    ensures { OnOk result (string_bytes text.new ≡ string_bytes text.old ++ told_html (node_with node.now standing.now)) }
+    ensures { OnOk result (string_bytes text.new ≡ string_bytes text.old ++ told_html tail (node_with node.now standing.now)) }
 {
     push_name(alloc, text, &node.path)?;
-    push_note(text, standing, node.kind, node.size)
+    push_note(text, tail, standing, node.kind, node.size)
 }
 
 /// What a folder begins with: that of the root is open.
@@ -185,13 +202,14 @@ fn push_folder_front(text: &mut String, node: &Node, standing: &Standing) -> Res
 fn push_folder(
     alloc: Global,
     text: &mut String,
+    tail: bool,
     node: &Node,
     standing: &Standing,
 ) -> Result<(), OutOfMemory>
-    ensures { OnOk result (string_bytes text.new ≡ string_bytes text.old ++ folder_html (node_with node.now standing.now)) }
+    ensures { OnOk result (string_bytes text.new ≡ string_bytes text.old ++ folder_html tail (node_with node.now standing.now)) }
 {
     push_folder_front(text, node, standing)?;
-    push_told(alloc, text, node, standing)?;
+    push_told(alloc, text, tail, node, standing)?;
     push_markup(text, "</summary>\n")
 }
 
@@ -208,14 +226,15 @@ fn push_leaf_front(text: &mut String, standing: &Standing) -> Result<(), OutOfMe
 fn push_leaf(
     alloc: Global,
     text: &mut String,
+    tail: bool,
     node: &Node,
     standing: &Standing,
     ended: usize,
 ) -> Result<(), OutOfMemory>
-    ensures { OnOk result (string_bytes text.new ≡ string_bytes text.old ++ leaf_html (node_with node.now standing.now) ended) }
+    ensures { OnOk result (string_bytes text.new ≡ string_bytes text.old ++ leaf_html tail (node_with node.now standing.now) ended) }
 {
     push_leaf_front(text, standing)?;
-    push_told(alloc, text, node, standing)?;
+    push_told(alloc, text, tail, node, standing)?;
     push_markup(text, "</div>\n")?;
     push_closings(text, ended)
 }
@@ -225,17 +244,18 @@ fn push_leaf(
 fn push_node(
     alloc: Global,
     text: &mut String,
+    tail: bool,
     node: &Node,
     standing: &Standing,
     next: usize,
 ) -> Result<(), OutOfMemory>
-    ensures { OnOk result (string_bytes text.new ≡ string_bytes text.old ++ node_html (node_with node.now standing.now) next) }
+    ensures { OnOk result (string_bytes text.new ≡ string_bytes text.old ++ node_html tail (node_with node.now standing.now) next) }
 {
     let depth = node.path.len();
     if depth < next {
-        push_folder(alloc, text, node, standing)
+        push_folder(alloc, text, tail, node, standing)
     } else {
-        push_leaf(alloc, text, node, standing, depth - next)
+        push_leaf(alloc, text, tail, node, standing, depth - next)
     }
 }
 
@@ -247,10 +267,11 @@ fn push_full_node(
     node: &Node,
     next: usize,
 ) -> Result<(), OutOfMemory>
-    ensures { OnOk result (string_bytes text.new ≡ string_bytes text.old ++ node_html (full_node (view_now view.entry) node.now) next) }
+    ensures { OnOk result (string_bytes text.new ≡ string_bytes text.old ++ node_in (view_now view.entry) (full_node (view_now view.entry) node.now, next)) }
 {
     let full = full_standing(alloc, view, node.icb, &node.standing)?;
-    push_node(alloc, text, node, &full, next)
+    let tail = tail_at(alloc, view, node.icb)?;
+    push_node(alloc, text, tail, node, &full, next)
 }
 
 /// How many names the path of the node at this place has; none where there is no such node.
@@ -273,7 +294,7 @@ fn put_full_node<W: Sink>(
     next: usize,
 ) -> Result<(), RunError>
     ensures { PassesOn (W.stream sink.old) (W.stream sink.new) (string_bytes text.old) (string_bytes text.new)
-        (node_html (full_node (view_now view.entry) node.now) next) result }
+        (node_in (view_now view.entry) (full_node (view_now view.entry) node.now, next)) result }
 {
     push_full_node(alloc, text, view, node, next)?;
     pass_on(text, sink)
@@ -288,7 +309,7 @@ fn put_nodes<W: Sink>(
     nodes: &[Node],
 ) -> Result<(), RunError>
     ensures { PassesOn (W.stream sink.old) (W.stream sink.new) (string_bytes text.old) (string_bytes text.new)
-        (nodes_html (map (full_node (view_now view.entry)) nodes.now)) result }
+        (nodes_html (view_now view.entry) (map (full_node (view_now view.entry)) nodes.now)) result }
 {
     let count = nodes.len();
     for index in 0..count {
@@ -307,7 +328,7 @@ pub(crate) fn put_tree<W: Sink>(
     nodes: &[Node],
 ) -> Result<(), RunError>
     ensures { PassesOn (W.stream sink.old) (W.stream sink.new) (string_bytes text.old) (string_bytes text.new)
-        (tree_html (map (full_node (view_now view.entry)) nodes.now)) result }
+        (tree_html (view_now view.entry) (map (full_node (view_now view.entry)) nodes.now)) result }
 {
     push_markup(text, "<h2>All files</h2>\n")?;
     put_nodes(alloc, text, sink, view, nodes)

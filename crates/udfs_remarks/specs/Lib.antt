@@ -1,2 +1,1 @@
 pub mod NoReports
-pub mod PathsRefused

@@ -1,5 +1,5 @@
-//! The last block by the ends of mapfiles, where neither it nor the size of the disc is given. A disc of 1,230,848 bytes, 12C800 in hexadecimal, ends
-//! with block 600.
+//! The last block by the ends of mapfiles: of one that is named, or of those of all inputs where neither it nor the size of the disc is given. A disc of
+//! 1,230,848 bytes, 12C800 in hexadecimal, ends with block 600.
 
 use crate::tests::check;
 use std::test::Fail;
@@ -134,7 +134,153 @@ $ report --ddrescue a.img small.map
 refused udfsalvage: fault 1 LastRange\n
 "#;
 
+static OF_ONE: &str = r#"
+* maps
+file a.map text 0x0 ? 1\n0x0 0x12C800 ?\n
+file odd.map text 0x0 ? 1\n0x0 0x12C801 ?\n
+file none.map text 0x0 ? 1\n
+file small.map text 0x0 ? 1\n0x0 0x800 ?\n
+file bad.map text 0x0 ? 1\n0x0 0x800\n
+file wanted.map text # Mapfile. Created by udfsalvage 0.1.0\n# Blocks to read again, for ddrescue -m: not the mapfile of a pass\n0x0 ? 1\n0x0 0x12C800 ?\n
+
+= one_mapfile_gives_the_size, 1
+but 33 49
+* maps
+then status 1
+then out 33\n49\n
+then error
+
+$ reread --size-of a.map disc.tab
+
+$ reread disc.tab --size-of=a.map
+
+= one_mapfile_gives_the_size, 2
+# In every command that wants a last block the answer is that with the block in words, also where the inputs' own mapfiles do not tell it.
+but 33 49
+* maps
+file b.img text
+file b.map text 0x0 ? 1\n0x0 0x12D000 ?\n
+then error
+
+$ report --last 600 disc.tab --ddrescue b.img b.map
+keep
+
+$ report --size-of a.map disc.tab --ddrescue b.img b.map
+as-kept
+
+$ reread --last 600 --mapfile want.map disc.tab
+keep
+
+$ reread --size-of a.map --mapfile want.map disc.tab
+as-kept
+
+$ list --last 600 disc.tab
+keep
+
+$ list --size-of a.map disc.tab
+as-kept
+
+$ summary --last 600 disc.tab
+keep
+
+$ summary --size-of a.map disc.tab
+as-kept
+
+$ extract --last 600 --to out disc.tab
+keep
+
+$ extract --size-of a.map --to out disc.tab
+as-kept
+
+$ image --last 600 --out i.img --mapfile i.map disc.tab
+keep
+
+$ image --size-of a.map --out i.img --mapfile i.map disc.tab
+as-kept
+
+= one_mapfile_gives_the_size, 3
+but 33 49
+* maps
+
+$ page --size-of a.map --out p.html disc.tab
+status 1
+error
+file-has p.html 601 blocks, 1.2 MB
+
+= a_mapfile_that_gives_none
+# One that is not there, or is no mapfile of a pass, is refused before an input is opened; one that ends where no disc does gives a number out of range.
+but
+* maps
+
+$ report --size-of absent.map absent.rd
+refused udfsalvage: cannot open mapfile\n
+
+$ report -v --size-of absent.map absent.rd
+refused udfsalvage: cannot open mapfile\n  absent.map: the system does not say why\n
+
+$ list --size-of bad.map absent.rd
+refused udfsalvage: mapfile line 2: not a run\n
+
+$ summary -v --size-of none.map absent.rd
+refused udfsalvage: mapfile line 2: no runs\n  none.map: --size-of wants the mapfile of a pass, as ddrescue writes it\n
+
+$ reread --size-of wanted.map absent.rd
+refused udfsalvage: mapfile line 2: blocks to read again, not a pass\n
+
+$ report -v --size-of odd.map disc.tab
+refused udfsalvage: fault 1 LastRange\n  odd.map does not end where a disc of 514 to 4194304 blocks of 2048 bytes does\n
+
+$ extract --size-of small.map --to out disc.tab
+refused udfsalvage: fault 1 LastRange\n
+
+$ image --size-of odd.map --out i.img --mapfile i.map disc.tab
+refused udfsalvage: fault 1 LastRange\n
+
+= one_of_the_three_is_given
+* maps
+then status 2
+then out
+
+$ report --last 600 --size-of a.map absent.rd
+error-begins error: the argument '--last <N>' cannot be used with '--size-of <MAPFILE>'\n\nFor more information, try '--help'.\n
+
+$ report --size-of a.map --size 1230848 absent.rd
+error-begins error: the argument '--size <BYTES>' cannot be used with '--size-of <MAPFILE>'\n\nFor more information, try '--help'.\n
+
+$ merge --size-of a.map --out t.tab absent.rd
+error-begins error: unexpected argument '--size-of' found
+
+= where_to_find_it
+# Where nothing but the last block is missing, it is said where to find it.
+let MISSING error: the following required arguments were not provided:\n  --last <N>\n\nUsage: udfsalvage report [OPTIONS] [--last <N> | --size <BYTES> | --size-of <MAPFILE>] <IN>...\n\nFor more information, try '--help'.\n
+let WHERE \x20\x20blockdev --getsize64 /dev/sr0 prints the size for --size, or --size-of p1.map takes it from a mapfile\n
+* maps
+file a.img text
+then status 2
+then out
+
+$ report -v absent.rd
+error «MISSING»«WHERE»
+
+$ report absent.rd
+error «MISSING»
+
+$ report -v -q absent.rd
+error «MISSING»
+
+$ report -v a.map --ddrescue a.img a.map
+error «MISSING»«WHERE»
+
+$ report -v
+error error: the following required arguments were not provided:\n  --last <N>\n  <IN>...\n\nUsage: udfsalvage report [OPTIONS] [--last <N> | --size <BYTES> | --size-of <MAPFILE>] <IN>...\n\nFor more information, try '--help'.\n
+"#;
+
 #[test]
 fn the_ends_of_mapfiles(rt: HostRuntime) -> Result<(), Fail> {
     check(&rt, rt.alloc(), SCRIPT)
+}
+
+#[test]
+fn the_end_of_one_mapfile(rt: HostRuntime) -> Result<(), Fail> {
+    check(&rt, rt.alloc(), OF_ONE)
 }

@@ -141,10 +141,10 @@ $ extract --to out --size=1230848 absent.rd --last=600
 error-begins error: the argument '--last <N>' cannot be used with '--size <BYTES>'\n
 
 $ report absent.rd
-error-begins error: the following required arguments were not provided:\n  --last <N>\n\nUsage: udfsalvage report [OPTIONS] [--last <N> | --size <BYTES>] <IN>...\n
+error-begins error: the following required arguments were not provided:\n  --last <N>\n\nUsage: udfsalvage report [OPTIONS] [--last <N> | --size <BYTES> | --size-of <MAPFILE>] <IN>...\n
 
 $ reread absent.rd
-error-begins error: the following required arguments were not provided:\n  --last <N>\n\nUsage: udfsalvage reread [OPTIONS] [--last <N> | --size <BYTES>] <IN>...\n
+error-begins error: the following required arguments were not provided:\n  --last <N>\n\nUsage: udfsalvage reread [OPTIONS] [--last <N> | --size <BYTES> | --size-of <MAPFILE>] <IN>...\n
 ";
 
 #[test]

@@ -8,7 +8,7 @@ use Rattle.udfs_commands.proofs.command.run.Goals as goal
 
 pub returns-in-Err-try_get_matches_from-clause-done : goal.returns-in-Err-try_get_matches_from-clause-done
 returns-in-Err-try_get_matches_from-clause-done g c = λ taken some.
-    absurd (some (c.show.ensures.memory (c.in-Err-try_get_matches_from.ensures.passes (ap (λ (a : App). takes a (map string_bytes c.args.words.now)) (c.in-Ok.ensures ∙ ap program_app c.given_in.ensures) ∙ taken))))
+    absurd (some (c.show_error.ensures.memory (c.in-Err-try_get_matches_from.ensures.passes (ap (λ (a : App). takes a (map string_bytes c.args.words.now)) (c.in-Ok.ensures ∙ ap program_app c.given_in.ensures) ∙ taken))))
 
 pub returns-clause-done : goal.returns-clause-done
 returns-clause-done g c = λ taken some.

@@ -1,12 +1,11 @@
-use Rattle.std.proofs.Common.{◌≡◌, ◌∙◌, ap, arith, length, map, subst, ℕ}
+use Rattle.std.proofs.Common.{◌≡◌, ◌∙◌, ap, arith, length, map, subst}
 use Rattle.std.specs.String.{string_bytes}
 use Rattle.std.proofs.lemmas.Result.{err_from_is_err_and}
 use Rattle.udfs_reading.specs.Writing.{Passed}
 use Rattle.udfs_space.specs.Views.{view_now}
 use Rattle.udfs_walk.specs.Bare.{full_node}
-use Rattle.udfs_walk.specs.NodeFields.{NodeFields}
 use Rattle.udfs_salvage.proofs.PublicLaws.{passed_item, stopped_item}
-use Rattle.udfs_page.specs.Trees.{node_html, nodes_html, with_next}
+use Rattle.udfs_page.specs.Trees.{node_in, nodes_html, with_next}
 use Rattle.udfs_page.proofs.TreeNodes.{all_nodes, next_within, node_at, nodes_so_far}
 use Rattle.udfs_page.proofs.trees.put_nodes.Goals as goal
 
@@ -19,7 +18,7 @@ loop-index-preserved g c =
     let d = c.depth_at-next.result in
     record {
       count = c.loop-index.invariant.count;
-      text = passed_item (λ (p : NodeFields × ℕ). node_html p.0 p.1) (with_next (map (full_node v) ns)) i (full_node v n, d) (next_within v ns i c.loop-index-test.true)
+      text = passed_item (node_in v) (with_next (map (full_node v) ns)) i (full_node v n, d) (next_within v ns i c.loop-index-test.true)
           (node_at v ns i n d c.loop-index-test.true c.index-nodes-index.is c.depth_at-next.ensures) c.loop-index.invariant.text c.in_ok-put_full_node.ensures;
     }
 
@@ -32,7 +31,7 @@ returns-in_err-put_full_node g c =
     let i = c.loop-index.index in
     let n = c.index-nodes-index.result in
     let d = c.depth_at-next.result in
-    rw (p.1, p.2) (stopped_item (λ (p : NodeFields × ℕ). node_html p.0 p.1) (with_next (map (full_node v) ns)) i (full_node v n, d) (next_within v ns i c.loop-index-test.true)
+    rw (p.1, p.2) (stopped_item (node_in v) (with_next (map (full_node v) ns)) i (full_node v n, d) (next_within v ns i c.loop-index-test.true)
     (node_at v ns i n d c.loop-index-test.true c.index-nodes-index.is c.depth_at-next.ensures) c.loop-index.invariant.text c.in_err-put_full_node.ensures)
 
 pub returns : goal.returns
