@@ -92,14 +92,15 @@ $ page --last 600 --out p.html disc.tab
 file-has p.html <div>Copies     copies of the volume&#39;s descriptors differ: the volume is not lawful, and the guarantee does not hold for it</div>\n
 
 = a_main_sequence_that_is_damaged
-# By the wide rules the reserve sequence is asked, and it is said that the copies differ.
+# The main sequence's revision is 2.50. By the wide rules the reserve sequence is asked, whose revision is 1.50: that is said, and that the copies
+# differ.
 then error
 
 write 32 240 P\x02
 but
 $ report -v --last 600 disc.tab
 status 1
-remarked copies of the volume's descriptors differ: the volume is not lawful, and the guarantee does not hold for it\nvolume: UDF 2.50, which is not read\n
+remarked copies of the volume's descriptors differ: the volume is not lawful, and the guarantee does not hold for it\nvolume: UDF 1.50: add --profile wide\n
 
 write 32 240 P\x02
 but
