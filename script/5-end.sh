@@ -43,7 +43,7 @@ count_files() {
         $2 == "file" { all++ }
         $1 == "whole" && $2 == "file" { whole++; size += $4 }
         $1 == "torn" && $2 == "file" { torn++; lost += $3 }
-        $2 == "unread" { all++; unread++ }
+        $2 == "unknown" { all++; unread++ }
         $1 ~ /^fault/ && $2 == "file" { odd++ }
         $1 == "torn" && $2 == "directory" { folders++ }
         END {

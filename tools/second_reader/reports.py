@@ -127,7 +127,9 @@ class Report:
 
 def columns(node):
     lost = {"whole": 0, "torn": sum(length for _, length in node.holes)}.get(node.standing) if node.kind != "unread" else None
-    return [node.standing.replace("-", " "), node.kind] + ["-" if number is None else str(number) for number in (lost, node.size)] + [node.time or "-"]
+    kind = "unknown" if node.kind == "unread" else node.kind
+    time = (node.time or "-").replace(".000000", "")
+    return [node.standing.replace("-", " "), kind] + ["-" if number is None else str(number) for number in (lost, node.size)] + [time]
 
 
 def path_of(node):

@@ -2,6 +2,7 @@
 
 mod fields;
 mod files;
+mod lawfulness;
 mod lost;
 mod samples;
 mod spaces;

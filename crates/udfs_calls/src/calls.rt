@@ -203,6 +203,7 @@ pub trait Calls {
         ensures number { IfOk result (λ file. tells → Self.File.number file ≡ Some (moment_of (log self.old))) }
         ensures empty { IfOk result (λ file. IsEmpty (Self.File.state file)) }
         ensures front { IfOk result (λ file. IsAtFront (Self.File.state file)) }
+        ensures link { OnOk result (link_at self.new path.now ≡ None) }
         ensures real { real self.new ≡ real self.old };
 
     /// Opens what a path names to be written, and cuts it where it is a regular file (`open` with `O_CREAT` and `O_TRUNC`): for what is no regular
@@ -228,6 +229,7 @@ pub trait Calls {
         ensures done { OnOk result (log self.new ≡ after_sync (Self.File.number file.now) (bytes_of (Self.File.state file.now)) (log self.old)) }
         ensures needless { IfErr result (λ error. error_kind error ≡ ErrorKind.InvalidInput → log self.new ≡ after_sync (Self.File.number file.now) (bytes_of (Self.File.state file.now)) (log self.old)) }
         ensures failed { IfErr result (λ error. error_kind error ≢ ErrorKind.InvalidInput → log self.new ≡ log self.old) }
+        ensures links { (q : List ℕ) → link_at self.new q ≡ link_at self.old q }
         ensures real { real self.new ≡ real self.old };
 
     /// The names in the folder of this path are on the disk (`open`, and `fsync`).
@@ -249,6 +251,7 @@ pub trait Calls {
     fn rename(&mut self, from: &str, to: &str) -> Result<(), Error>
         ensures done { OnOk result (log self.new ≡ after (renamed from.now to.now) (log self.old)) }
         ensures failed { OnErr result (log self.new ≡ after (failed (renamed from.now to.now)) (log self.old)) }
+        ensures links { OnErr result ((q : List ℕ) → link_at self.new q ≡ link_at self.old q) }
         ensures real { link_at self.old from.now ≡ None → link_at self.old to.now ≡ None → real self.new ≡ real self.old };
 
     /// Removes the name of a file (`unlink`).

@@ -1,5 +1,5 @@
 -- The name and the arguments of the command that the words ask for, from what each of them is by itself.
-use Rattle.std.proofs.Common.{◌≡◌, ◌≢◌, ℕ, cond, Result, Ok, Err, IfOk, OnOk, OnErr, Bool, true, false, ◌∙◌, Option, Some, None, option_map, List, [], ap, ap₂, subst, sym, refl, arith}
+use Rattle.std.proofs.Common.{◌≡◌, ◌≢◌, ℕ, cond, Result, Ok, Err, IfOk, OnErr, Bool, true, false, ◌∙◌, Option, Some, None, option_map, List, [], ap, ap₂, subst, sym, refl, arith}
 use Rattle.clap.specs.Words.{App, HasMatchesOf, Row, Text, fault_of, is_simple, is_simple_and_free, rows_of, subcommand_rows_of}
 use Rattle.clap.specs.Matches.{subcommand_name_of}
 use Rattle.clap.specs.declared.parser.matches.ArgMatches.{ArgMatches}

@@ -4,7 +4,7 @@
 --     Does               what a request that was done did, and whether nothing is lacking
 --     Leaves             what no crash and no refusal touches, whatever the status
 --     MayFail            what may be where a file has changed and the request was refused
-use Rattle.std.specs.Prelude.{◌≡◌, ⊤, ℕ, Bool, true, List, MatchOption, Result, Ok, Err}
+use Rattle.std.specs.Prelude.{◌≡◌, ⊤, Bool, true, MatchOption, Result, Ok, Err}
 use Rattle.udfs_reading.specs.Device.{Stream}
 use Rattle.udfs_overview.specs.Summaries.{summary_text}
 use Rattle.udfs_overview.specs.declared.node_list.ListForm.{ListForm}
@@ -19,7 +19,7 @@ use Rattle.udfs_tables.specs.Merging.{IsMerged}
 use Rattle.udfs_tables.specs.Outputs.{IsOutFree}
 use Rattle.udfs_tables.specs.Pairing.{IsPairPut, SparesPair}
 use Rattle.udfs_reports.specs.Giving.{given_by}
-use Rattle.udfs_reports.specs.Listing.{list_of}
+use Rattle.udfs_reports.specs.LostListing.{PrintsList}
 use Rattle.udfs_reports.specs.Paging.{IsPage, IsPageFree}
 use Rattle.udfs_reports.specs.Reporting.{form_text}
 use Rattle.udfs_reports.specs.Rereading.{IsMap, IsMapFree, IsSomeMap, PrintsNumbers}
@@ -29,7 +29,7 @@ use Rattle.udfs_extraction.specs.Sparing.{LeavesExtract}
 
 -- what is to be shown, and how
 abbrev pub form_of : ListRequest → ListForm
-form_of r = record { torn = r.torn; null = r.null; paths = r.paths }
+form_of r = record { torn = r.torn; null = r.null; paths = r.paths; header = r.header; json = r.json }
 
 -- where it is done, nothing is lacking
 abbrev pub said_of : {A E : Type 0} → Result A E → Result Bool E
@@ -45,7 +45,7 @@ module _ {F I M S W : Type 0} (reach : Reach F I M S W) (old : F) where
   Does stream (request.Report r) new before after whole = PrintsText reach old (form_text r.form) r.volume (stream before) (stream after) whole
   Does stream (request.Reread r) new before after whole = MatchOption r.mapfile (PrintsNumbers reach old r (stream before) (stream after) whole)
       (λ path. IsPut reach (IsMap reach old r (stream before) (stream after) whole) path.now old new × IsMapFree reach old r path.now)
-  Does stream (request.List r) new before after whole = PrintsText reach old (list_of (form_of r)) r.volume (stream before) (stream after) whole
+  Does stream (request.List r) new before after whole = PrintsList reach old (form_of r) r (stream before) (stream after) whole
   Does stream (request.Summary r) new before after whole = PrintsText reach old (summary_text (given_by r.volume r.size)) r.volume (stream before) (stream after) whole
   Does stream (request.Page r) new before after whole = IsPut reach (IsPage reach old r whole) r.out.now old new × IsPageFree reach old r
   Does stream (request.Extract r) new before after whole = IsExtracted reach stream r old new before after whole

@@ -9,18 +9,20 @@ ghost use Rattle.udfs_words.specs.Requests.{Asked};
 ghost use Rattle.udfs_words.specs.declared.request.Request.{Request};
 ghost use Rattle.udfs_commands.specs.Doing.{Does, Leaves, MayFail};
 
+use crate::longer_images::remark_on_images;
 use crate::performing::perform;
 use crate::printing::send;
 use crate::refusing::{ask_for_last, explain, is_watched, refuse, show, tell, tell_profile};
-use clap::ArgMatches;
 use std::alloc::{AllocError, Global};
 use udfs_common::files::Files;
 use udfs_common::known::Known;
 use udfs_common::refusal::Refusal;
 use udfs_reading::Sink;
+use udfs_words::asking::asked_tone;
+use udfs_words::forms::Tone;
 use udfs_words::reading::{UsageFault, read};
 use udfs_words::request::Request;
-use udfs_words::words::{QUIET, VERBOSE, given_in, grammar};
+use udfs_words::words::{given_in, grammar};
 
 /// What is said where standard input is to be read twice.
 const TWO_STREAMS: &[u8] =
@@ -64,9 +66,13 @@ pub fn run<F: Files, O: Sink, E: Sink>(
         Ok(request) => request,
         Err(fault) => return refuse_usage(alloc, fault, err),
     };
-    set_tone(found, files);
+    let tone = asked_tone(found);
+    set_tone(tone, files);
     let outcome = perform(alloc, &request, files, out);
-    finish(alloc, outcome, &request, found, words, files, err)
+    if outcome.is_ok() {
+        remark_on_pairs(alloc, tone, &request, files);
+    }
+    finish(alloc, outcome, &request, tone, words, files, err)
 }
 
 /// Says why arguments that clap takes are no request, and returns the exit status, 2.
@@ -87,13 +93,20 @@ fn refuse_usage<E: Sink>(alloc: Global, fault: UsageFault<'_>, err: &mut E) -> u
     }
 }
 
-/// Sets how much is said on standard error, by `--verbose` and `--quiet`.
-fn set_tone<F: Files>(words: &ArgMatches<'_>, files: &F) {
-    if words.get_flag(VERBOSE) {
+/// Sets how much is said on standard error.
+fn set_tone<F: Files>(tone: Tone, files: &F) {
+    if tone.verbose {
         files.speak();
     }
-    if words.get_flag(QUIET) {
+    if tone.quiet {
         files.hush();
+    }
+}
+
+/// Shows, where more is told than has to be, which images are longer than their mapfiles.
+fn remark_on_pairs<F: Files>(alloc: Global, tone: Tone, request: &Request<'_>, files: &F) {
+    if !tone.quiet && (tone.verbose || files.is_watched()) {
+        remark_on_images(alloc, request, files);
     }
 }
 
@@ -103,7 +116,7 @@ fn finish<F: Files, E: Sink>(
     alloc: Global,
     outcome: Result<bool, Refusal>,
     request: &Request<'_>,
-    words: &ArgMatches<'_>,
+    tone: Tone,
     line: &[String],
     files: &F,
     err: &mut E,
@@ -119,7 +132,7 @@ fn finish<F: Files, E: Sink>(
         Err(Refusal::NoLast) => ask_for_last(alloc, line, is_watched(line, files), err),
         Err(refusal) => {
             let status = refuse(alloc, &refusal, err);
-            explain(alloc, &refusal, request, words, files, err);
+            explain(alloc, &refusal, request, tone, files, err);
             status
         }
     }

@@ -1,5 +1,6 @@
 //! The second line of an error message, for a person: which file it is, what the system said of it, and what to do next.
 
+use crate::cut_files::of_cut;
 use crate::foreign::foreign_at;
 use crate::spared::why_spared;
 use std::alloc::{AllocError, Global};
@@ -9,8 +10,7 @@ use udfs_common::files::Files;
 use udfs_common::refusal::Refusal;
 use udfs_common::shown::{Said, Shown};
 use udfs_files::Kind;
-use udfs_overview::push_grouped;
-use udfs_reading::{ReadingError, ReadingFault, Source};
+use udfs_reading::{ReadingError, ReadingFault};
 use udfs_rescue::MapFault;
 use udfs_words::input_path::InputPath;
 use udfs_words::request::{ExtractRequest, Inputs, LastSource, Request};
@@ -20,9 +20,6 @@ const TOO_MANY_OPEN: i32 = 24;
 
 /// The system's error code of a read at a position of a pipe.
 const NO_POSITIONS: i32 = 29;
-
-/// The bytes of a header, of a reading and of a table file: its name, the size of a block, and how many records follow.
-const HEADER: usize = 16;
 
 /// A mapfile's name beside an image's: that of the image, with `.map` in the place of what follows its last dot.
 #[derive(Clone, Copy)]
@@ -36,63 +33,6 @@ impl<'a> fmt::Display for MapBeside<'a> {
         };
         write!(f, "{}.map", Shown(stem))
     }
-}
-
-/// The first [`HEADER`] bytes of a file, read a byte at a time; `None` where it is shorter, or a read fails.
-fn front_of<R: Source>(source: &mut R) -> Option<[u8; HEADER]> {
-    let mut header = [0u8; HEADER];
-    for place in &mut header {
-        let mut byte = [0u8; 1];
-        match source.read(&mut byte) {
-            Ok(count) if count > 0 => *place = byte[0],
-            _ => return None,
-        }
-    }
-    Some(header)
-}
-
-/// How many records a file says that it has. What is no file is not read again.
-fn count_of<F: Files>(alloc: Global, path: &str, files: &F) -> Result<Option<u32>, AllocError> {
-    match files.resolve(alloc, path)? {
-        Ok(target) if target.kind == Kind::Regular => {}
-        _ => return Ok(None),
-    }
-    let Ok(mut file) = files.open(path) else {
-        return Ok(None);
-    };
-    let Some(header) = front_of(&mut file) else {
-        return Ok(None);
-    };
-    let count = [header[12], header[13], header[14], header[15]];
-    Ok(Some(u32::from_le_bytes(count)))
-}
-
-/// Appends a number with its thousands separated.
-fn push_number(number: u32, text: &mut String) -> Result<(), AllocError> {
-    match push_grouped(number as u128, text) {
-        Ok(()) => Ok(()),
-        Err(_) => Err(AllocError),
-    }
-}
-
-/// What is said of a reading or a table file that ends inside a record.
-fn of_cut<F: Files>(
-    alloc: Global,
-    path: &str,
-    number: u32,
-    files: &F,
-) -> Result<String, AllocError> {
-    let file = Shown(path);
-    if number == 0 {
-        return format!(in alloc; "{file} is cut short in its header");
-    }
-    let mut line = format!(in alloc; "{file} is cut short in record ")?;
-    push_number(number, &mut line)?;
-    if let Some(count) = count_of(alloc, path, files)? {
-        line.push_str(" of ")?;
-        push_number(count, &mut line)?;
-    }
-    Ok(line)
 }
 
 /// What is said of a reading or a table file that is faulty.
@@ -179,6 +119,11 @@ fn of_unopened<F: Files>(
     };
     let said = Said(reason);
     match input {
+        InputPath::File("-") => {
+            format!(in alloc;
+                "-: {said}: this command takes it as a path; standard input is /dev/stdin"
+            )
+        }
         InputPath::File(path) => format!(in alloc; "{}: {said}{more}", Shown(path)),
         InputPath::Pair(image, map) => {
             if is_shut(alloc, image, files)? {
@@ -293,7 +238,7 @@ fn asked_output<'r>(request: &'r Request<'_>) -> Option<&'r str> {
 }
 
 /// The inputs of a command.
-fn inputs_of<'r, 'a>(request: &'r Request<'a>) -> &'r Inputs<'a> {
+pub fn inputs_of<'r, 'a>(request: &'r Request<'a>) -> &'r Inputs<'a> {
     match request {
         Request::Merge(merge) => &merge.inputs,
         Request::Forget(forget) => &forget.inputs,
@@ -328,7 +273,9 @@ fn of_output(
     reason: Option<Error>,
 ) -> Result<Option<String>, AllocError> {
     let Some(out) = asked_output(request) else {
-        return Ok(None);
+        return Ok(Some(format!(in alloc;
+            "standard output does not take all of the text: its device is full, or what reads it has ended"
+        )?));
     };
     let mut line = format!(in alloc; "{}: {}", Shown(out), Said(reason))?;
     if is_there(reason) {
@@ -510,7 +457,7 @@ fn of_other<F: Files>(
         }
         (Refusal::LastRange, _) => {
             format!(in alloc;
-                "the last block is from 513 to 4194303: the disc's size in bytes / 2048 - 1, or give --size"
+                "the last block is from 513 to 4194303: give the disc's size by --size, in bytes, or in blocks with s after it"
             )?
         }
         (Refusal::Memory(_), _) => {

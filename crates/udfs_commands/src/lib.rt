@@ -3,8 +3,10 @@
 #![tactic(auto)]
 
 mod command;
+mod cut_files;
 mod foreign;
 mod hints;
+mod longer_images;
 mod performing;
 mod printing;
 mod refusing;

@@ -12,6 +12,7 @@ use udfs_overview::ListForm;
 use udfs_reading::Sink;
 use udfs_reports::giving::given_by;
 use udfs_reports::list::NodeLines;
+use udfs_reports::lost_list::list;
 use udfs_reports::page::page;
 use udfs_reports::report::ReportAs;
 use udfs_reports::reread::reread;
@@ -32,6 +33,8 @@ fn node_lines(request: &ListRequest<'_>) -> NodeLines
             torn: request.torn,
             null: request.null,
             paths: request.paths,
+            header: request.header,
+            json: request.json,
         },
     }
 }
@@ -71,7 +74,7 @@ pub fn perform<F: Files, O: Sink>(
             None => reread(alloc, asked, files, out),
             Some(path) => reread_map(alloc, asked, path, files, out),
         },
-        Request::List(list) => tell(alloc, &list.volume, &node_lines(list), files, out),
+        Request::List(asked) => list(alloc, asked, &node_lines(asked), files, out),
         Request::Summary(summary) => {
             let telling = Summary {
                 given: given_by(&summary.volume, summary.size),

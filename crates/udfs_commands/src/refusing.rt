@@ -1,20 +1,20 @@
 //! What is printed where a command fails, or where the arguments are not those of a command.
 
-ghost use Rattle.std.specs.Prelude.{◌≡◌, ◌⊎◌, Some, true, codes};
-ghost use Rattle.clap.specs.Matches.{found_of, one_text};
+ghost use Rattle.std.specs.Prelude.{◌≡◌, ◌⊎◌, true};
 ghost use Rattle.clap.specs.Words.{kind_of};
 
 use crate::hints::second_line;
 use crate::printing::send;
+use clap::Error;
 use clap::error::ErrorKind;
-use clap::{ArgMatches, Error};
 use std::alloc::{AllocError, Global};
 use std::fmt;
 use udfs_common::files::Files;
 use udfs_common::refusal::Refusal;
 use udfs_reading::{DeviceFault, Sink};
+use udfs_words::forms::Tone;
 use udfs_words::request::Request;
-use udfs_words::words::{QUIET, VERBOSE, given_in, grammar, is_given};
+use udfs_words::words::{given_in, grammar, is_given};
 
 /// The line that says that memory ran out. Itself it takes no memory.
 const NO_MEMORY: &[u8] = b"udfsalvage: out of memory\n";
@@ -26,6 +26,19 @@ const NO_LAST: &str = "\n  --last <N>\n";
 const FIND_LAST: &str =
     "  blockdev --getsize64 /dev/sr0 prints the disc's size for --size; --size-of MAPFILE takes it from a mapfile\n";
 
+/// How clap lists that an input is missing.
+const NO_INPUT: &str = "\n  <IN>...\n";
+
+/// What is one.
+const FIND_INPUT: &str =
+    "  an input is a table file or a reading, or a pass: --ddrescue IMAGE MAPFILE\n";
+
+/// How clap says that it does not know the name of the wide rules.
+const BARE_WIDE: &str = "unexpected argument '--wide' found";
+
+/// What it is.
+const SAY_WIDE: &str = "  the wide rules are --profile wide\n";
+
 /// How clap lists that a list of blocks is missing.
 const NO_BLOCKS: &str = "\n  --blocks <LIST>\n";
 
@@ -36,19 +49,19 @@ const NOTHING_TO_FORGET: &str = "\n  <--conflicts|--blocks <LIST>>\n";
 const NOT_TEXT: &[u8] =
     b"error: invalid UTF-8 was detected in one or more arguments\n\nFor more information, try '--help'.\n";
 
-/// Prints a second line beneath that of an error of what was asked for, where standard error is watched by a person or `--verbose` is given, and `--quiet` is not.
-/// It prints nothing where there is no more to say, or memory runs out.
+/// Prints a second line beneath that of an error of what was asked for, where standard error is watched by a person or more is to be said, and not only what has
+/// to be. It prints nothing where there is no more to say, or memory runs out.
 pub fn explain<F: Files, E: Sink>(
     alloc: Global,
     refusal: &Refusal,
     request: &Request<'_>,
-    words: &ArgMatches<'_>,
+    tone: Tone,
     files: &F,
     err: &mut E,
 )
-    ensures quiet { one_text (found_of words.now) (codes "quiet") ≡ Some (codes "true") → err.new ≡ err.old }
+    ensures quiet { tone.quiet ≡ true → err.new ≡ err.old }
 {
-    if words.get_flag(QUIET) || !(files.is_watched() || words.get_flag(VERBOSE)) {
+    if tone.quiet || !(files.is_watched() || tone.verbose) {
         return;
     }
     if let Ok(Some(more)) = second_line(alloc, refusal, request, files)
@@ -109,16 +122,31 @@ fn show_fault<E: Sink>(alloc: Global, error: &Error, watched: bool, err: &mut E)
 }
 
 /// Clap's text of a fault of the arguments. Where a list of blocks is missing, the other argument that would do is named too, as clap does in a group of which
-/// one has to be given. Where the last block is missing, and a person reads it, one more line says where to find it.
+/// one has to be given. Where a person reads it, one more line says what is meant, if there is one.
 fn fault_text(alloc: Global, error: &Error, watched: bool) -> Result<String, AllocError> {
     let text = format!(in alloc; "{error}")?;
     if let Some((before, after)) = text.as_str().split_once(NO_BLOCKS) {
         return format!(in alloc; "{before}{NOTHING_TO_FORGET}{after}");
     }
-    if watched && text.as_str().contains(NO_LAST) {
-        return format!(in alloc; "{text}{FIND_LAST}");
+    if !watched {
+        return Ok(text);
     }
-    Ok(text)
+    let more = more_of(text.as_str());
+    format!(in alloc; "{text}{more}")
+}
+
+/// What a person is told beneath clap's text of a fault of the arguments: where to find the last block, what an input is, or how the wide rules are named.
+fn more_of(text: &str) -> &'static str {
+    if text.contains(NO_LAST) {
+        return FIND_LAST;
+    }
+    if text.contains(NO_INPUT) {
+        return FIND_INPUT;
+    }
+    if text.contains(BARE_WIDE) {
+        return SAY_WIDE;
+    }
+    ""
 }
 
 /// Whether a person reads more than the line of an error, by these arguments: on a terminal, or with `--verbose`, and never with `--quiet`.

@@ -1,32 +1,271 @@
-//! What is shown to a person of a file or a folder that could not be written.
+//! What is shown to a person of the files and folders of a volume: why one was not written, or not all of it, and how many there were of each sort.
 
 use crate::nodes::Fate;
 use std::alloc::{AllocError, Global};
 use std::fmt::Write;
 use udfs_common::files::Files;
 use udfs_common::shown::Said;
-use udfs_overview::push_shown_path;
-use udfs_walk::Path;
+use udfs_file::{Kind, NodeFault};
+use udfs_osta::OutOfMemory;
+use udfs_overview::{lost_of, push_shown_path, push_size};
+use udfs_salvage::{Listing, Volume};
+use udfs_volume::Profile;
+use udfs_walk::{Node, Standing, full_standing};
 
-/// What is said of a file or a folder that could not be written.
-fn of_failed<F: Files>(alloc: Global, path: &Path, files: &F) -> Result<String, AllocError> {
-    let reason = Said(files.reason());
-    let mut line = String::new(alloc);
-    if push_shown_path(&mut line, path).is_err() {
-        return Err(AllocError);
+/// What a person is told that a file or a folder is.
+#[derive(Clone, Copy, PartialEq, Eq)]
+enum Sort {
+    /// It was written whole.
+    Written,
+    /// It was written, with zeros for what is missing.
+    Filled,
+    /// It could not be written.
+    Failed,
+    /// It is torn.
+    Torn,
+    /// Its entry was not read.
+    Unread,
+    /// It is a link.
+    Link,
+    /// It is a folder inside itself.
+    Loop,
+    /// A fault is in it.
+    Fault,
+    /// It is of a type that is not written.
+    Other,
+}
+
+/// How many there are of each sort.
+#[derive(Clone, Copy)]
+pub struct Totals {
+    written: usize,
+    filled: usize,
+    failed: usize,
+    torn: usize,
+    unread: usize,
+    links: usize,
+    loops: usize,
+    faults: usize,
+    others: usize,
+}
+
+impl Totals {
+    /// None of any sort.
+    pub fn new() -> Totals {
+        Totals {
+            written: 0,
+            filled: 0,
+            failed: 0,
+            torn: 0,
+            unread: 0,
+            links: 0,
+            loops: 0,
+            faults: 0,
+            others: 0,
+        }
     }
-    write!(line, ": {reason}")?;
+
+    /// One more of a sort.
+    fn count(&mut self, sort: Sort) {
+        match sort {
+            Sort::Written => self.written = self.written.saturating_add(1),
+            Sort::Filled => self.filled = self.filled.saturating_add(1),
+            Sort::Failed => self.failed = self.failed.saturating_add(1),
+            Sort::Torn => self.torn = self.torn.saturating_add(1),
+            Sort::Unread => self.unread = self.unread.saturating_add(1),
+            Sort::Link => self.links = self.links.saturating_add(1),
+            Sort::Loop => self.loops = self.loops.saturating_add(1),
+            Sort::Fault => self.faults = self.faults.saturating_add(1),
+            Sort::Other => self.others = self.others.saturating_add(1),
+        }
+    }
+}
+
+/// The sort of a node for which nothing is made.
+fn skipped_sort(node: &Node) -> Sort {
+    match node.standing {
+        Standing::Loop => Sort::Loop,
+        Standing::Fault(_) => Sort::Fault,
+        _ => match node.kind {
+            Kind::Unread => Sort::Unread,
+            Kind::Link => Sort::Link,
+            Kind::Other(_) => Sort::Other,
+            _ => Sort::Torn,
+        },
+    }
+}
+
+/// The sort of a node by what became of it; `None` of a folder that was made, and of what is not asked for.
+fn sort_of(node: &Node, fate: Fate) -> Option<Sort> {
+    match fate {
+        Fate::Made | Fate::Passed => None,
+        Fate::Failed | Fate::Left => Some(Sort::Failed),
+        Fate::Skipped => Some(skipped_sort(node)),
+        Fate::Written => match node.standing {
+            Standing::Whole => Some(Sort::Written),
+            _ => Some(Sort::Filled),
+        },
+    }
+}
+
+/// Appends how much of a torn file is missing, and where.
+fn push_missing(
+    alloc: Global,
+    text: &mut String,
+    listing: &Listing<'_>,
+    node: &Node,
+    what: &str,
+) -> Result<(), OutOfMemory> {
+    text.push_str("torn")?;
+    let Volume::Open(opened) = &listing.volume else {
+        return Ok(());
+    };
+    let view = opened.view(listing.table);
+    let full = full_standing(alloc, view, node.icb, &node.standing)?;
+    let Standing::Torn(torn) = &full else {
+        return Ok(());
+    };
+    let Some((offset, _)) = torn.holes.first() else {
+        return Ok(());
+    };
+    text.push_str(": ")?;
+    push_size(lost_of(&full, node.kind).unwrap_or(0), text)?;
+    write!(text, " {what} at {offset}")?;
+    match torn.holes.len() {
+        0 | 1 => Ok(()),
+        2 => text.push_str(" and one more place"),
+        places => {
+            let more = places.saturating_sub(1);
+            write!(text, " and {more} more places")
+        }
+    }
+}
+
+/// Appends what a fault is, and that the wide rules may read it where they have another rule for it.
+fn push_fault(text: &mut String, profile: Profile, fault: NodeFault) -> Result<(), OutOfMemory> {
+    let number = fault as u8;
+    write!(text, "fault {number}")?;
+    match (profile, fault) {
+        (Profile::Strict, NodeFault::Odd | NodeFault::Reference | NodeFault::Range) => {
+            text.push_str(": --profile wide may read it")
+        }
+        _ => Ok(()),
+    }
+}
+
+/// Appends why a node was not written, or not all of it.
+fn push_reason<F: Files>(
+    alloc: Global,
+    text: &mut String,
+    listing: &Listing<'_>,
+    node: &Node,
+    sort: Sort,
+    files: &F,
+) -> Result<(), OutOfMemory> {
+    match sort {
+        Sort::Written => Ok(()),
+        Sort::Filled => push_missing(alloc, text, listing, node, "of zeros"),
+        Sort::Torn => push_missing(alloc, text, listing, node, "missing"),
+        Sort::Unread => text.push_str("not read: a file, or a folder with all below it"),
+        Sort::Link => text.push_str("link"),
+        Sort::Loop => text.push_str("a folder inside itself"),
+        Sort::Other => match node.kind {
+            Kind::Other(number) => write!(text, "of type {number}, which is not written"),
+            _ => Ok(()),
+        },
+        Sort::Fault => match node.standing {
+            Standing::Fault(fault) => push_fault(text, listing.profile, fault),
+            _ => Ok(()),
+        },
+        Sort::Failed => {
+            let reason = Said(files.reason());
+            write!(text, "{reason}")
+        }
+    }
+}
+
+/// The line of a node that was not written, or not all of it.
+fn line_of<F: Files>(
+    alloc: Global,
+    listing: &Listing<'_>,
+    node: &Node,
+    sort: Sort,
+    files: &F,
+) -> Result<String, OutOfMemory> {
+    let mut line = String::new(alloc);
+    push_shown_path(&mut line, &node.path)?;
+    line.push_str(": ")?;
+    push_reason(alloc, &mut line, listing, node, sort, files)?;
     Ok(line)
 }
 
-/// Shows as a remark why a file or a folder could not be written, where it could not.
-pub fn remark_on_fate<F: Files>(alloc: Global, fate: Fate, path: &Path, files: &F) {
-    match fate {
-        Fate::Failed | Fate::Left => {
-            if let Ok(text) = of_failed(alloc, path, files) {
-                files.remark(text.as_str());
-            }
+/// Shows as a remark why a node was not written, or not all of it, where that is so, and counts it. Of a torn folder that was made it shows that names may be
+/// missing in it.
+pub fn remark_on_fate<F: Files>(
+    alloc: Global,
+    listing: &Listing<'_>,
+    node: &Node,
+    fate: Fate,
+    totals: &mut Totals,
+    files: &F,
+) {
+    let Some(sort) = sort_of(node, fate) else {
+        if fate == Fate::Made && matches!(node.standing, Standing::Torn(_)) {
+            remark_on_folder(alloc, node, files);
         }
-        Fate::Made | Fate::Written | Fate::Skipped | Fate::Passed => {}
+        return;
+    };
+    totals.count(sort);
+    if sort == Sort::Written {
+        return;
+    }
+    if let Ok(line) = line_of(alloc, listing, node, sort, files) {
+        files.remark(line.as_str());
+    }
+}
+
+/// Shows that names may be missing in a folder.
+fn remark_on_folder<F: Files>(alloc: Global, node: &Node, files: &F) {
+    let mut line = String::new(alloc);
+    if push_shown_path(&mut line, &node.path).is_ok()
+        && line.push_str(": torn: names may be missing").is_ok()
+    {
+        files.remark(line.as_str());
+    }
+}
+
+/// Appends how many there are of a sort, if there are any, after a comma.
+fn push_count(text: &mut String, count: usize, one: &str, more: &str) -> Result<(), AllocError> {
+    match count {
+        0 => Ok(()),
+        1 => write!(text, ", 1 {one}"),
+        _ => write!(text, ", {count} {more}"),
+    }
+}
+
+/// How many there are of each sort, in a line: what is written first, and then what is there of the rest.
+fn line_of_totals(alloc: Global, totals: &Totals) -> Result<String, AllocError> {
+    let written = totals.written;
+    let mut line = format!(in alloc; "{written} written")?;
+    push_count(&mut line, totals.filled, "filled", "filled")?;
+    push_count(&mut line, totals.torn, "torn", "torn")?;
+    push_count(&mut line, totals.unread, "unread", "unread")?;
+    push_count(&mut line, totals.links, "link", "links")?;
+    push_count(&mut line, totals.loops, "loop", "loops")?;
+    push_count(&mut line, totals.faults, "fault", "faults")?;
+    push_count(
+        &mut line,
+        totals.others,
+        "of another type",
+        "of other types",
+    )?;
+    push_count(&mut line, totals.failed, "failed", "failed")?;
+    Ok(line)
+}
+
+/// Shows as a remark how many there are of each sort.
+pub fn remark_on_totals<F: Files>(alloc: Global, totals: &Totals, files: &F) {
+    if let Ok(line) = line_of_totals(alloc, totals) {
+        files.remark(line.as_str());
     }
 }

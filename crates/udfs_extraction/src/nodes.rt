@@ -11,7 +11,7 @@ ghost use Rattle.udfs_extraction.specs.ShortNames.{own_name};
 ghost use Rattle.udfs_extraction.specs.Refused.{NodesStop};
 
 use crate::choosing::all_are_nodes;
-use crate::fate_remarks::remark_on_fate;
+use crate::fate_remarks::{Totals, remark_on_fate, remark_on_totals};
 use crate::manifest::{Noted, note};
 use crate::node_files::{node_at, put_chosen, put_folder};
 use crate::places::place_of;
@@ -74,6 +74,8 @@ struct Told {
     good: bool,
     /// Whether the output took all lines.
     heard: bool,
+    /// How many there are of each sort.
+    totals: Totals,
     /// The files that were written, with their digests, where these are wanted.
     manifest: Vec<Noted>,
 }
@@ -117,6 +119,7 @@ fn put_nodes<F: Files, O: Sink>(
     let mut manifest = Vec::new(alloc);
     let mut made = Vec::new(alloc);
     let mut way = Vec::new(alloc);
+    let mut totals = Totals::new();
     for index in 1..listing.nodes.len() {
         let target = place_of(alloc, listing, index, short, &mut way)?;
         let place = target.text.as_str();
@@ -127,7 +130,7 @@ fn put_nodes<F: Files, O: Sink>(
         note(&mut manifest, done, index)?;
         good = still_good(good, done.fate);
         heard = tell(alloc, heard, done.fate, &node.path, &target.own, out)?;
-        remark_on_fate(alloc, done.fate, &node.path, files);
+        remark_on_fate(alloc, listing, node, done.fate, &mut totals, files);
         note_time(
             alloc, node, index, only, done.fate, folder, place, &mut made, times, files,
         );
@@ -136,6 +139,7 @@ fn put_nodes<F: Files, O: Sink>(
     Ok(Told {
         good,
         heard,
+        totals,
         manifest,
     })
 }
@@ -203,6 +207,7 @@ pub fn put_report<F: Files, O: Sink>(
                 return Err(Refusal::Output);
             }
             remark_on_left_out(alloc, listing, files);
+            remark_on_totals(alloc, &told.totals, files);
             Ok(Made {
                 good: is_all_good(told.good, whole),
                 manifest: Some(told.manifest),

@@ -80,6 +80,9 @@ pub trait Files {
     /// Where a path leads, every link followed.
     ghost real: { Self → List ℕ → List ℕ };
 
+    /// This path names no link, as far as is known.
+    ghost is_no_link: { Self → List ℕ → Type 0 };
+
     /// At this path may be something that is no file: bytes that are written there are not held.
     ghost in_place: { Self → List ℕ → Type 0 };
 
@@ -152,6 +155,7 @@ pub trait Files {
         ensures handle { IfOk result (λ output. tells → Self.Output.place output ≡ path.now) }
         ensures empty { IfOk result (λ output. tells → (Self.Output.stream output).contents ≡ Some []) }
         ensures absent { OnOk result (tells → holds self.old path.now ≡ Some None) }
+        ensures link { OnOk result (is_no_link self.new path.now) }
         ensures written { OnOk result (holds self.new path.now ≡ None) }
         ensures failed { OnErr result ((q : List ℕ) → holds self.new q ≡ holds self.old q) }
         ensures others { (q : List ℕ) → q ≢ path.now → holds self.new q ≡ holds self.old q }
@@ -191,6 +195,7 @@ pub trait Files {
         ensures durable { OnOk result ((bytes : List ℕ) (c : Option (List ℕ)) → tells → (Self.Output.stream output).contents ≡ Some bytes → kept self.new path.now c → c ≡ Some bytes) }
         ensures others { (q : List ℕ) → q ≢ path.now → holds self.new q ≡ holds self.old q }
         ensures kept { (q : List ℕ) (c : Option (List ℕ)) → q ≢ path.now → kept self.new q c → kept self.old q c }
+        ensures links { (q : List ℕ) → is_no_link self.old q → is_no_link self.new q }
         ensures real { real self.new ≡ real self.old }
         ensures count { CountsFault (faults self.old) (faults self.new) result }
         ensures crash { Goes moment may_leave left_since self.old self.new (SameBut path.now) };
@@ -208,6 +213,7 @@ pub trait Files {
         ensures others { (q : List ℕ) → q ≢ from.now → q ≢ to.now → holds self.new q ≡ holds self.old q }
         ensures durable { OnOk result ((c : Option (List ℕ)) → kept self.new to.now c → kept self.old from.now c) }
         ensures kept { (q : List ℕ) (c : Option (List ℕ)) → q ≢ from.now → q ≢ to.now → kept self.new q c → kept self.old q c }
+        ensures links { OnErr result ((q : List ℕ) → is_no_link self.old q → is_no_link self.new q) }
         ensures real { real self.new ≡ real self.old }
         ensures count { CountsFault (faults self.old) (faults self.new) result }
         ensures crash { Goes moment may_leave left_since self.old self.new (Moved from.now to.now (kept self.old from.now)) };
@@ -225,7 +231,7 @@ pub trait Files {
         ensures count { CountsFault (faults self.old) (faults self.new) result }
         ensures crash { Goes moment may_leave left_since self.old self.new Same };
 
-    /// Removes a file. A crash may leave it until the folder is synced, whole.
+    /// Removes a file, and follows no link. A crash may leave it until the folder is synced, whole.
     ///
     /// # Errors
     ///
@@ -235,7 +241,8 @@ pub trait Files {
         ensures failed { OnErr result ((q : List ℕ) → holds self.new q ≡ holds self.old q) }
         ensures others { (q : List ℕ) → q ≢ path.now → holds self.new q ≡ holds self.old q }
         ensures kept { (q : List ℕ) (c : Option (List ℕ)) → q ≢ path.now → kept self.new q c → kept self.old q c }
-        ensures real { real self.new ≡ real self.old }
+        // Where a link is removed, paths lead elsewhere.
+        ensures real { is_no_link self.old path.now → real self.new ≡ real self.old }
         ensures count { CountsFault (faults self.old) (faults self.new) result }
         ensures crash { Goes moment may_leave left_since self.old self.new (SameBut path.now) }
         ensures either { Goes moment may_leave left_since self.old self.new (Gone path.now) };

@@ -31,7 +31,7 @@ use udfs_reading::DeviceFault;
 use udfs_times::{Times, Zone};
 
 /// The machine's files, over its system calls. What a file holds that was there when the run began is known where the calls tell it; of what is
-/// written nothing is told. A link is neither moved nor replaced nor removed. The runtime gives memory and the zone of its clock alone.
+/// written nothing is told. A link is neither moved nor replaced. The runtime gives memory and the zone of its clock alone.
 #[derive(Drop)]
 pub struct Machine<'a, C: Calls, R: std::rt::Files + Env + AllocGlobal, N: Watch> {
     calls: C,
@@ -94,6 +94,8 @@ impl<'a, C: Calls, R: std::rt::Files + Env + AllocGlobal, N: Watch> Files for Ma
     ghost holds = { λ m. holds_from_start (C.log m.calls) };
 
     ghost real = { λ m. C.real m.calls };
+
+    ghost is_no_link = { λ m p. C.link_at m.calls p ≡ None };
 
     ghost in_place = { λ _ _. ⊤ };
 
@@ -166,6 +168,7 @@ impl<'a, C: Calls, R: std::rt::Files + Env + AllocGlobal, N: Watch> Files for Ma
         ensures holds { OnOk result ((bytes : List ℕ) → ⊥ → contents_of (C.File.state output.entry.file) output.entry.size ≡ Some bytes → holds_from_start (C.log self.new.calls) _path.now ≡ Some (Some bytes)) }
         ensures durable { OnOk result ((bytes : List ℕ) (c : Option (List ℕ)) → ⊥ → contents_of (C.File.state output.entry.file) output.entry.size ≡ Some bytes → ⊤ → c ≡ Some bytes) }
         ensures others { (q : List ℕ) → q ≢ _path.now → holds_from_start (C.log self.new.calls) q ≡ holds_from_start (C.log self.old.calls) q }
+        ensures links { (q : List ℕ) → C.link_at self.old.calls q ≡ None → C.link_at self.new.calls q ≡ None }
         ensures real { C.real self.new.calls ≡ C.real self.old.calls }
         ensures count { CountsFault self.old.faults self.new.faults result }
         ensures crash { Goes (λ _. 0) (λ _ _. ⊤) (λ _ _ _. ⊤) self.old self.new (SameBut _path.now) }
@@ -193,7 +196,7 @@ impl<'a, C: Calls, R: std::rt::Files + Env + AllocGlobal, N: Watch> Files for Ma
     }
 
     fn remove(&mut self, path: &str) -> Result<(), DeviceFault> {
-        let outcome = remove(&mut self.calls, self.rt.alloc(), path);
+        let outcome = remove(&mut self.calls, path);
         self.heeded(outcome)
     }
 

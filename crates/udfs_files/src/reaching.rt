@@ -1,7 +1,7 @@
 //! What the machine's files ask of the system, call by call: what is opened holds what its path leads to, and what is written gets to its path.
 
 ghost use Rattle.std.specs.IoError.{error_kind};
-ghost use Rattle.std.specs.Prelude.{◌≡◌, ◌⊎◌, [], Some, None, IfOk, IfErr, IfSome, OnOk, OnErr, OnSome, IsNone, string_bytes};
+ghost use Rattle.std.specs.Prelude.{◌≡◌, ◌⊎◌, ℕ, List, [], Some, None, IfOk, IfErr, IfSome, OnOk, OnErr, OnSome, IsNone, string_bytes};
 ghost use Rattle.udfs_calls.specs.Files.{bytes_of, rest_of};
 ghost use Rattle.udfs_calls.specs.Log.{Names, NamesSome, after, after_sync, holds, moment_of};
 ghost use Rattle.udfs_calls.specs.Log.Call.{created, opened, renamed, removed, failed, folder_synced};
@@ -79,6 +79,7 @@ pub(crate) fn create<'a, C: Calls, N: Watch>(
     ensures failed { OnErr result (C.log calls.new ≡ after (failed (created path.now)) (C.log calls.old)) }
     ensures number { IfOk result (λ output. C.tells → C.File.number output.file ≡ Some (moment_of (C.log calls.old))) }
     ensures empty { IfOk result (λ output. IfSome (contents_of (C.File.state output.file) output.size) (λ taken. taken ≡ [])) }
+    ensures link { OnOk result (C.link_at calls.new path.now ≡ None) }
     ensures real { C.real calls.new ≡ C.real calls.old }
 {
     let file = calls.create_new(path)?;
@@ -119,6 +120,7 @@ pub(crate) fn open_in_place<'a, C: Calls, N: Watch>(
 fn sync_file<C: Calls>(calls: &mut C, file: &C::File) -> Result<(), Error>
     ensures done { OnOk result (C.log calls.new ≡ after_sync (C.File.number file.now) (bytes_of (C.File.state file.now)) (C.log calls.old)) }
     ensures failed { OnErr result (C.log calls.new ≡ C.log calls.old) }
+    ensures links { (q : List ℕ) → C.link_at calls.new q ≡ C.link_at calls.old q }
     ensures real { C.real calls.new ≡ C.real calls.old }
 {
     match calls.sync(file) {
@@ -134,6 +136,7 @@ pub(crate) fn sync_output<'a, C: Calls, N: Watch>(
 ) -> Result<(), Error>
     ensures done { OnOk result (C.log calls.new ≡ after_sync (C.File.number output.entry.file) (contents_of (C.File.state output.entry.file) output.entry.size) (C.log calls.old)) }
     ensures failed { OnErr result (C.log calls.new ≡ C.log calls.old) }
+    ensures links { (q : List ℕ) → C.link_at calls.new q ≡ C.link_at calls.old q }
     ensures real { C.real calls.new ≡ C.real calls.old }
 {
     let file = output.into_file()?;
@@ -192,6 +195,7 @@ pub(crate) fn rename<C: Calls>(
 ) -> Result<(), Error>
     ensures done { OnOk result (C.log calls.new ≡ after (renamed from.now to.now) (C.log calls.old)) }
     ensures failed { OnErr result ((C.log calls.new ≡ C.log calls.old) ⊎ (C.log calls.new ≡ after (failed (renamed from.now to.now)) (C.log calls.old))) }
+    ensures links { OnErr result ((q : List ℕ) → C.link_at calls.new q ≡ C.link_at calls.old q) }
     ensures real { C.real calls.new ≡ C.real calls.old }
 {
     refuse_link(calls, alloc, from)?;
@@ -199,13 +203,12 @@ pub(crate) fn rename<C: Calls>(
     calls.rename(from, to)
 }
 
-/// Removes the name of a file, if it is no link.
-pub(crate) fn remove<C: Calls>(calls: &mut C, alloc: Global, path: &str) -> Result<(), Error>
+/// Removes a name. What it names need not be asked for, since no link is followed: an error is that of the removal itself.
+pub(crate) fn remove<C: Calls>(calls: &mut C, path: &str) -> Result<(), Error>
     ensures done { OnOk result (C.log calls.new ≡ after (removed path.now) (C.log calls.old)) }
-    ensures failed { OnErr result ((C.log calls.new ≡ C.log calls.old) ⊎ (C.log calls.new ≡ after (failed (removed path.now)) (C.log calls.old))) }
-    ensures real { C.real calls.new ≡ C.real calls.old }
+    ensures failed { OnErr result (C.log calls.new ≡ after (failed (removed path.now)) (C.log calls.old)) }
+    ensures real { C.link_at calls.old path.now ≡ None → C.real calls.new ≡ C.real calls.old }
 {
-    refuse_link(calls, alloc, path)?;
     calls.remove(path)
 }
 

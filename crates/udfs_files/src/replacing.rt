@@ -74,6 +74,8 @@ fn write_new<F: Files, J: Job>(
     ensures ours { IfErr result (λ e. e ≢ JobError.Files ReplaceError.NotMade → F.tells → F.holds files.old own.now ≡ Some None) }
     ensures refused { IfErr result (λ e. EndsNew e) }
     ensures cause { IfErr result (λ e. JobBlames (J.blames_sink job.now) (Fails F.faults ⊎ SinkFails F.Output.stream) e) }
+    ensures link { OnOk result (F.is_no_link files.new own.now) }
+    ensures begun { IfErr result (λ e. e ≢ JobError.Files ReplaceError.NotMade → F.is_no_link files.new own.now) }
     ensures real { F.real files.new ≡ F.real files.old }
     ensures crash { Goes F.moment F.may_leave F.left_since files.old files.new (SameBut own.now) }
 {
@@ -97,7 +99,7 @@ fn give_up<F: Files, X>(files: &mut F, own: &str, refusal: Option<X>) -> JobErro
     ensures others { (q : List ℕ) → q ≢ own.now → F.holds files.new q ≡ F.holds files.old q }
     ensures told { GivesUp refusal result }
     ensures cause { IsJobLeft result → Fails F.faults }
-    ensures real { F.real files.new ≡ F.real files.old }
+    ensures real { F.is_no_link files.old own.now → F.real files.new ≡ F.real files.old }
     ensures crash { Goes F.moment F.may_leave F.left_since files.old files.new (SameBut own.now) }
 {
     match (files.remove(own), refusal) {

@@ -3,6 +3,8 @@ pub mod CursorLemmas
 pub mod RecordedLemmas
 pub mod IndexLemmas
 pub mod WindowLemmas
+pub mod PlacedLemmas
+pub mod HeadLemmas
 pub mod CopyLemmas
 pub mod PackLemmas
 pub mod EntryLemmas

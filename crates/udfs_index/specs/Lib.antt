@@ -5,3 +5,4 @@ pub mod Index
 pub mod Windows
 pub mod Copying
 pub mod Stores
+pub mod Placed

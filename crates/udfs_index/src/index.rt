@@ -3,18 +3,21 @@
 ghost use Rattle.std.specs.Prelude.{◌≡◌, ℕ, ◌+◌, ◌*◌, ◌^◌, ◌≤◌, ◌<◌, List, Some, map, length, take, drop, IfOk, IfSome, OnOk, OnErr};
 ghost use Rattle.udfs_lattice.specs.declared.facts.Fact.TheVariants.{Unknown, Known, Conflict};
 ghost use Rattle.udfs_lattice.specs.Tables.{Table, IsTable, conflict_count, empty_table, known_count, join_tables, one_entry, one_record};
+ghost use Rattle.udfs_reading.specs.Field.{TakesBlock};
+ghost use Rattle.udfs_reading.specs.Gains.{Gains};
 ghost use Rattle.udfs_reading.specs.PacketFile.{table_bytes};
 ghost use Rattle.udfs_reading.specs.Places.{HasBlockAt};
 ghost use Rattle.udfs_reading.specs.TableFile.{table_bytes_v1};
 ghost use Rattle.udfs_index.specs.Copying.{AreAllTold, BlamesNone, Copies, CountsSink, NoneFails};
 ghost use Rattle.udfs_index.specs.Index.{Took, IsAtPlace, IsPlaceOf, contents_of, input_by};
-ghost use Rattle.udfs_index.specs.Places.{AreHeld};
+ghost use Rattle.udfs_index.specs.Places.{AreHeld, behind};
 ghost use Rattle.udfs_index.specs.Recorded.{IsOf, IsRecordedAt, TakesNext};
 ghost use Rattle.udfs_index.specs.Slots.{slot_at};
 
 use crate::cursor::Cursor;
 use crate::fault::{CopyFault, Unread};
 use crate::inputs::{BYTES, read_from};
+use crate::placed::PlaceTaker;
 use crate::places::{NOWHERE, Places, end_of};
 use crate::recorded::{RecordTaker, take_records};
 use crate::stamp::Stamp;
@@ -226,6 +229,27 @@ impl<'a, S: Stored> Index<'a, S> {
         }
     }
 
+    /// Takes these bytes of a block, which are at position `at` of `stored`, the input that is being taken.
+    fn put_read(
+        &mut self,
+        block: u32,
+        bytes: &[u8; 2048],
+        at: u64,
+        stored: &S,
+    ) -> Result<(), NotTaken>
+        requires block { block ≤ 4194303 }
+        requires is { IsOf (input_by (contents_of S.content self.now.inputs.items) self.now.begun) (S.content stored.now) }
+        requires read { IfSome (S.content stored.now) (λ all. take 2048 (drop at all) ≡ bytes.now) }
+        ensures ok { OnOk result (Gains (Took (contents_of S.content self.old.inputs.items) self.old.places.packets.items) (Took (contents_of S.content self.new.inputs.items) self.new.places.packets.items) (TakesBlock (behind at (S.content stored.now)) (behind (at + 2048) (S.content stored.now)) block)) }
+        ensures input { input_by (contents_of S.content self.new.inputs.items) self.new.begun ≡ input_by (contents_of S.content self.old.inputs.items) self.old.begun }
+    {
+        let _ = stored;
+        match self.put(block, bytes, at) {
+            Ok(()) => Ok(()),
+            Err(NotTaken) => Err(NotTaken),
+        }
+    }
+
     /// The bytes at a place.
     ///
     /// # Errors
@@ -357,5 +381,29 @@ impl<'a, S: Stored> RecordTaker<S> for Index<'a, S> {
                 Err(NotTaken) => Err(NotTaken),
             },
         }
+    }
+}
+
+impl<'a, S: Stored + 'a> PlaceTaker<'a, S> for Index<'a, S> {
+    fn take_placed(&mut self, stored: &S, block: u32, at: u64) -> Result<(), NotTaken> {
+        match self.places.slot(block) {
+            Fact::Unknown => match self.keep(block, at) {
+                Ok(()) => Ok(()),
+                Err(NotTaken) => Err(NotTaken),
+            },
+            Fact::Known(_) => match self.read_own(stored, at) {
+                Ok(bytes) => match self.put_read(block, &bytes, at, stored) {
+                    Ok(()) => Ok(()),
+                    Err(NotTaken) => Err(NotTaken),
+                },
+                Err(NotTaken) => Err(NotTaken),
+            },
+            Fact::Conflict => Ok(()),
+        }
+    }
+
+    fn miss(&mut self, at: u64) {
+        let input = self.inputs.len().saturating_sub(1);
+        self.failed = Some(Unread { input, at });
     }
 }

@@ -45,3 +45,12 @@ kept_alike {A} {B} f p g same keeps (x ∷ xs) = ap (λ b. map f (cond b (g x �
     go : (b : Bool) → map f (filter p (map g xs)) ≡ map f (filter p xs) → map f (cond b (g x ∷ filter p (map g xs)) (filter p (map g xs))) ≡ map f (cond b (x ∷ filter p xs) (filter p xs))
     go true e = λ i. keeps x i ∷ e i
     go false e = e
+
+-- and what passes is changed with them
+pub passes_alike : {A : Type 0} (p : A → Bool) (g : A → A) → ((x : A) → p (g x) ≡ p x) → (xs : List A) → filter p (map g xs) ≡ map g (filter p xs)
+passes_alike p g same [] = refl
+passes_alike {A} p g same (x ∷ xs) = ap (λ b. cond b (g x ∷ filter p (map g xs)) (filter p (map g xs))) (same x) ∙ go (p x) (passes_alike p g same xs)
+  where
+    go : (b : Bool) → filter p (map g xs) ≡ map g (filter p xs) → cond b (g x ∷ filter p (map g xs)) (filter p (map g xs)) ≡ map g (cond b (x ∷ filter p xs) (filter p xs))
+    go true e = λ i. g x ∷ e i
+    go false e = e

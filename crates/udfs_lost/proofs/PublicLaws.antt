@@ -19,7 +19,7 @@ use Rattle.udfs_tree.proofs.Wanted.{met_is_whole}
 use Rattle.udfs_walk.specs.Bare.{full_entry}
 use Rattle.udfs_lost.specs.Folders.{icb_of_entry, is_lost_folder}
 use Rattle.udfs_lost.specs.LostFiles.{BareEntriesWillDo, is_lost_file}
-use Rattle.udfs_lost.proofs.Kept.{kept_alike}
+use Rattle.udfs_lost.proofs.Kept.{kept_alike, passes_alike}
 use Rattle.udfs_lost.specs.Subtrees.{IsFolderAt, IsNodeBelow, IsWholeBelow, LostTreesFit, LostTreesReach, LostTreesTell, NeededBelow, SubtreeIsBelow, SubtreeIsLawful}
 use Rattle.udfs_lost.proofs.ReachLemmas.{reached}
 use Rattle.udfs_lost.proofs.FolderTrees.{folder_is_sound, in_part, in_whole, needed}
@@ -72,5 +72,5 @@ lost_trees_reach all blocks c has root l path icb f some part nodes are g t = le
 pub bare_entries_will_do : BareEntriesWillDo
 bare_entries_will_do view deleted trees entries = record {
   folders = kept_alike icb_of_entry (is_lost_folder view deleted) (full_entry view) (λ u. refl) (λ u. refl) entries;
-  files = kept_alike icb_of_entry (is_lost_file view deleted trees) (full_entry view) (λ u. refl) (λ u. refl) entries;
+  files = passes_alike (is_lost_file view deleted trees) (full_entry view) (λ u. refl) entries;
 }

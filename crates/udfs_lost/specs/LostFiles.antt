@@ -29,13 +29,13 @@ abbrev pub is_lost_file : View → Bool → List LostTree → Unnamed → Bool
 is_lost_file view deleted trees u = is_file u.kind && is_taken view deleted u && not (is_named_in view trees (icb_of_entry u))
 
 -- the lost files among entries without a name
-abbrev pub lost_files : View → Bool → List LostTree → List Unnamed → List Icb
-lost_files view deleted trees entries = map icb_of_entry (filter (is_lost_file view deleted trees) entries)
+abbrev pub lost_files : View → Bool → List LostTree → List Unnamed → List Unnamed
+lost_files view deleted trees entries = filter (is_lost_file view deleted trees) entries
 
 -- Of entries without their blocks and holes the same ones are lost as of the entries with them.
 pub record BareEntriesDo (view : View) (deleted : Bool) (trees : List LostTree) (entries : List Unnamed) : Type 0 where
   pub folders : lost_folders view deleted (map (full_entry view) entries) ≡ lost_folders view deleted entries
-  pub files : lost_files view deleted trees (map (full_entry view) entries) ≡ lost_files view deleted trees entries
+  pub files : lost_files view deleted trees (map (full_entry view) entries) ≡ map (full_entry view) (lost_files view deleted trees entries)
 
 -- for all entries
 abbrev pub BareEntriesWillDo : Type 0

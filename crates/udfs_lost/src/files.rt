@@ -1,6 +1,6 @@
 //! Lost files: files that no known name leads to, not even in a lost folder.
 
-ghost use Rattle.std.specs.Prelude.{◌≡◌, ◌&&◌, ◌||◌, IfOk, not};
+ghost use Rattle.std.specs.Prelude.{◌≡◌, ◌&&◌, ◌||◌, IfOk, map, not};
 ghost use Rattle.std.specs.List.{list_any};
 ghost use Rattle.udfs_lattice.specs.Volumes.{Blocks};
 ghost use Rattle.udfs_space.specs.Places.{view};
@@ -69,20 +69,20 @@ fn is_lost(view: View<'_>, deleted: bool, named: &Met, entry: &Unnamed) -> bool
 /// # Errors
 ///
 /// [`OutOfMemory`] where memory runs out.
-pub fn lost_files(
+pub fn lost_files<'a>(
     alloc: Global,
     view: View<'_>,
     deleted: bool,
     trees: &[LostTree],
-    entries: &[Unnamed],
-) -> Result<Vec<LbAddr>, OutOfMemory>
-    ensures { IfOk result (λ files. files.items ≡ lost_files (view_now view.entry) deleted trees.now entries.now) }
+    entries: &'a [Unnamed],
+) -> Result<Vec<&'a Unnamed>, OutOfMemory>
+    ensures { IfOk result (λ files. map (λ file. file.now) files.items ≡ lost_files (view_now view.entry) deleted trees.now entries.now) }
 {
     let named = named_in(alloc, view.space, trees)?;
     let mut files = Vec::new(alloc);
     for entry in entries {
         if is_lost(view, deleted, &named, entry) {
-            files.push(entry.address())?;
+            files.push(entry)?;
         }
     }
     Ok(files)

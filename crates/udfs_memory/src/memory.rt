@@ -347,6 +347,8 @@ impl Files for Memory {
 
     ghost real = { λ _ p. p };
 
+    ghost is_no_link = { λ _ _. ⊤ };
+
     ghost in_place = { λ _ _. ⊤ };
 
     ghost shut = { λ _ _. ⊤ };

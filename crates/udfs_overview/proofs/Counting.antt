@@ -1,5 +1,5 @@
 -- What is counted of nodes: one node more, and nodes whose lists were let go.
-use Rattle.std.proofs.Common.{◌≡◌, refl, ap, ◌∙◌, arith, ℕ, ◌+◌, ◌-◌, ◌^◌, ◌<◌, Bool, true, false, ◌&&◌, List, [], ◌∷◌, cond, length, map, take, get_or, Option, None, nat_lt}
+use Rattle.std.proofs.Common.{◌≡◌, refl, ap, ◌∙◌, arith, ℕ, ◌+◌, ◌-◌, ◌^◌, ◌<◌, Bool, true, false, not, ◌&&◌, List, [], ◌∷◌, cond, length, map, sym, take, get_or, Option, Some, None, nat_lt}
 use Rattle.std.specs.Prelude.{count_by, filter_map, fold, is_none, is_some, min, unwrap_or}
 use Rattle.std.specs.List.{cons_option}
 use Rattle.std.proofs.lemmas.List.Sums.{sum_by-cons, sum_by_more}
@@ -19,8 +19,10 @@ use Rattle.udfs_overview.specs.declared.tallies.Tally.{Tally}
 use Rattle.udfs_overview.specs.declared.tallies.NodeSort.{NodeSort}
 use Rattle.udfs_overview.specs.declared.tallies.NodeSort.TheVariants as sort
 use Rattle.udfs_overview.specs.LeftOut.{left_out_by, left_out_type, left_out_types, other_type}
-use Rattle.udfs_overview.specs.NodeLists.{lost_of}
-use Rattle.udfs_overview.specs.Tallies.{at_most_128_bits, bytes_of, count_of, is_aside, is_left_out, is_node_of, is_of, is_other, lost_in, node_count, or_zero, tally_of}
+use Rattle.udfs_overview.specs.Tallies.{at_most_128_bits, bytes_of, count_of, damaged_count, disputed_count, is_aside, is_left_out, is_node_of, is_of, is_other, node_count, or_zero, tally_of, torn_files, torn_part}
+use Rattle.udfs_overview.specs.TornFiles.{lost_in}
+use Rattle.udfs_overview.specs.TornRows.{TornPart}
+use Rattle.udfs_overview.specs.declared.tallies.TornFile.{TornFile}
 
 -- the lists do not say of which sort a node is
 pub same_of : (a : NodeSort) (lists : TornFields) (s : Standing) (k : Kind) → is_of a (with_lists lists s) k ≡ is_of a s k
@@ -89,13 +91,41 @@ left_full M (found f) ns = let v : View = view M f.space in
 left_full M (holes listed) ns = refl
 left_full M (faulty fault) ns = refl
 
--- one node more
-pub lost_more : (a : NodeSort) (ns : List NodeFields) (i : ℕ) (d : NodeFields) → i < length ns
-    → min (at_most_128_bits (lost_in a (take i ns)) + cond (is_node_of a (get_or ns i d)) (or_zero (lost_of (get_or ns i d).standing (get_or ns i d).kind)) 0) (2 ^ 128 - 1)
-    ≡ at_most_128_bits (lost_in a (take (i + 1) ns))
-lost_more a ns i d l =
-    let more = sum_by_more (λ (n : NodeFields). cond (is_node_of a n) (or_zero (lost_of n.standing n.kind)) 0) ns i d l in
+-- a sum over changed elements is one over the elements
+pub sum_mapped : {A B : Type 0} (w : B → ℕ) (g : A → B) (a : ℕ) (xs : List A) → fold (λ b x. b + w x) a (map g xs) ≡ fold (λ b x. b + w (g x)) a xs
+sum_mapped w g a [] = refl
+sum_mapped w g a (x ∷ xs) = sum_mapped w g (a + w (g x)) xs
+
+-- one torn file more
+pub lost_more : (files : List TornFile) (i : ℕ) (d : TornFile) → i < length files
+    → min (at_most_128_bits (lost_in (take i files)) + cond (get_or files i d).disputed 0 (get_or files i d).lost) (2 ^ 128 - 1) ≡ at_most_128_bits (lost_in (take (i + 1) files))
+lost_more files i d l =
+    let more = sum_by_more (λ (f : TornFile). cond f.disputed 0 f.lost) files i d l in
     omega (arith, more)
+
+one_or_other : (b : Bool) → cond (not b) 1 0 + cond b 1 0 ≡ 1
+one_or_other true = refl
+one_or_other false = refl
+
+one_more : (torn : Bool) (f : TornPart) (fs : List TornPart) (m : ℕ) → damaged_count fs + disputed_count fs ≡ m
+    → damaged_count (cons_option (cond torn (Some f) None) fs) + disputed_count (cons_option (cond torn (Some f) None) fs) ≡ cond torn 1 0 + m
+one_more true f fs m e =
+    omega (
+      arith,
+      sum_by-cons (λ (f : TornPart). cond (not f.disputed) 1 0) f fs,
+      sum_by-cons (λ (f : TornPart). cond f.disputed 1 0) f fs,
+      one_or_other f.disputed,
+      e,
+    )
+one_more false f fs m e = omega (arith, e)
+
+-- a torn file is disputed or not
+both_kinds : (blocks : Blocks) (ns : List NodeFields) → damaged_count (torn_files blocks ns) + disputed_count (torn_files blocks ns) ≡ count_of sort.TornFile ns
+unfolding torn_files
+both_kinds blocks [] = refl
+both_kinds blocks (n ∷ ns) =
+    one_more (is_node_of sort.TornFile n) (torn_part blocks n) (torn_files blocks ns) (count_of sort.TornFile ns) (both_kinds blocks ns)
+    ∙ sym (sum_by-cons (λ n. cond (is_node_of sort.TornFile n) 1 0) n ns)
 
 -- each node is of one sort
 each_once : (s : Standing) (k : Kind)
@@ -159,6 +189,6 @@ all_counted (n ∷ ns) =
       all_counted ns,
     )
 
-pub tally_counts_all : (t : Tally) (ns : List NodeFields) → t ≡ tally_of ns → node_count t ≡ length ns
+pub tally_counts_all : (t : Tally) (blocks : Blocks) (ns : List NodeFields) → t ≡ tally_of blocks ns → node_count t ≡ length ns
 unfolding tally_of
-tally_counts_all t ns e = ap node_count e ∙ all_counted ns
+tally_counts_all t blocks ns e = ap node_count e ∙ omega (arith, all_counted ns, both_kinds blocks ns)

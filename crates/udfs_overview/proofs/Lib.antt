@@ -5,6 +5,8 @@ mod CopyLoops
 mod Counting
 mod DiscCounting
 mod FullFolders
+mod Headed
+mod LostPieces
 mod Moving
 mod PathNames
 mod Places
@@ -13,6 +15,7 @@ mod SafeParts
 mod SafeShowing
 mod SafeTelling
 mod SeenNodes
+mod ShortTimes
 mod SpareCopies
 mod SpareLaws
 mod Streaming

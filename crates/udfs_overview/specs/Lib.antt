@@ -3,6 +3,10 @@ pub mod SafeFronts
 pub mod SafeNames
 pub mod NodeLists
 pub mod LeftOut
+pub mod Narrow
+pub mod TornRows
+pub mod LostTrees
+pub mod LostLists
 pub mod Tallies
 pub mod DiscTallies
 pub mod Sentences
@@ -11,8 +15,8 @@ pub mod Streams
 pub mod MovedTags
 pub mod Spares
 pub mod VolumeLines
-pub mod TornRows
 pub mod TornLists
+pub mod TornFiles
 pub mod UnreadLists
 pub mod Disagreements
 pub mod Repeating

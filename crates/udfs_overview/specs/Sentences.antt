@@ -29,10 +29,10 @@ complete_text n = if n == 0 then codes "No file is complete" else counted n (by_
 unfoldable pub files_part : Tally → List ℕ
 files_part t = complete_text t.whole_files ++ part (codes ", ") t.torn_files (codes " damaged") ++ part (codes ", ") t.unread (codes " could not be looked at")
 
--- what has faults, the files of a type that is not written, and the folders that are torn
+-- the files of which readings differ, what has faults, the files of a type that is not written, and the folders that are torn
 unfoldable pub folders_part : Tally → List ℕ
 folders_part t =
-    part (codes ",\n") t.faulty (codes " with faults") ++ part (codes ",\n") t.left_out (codes " of a type that is not written")
+    part (codes ",\n") t.disputed (codes " disputed: two readings differ") ++ part (codes ",\n") t.faulty (codes " with faults") ++ part (codes ",\n") t.left_out (codes " of a type that is not written")
     ++ part (codes ",\n") t.torn_folders (by_number t.torn_folders (codes " folder may lack names") (codes " folders may lack names"))
 
 -- how many blocks are worth reading again

@@ -4,6 +4,7 @@
 --     summary_text words rules table last report      all lines
 use Rattle.std.specs.Prelude.{ℕ, ◌-◌, ◌==◌, ◌&&◌, Bool, List, [], ◌∷◌, ◌++◌, Option, Some, None, codes, find, length, option_map, if◌then◌else◌}
 use Rattle.udfs_lattice.specs.Tables.{Table, state_of}
+use Rattle.udfs_lattice.specs.Volumes.{Blocks}
 use Rattle.udfs_volume.specs.Answers.{Answer, found, holes, faulty}
 use Rattle.udfs_volume.specs.declared.profiles.Profile.{Profile}
 use Rattle.udfs_volume.specs.declared.profiles.Profile.TheVariants as profile
@@ -14,6 +15,7 @@ use Rattle.udfs_overview.specs.Disagreements.{apart_lines}
 use Rattle.udfs_overview.specs.DiscTallies.{disc_of, unnamed_of}
 use Rattle.udfs_overview.specs.LeftOut.{left_out_line, left_out_types}
 use Rattle.udfs_overview.specs.MovedTags.{moved_count, moved_line}
+use Rattle.udfs_overview.specs.Narrow.{narrow}
 use Rattle.udfs_overview.specs.NextCommands.{extract_command, needed_steps, summary_command}
 use Rattle.udfs_overview.specs.Repeating.{GivenWords, pass_number}
 use Rattle.udfs_overview.specs.Sentences.{counted, part, sentence}
@@ -21,7 +23,7 @@ use Rattle.udfs_overview.specs.Spares.{spares_disagree, spares_line}
 use Rattle.udfs_overview.specs.Streams.{stream_count, streams_line}
 use Rattle.udfs_overview.specs.SummaryTexts.{disc_line, files_line, others_line, unnamed_line}
 use Rattle.udfs_overview.specs.Tallies.{is_node_of, tally_of}
-use Rattle.udfs_overview.specs.TornLists.{by_loss, more_line, shown_path, torn_rows, torn_text}
+use Rattle.udfs_overview.specs.TornLists.{more_line, shown_path, torn_rows, torn_text}
 use Rattle.udfs_overview.specs.UnreadLists.{unread_paths, unread_text}
 use Rattle.udfs_overview.specs.VolumeLines.{volume_line}
 use Rattle.udfs_overview.specs.Widenings.{widening_by, widening_text}
@@ -35,9 +37,9 @@ use Rattle.udfs_overview.specs.declared.tallies.Tally.{Tally}
 abbrev pub torn_folder : List NodeFields → Option (List (List ℕ))
 torn_folder nodes = option_map (λ (n : NodeFields). n.path) (find (is_node_of sort.TornFolder) nodes)
 
--- where names may be missing
+-- where names may be missing, in 80 columns
 unfoldable pub missing_line : List (List ℕ) → List ℕ
-missing_line path = codes "           names may be missing in " ++ shown_path path ++ codes "\n"
+missing_line path = codes "           names may be missing in " ++ narrow 21 (shown_path path) ++ codes "\n"
 
 -- the first of this many torn directories, and how many more
 abbrev pub missing_in : ℕ → List (List ℕ) → List ℕ
@@ -57,26 +59,20 @@ unfoldable pub folders_line : Tally → Option (List (List ℕ)) → List ℕ
 folders_line t path = if t.whole_folders == 0 && t.torn_folders == 0 then [] else folders_counts t ++ names_missing t.torn_folders path
 
 -- the lines of what is counted of a volume that opens
-unfoldable pub counts_lines : Report → List ℕ
-counts_lines r =
-    files_line (tally_of r.nodes) ++ folders_line (tally_of r.nodes) (torn_folder r.nodes) ++ others_line (tally_of r.nodes)
+unfoldable pub counts_lines : Tally → Report → List ℕ
+counts_lines t r =
+    files_line t ++ folders_line t (torn_folder r.nodes) ++ others_line t
     ++ left_out_line (left_out_types r.nodes) ++ unnamed_line (unnamed_of r.unnamed)
 
 -- the lines of what is found of a volume that opens
-unfoldable pub nodes_lines : Report → List ℕ
-nodes_lines r = sentence (tally_of r.nodes) (length r.reread) ++ counts_lines r
+unfoldable pub nodes_lines : Blocks → Report → List ℕ
+nodes_lines blocks r = sentence (tally_of blocks r.nodes) (length r.reread) ++ counts_lines (tally_of blocks r.nodes) r
 
 -- there is nothing found of a volume that does not open
 abbrev pub found_lines : Table → Answer Found → Report → List ℕ
-found_lines table (found f) r = nodes_lines r ++ streams_line (stream_count (state_of table) r) ++ moved_line (moved_count (state_of table) r) ++ spares_line (spares_disagree (state_of table) r.volume)
+found_lines table (found f) r = nodes_lines (state_of table) r ++ streams_line (stream_count (state_of table) r) ++ moved_line (moved_count (state_of table) r) ++ spares_line (spares_disagree (state_of table) r.volume)
 found_lines table (holes blocks) r = []
 found_lines table (faulty f) r = []
-
--- the torn files of a volume that opens
-abbrev pub torn_lines : Answer Found → Report → List ℕ
-torn_lines (found f) r = torn_text (tally_of r.nodes).torn_files (by_loss (torn_rows r.nodes))
-torn_lines (holes blocks) r = []
-torn_lines (faulty f) r = []
 
 -- ---- what to do next
 
@@ -130,5 +126,5 @@ next_lines g rules table last r = next_by g rules table last r r.reread
 unfoldable pub summary_text : GivenWords → Profile → Table → ℕ → Report → List ℕ
 summary_text g rules table last r =
     volume_line r.volume last ++ apart_lines rules (state_of table) last ++ found_lines table r.volume r ++ disc_line (disc_of table last r.reread) ++ unread_text (unread_paths r.nodes)
-    ++ torn_lines r.volume r
+    ++ torn_text (torn_rows (state_of table) r.nodes)
     ++ next_lines g rules table last r

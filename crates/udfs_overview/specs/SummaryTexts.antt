@@ -24,6 +24,7 @@ torn_files_text t = if t.torn_files == 0 then [] else codes "           " ++ los
 unfoldable pub files_line : Tally → List ℕ
 files_line t =
     codes "Files      " ++ whole_files_text t ++ torn_files_text t
+    ++ part (codes "           ") t.disputed (codes " disputed: two readings differ, nothing is lost\n")
     ++ part (codes "           ") t.unread (by_number t.unread (codes " not yet known: a file or a whole folder\n") (codes " not yet known: files or whole folders\n"))
 
 -- the lines of links and devices, of faults and of loops, if there are any; files of a type that is not written have their own

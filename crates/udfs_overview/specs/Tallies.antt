@@ -2,9 +2,12 @@
 --     is_of sort standing kind     a node of this standing and kind is of the sort
 --     count_of sort nodes          how many nodes are of the sort
 --     bytes_of sort nodes          how many bytes they have
---     lost_in sort nodes           how many bytes of theirs are lost
---     tally_of nodes               all that is counted of nodes
-use Rattle.std.specs.Prelude.{ℕ, ◌+◌, ◌^◌, ◌-◌, ◌&&◌, ◌||◌, Bool, true, false, List, cond, count_by, sum_by, min, Option, Some, None, is_none, is_some}
+--     torn_files blocks nodes      the torn files, each with what it lacks, and whether it is disputed
+--     tally_of blocks nodes        all that is counted of nodes
+use Rattle.std.specs.Prelude.{ℕ, ◌+◌, ◌^◌, ◌-◌, ◌&&◌, ◌||◌, Bool, true, false, not, List, cond, count_by, filter_map, sum_by, min, Option, Some, None, is_none, is_some}
+use Rattle.std.specs.List.{list_all}
+use Rattle.udfs_lattice.specs.States.{is_conflict}
+use Rattle.udfs_lattice.specs.Volumes.{Blocks}
 use Rattle.udfs_file.specs.declared.faults.Kind.{Kind}
 use Rattle.udfs_file.specs.declared.faults.Kind.TheVariants as kind
 use Rattle.udfs_walk.specs.NodeFields.{NodeFields}
@@ -14,6 +17,7 @@ use Rattle.udfs_walk.specs.Unsettled.{is_whole}
 use Rattle.udfs_salvage.specs.UnnamedExtraction.{is_file}
 use Rattle.udfs_overview.specs.LeftOut.{left_out_type}
 use Rattle.udfs_overview.specs.NodeLists.{lost_of}
+use Rattle.udfs_overview.specs.TornRows.{TornPart}
 use Rattle.udfs_overview.specs.declared.tallies.Tally.{Tally}
 use Rattle.udfs_overview.specs.declared.tallies.NodeSort.{NodeSort}
 use Rattle.udfs_overview.specs.declared.tallies.NodeSort.TheVariants as sort
@@ -99,22 +103,62 @@ or_zero (Some n) = n
 abbrev pub bytes_of : NodeSort → List NodeFields → ℕ
 bytes_of a nodes = sum_by (λ (n : NodeFields). cond (is_node_of a n) (or_zero n.size) 0) nodes
 
--- how many bytes of the nodes of the sort are lost
-abbrev pub lost_in : NodeSort → List NodeFields → ℕ
-lost_in a nodes = sum_by (λ (n : NodeFields). cond (is_node_of a n) (or_zero (lost_of n.standing n.kind)) 0) nodes
+-- ---- torn files
+
+-- of each of these blocks two readings differ
+abbrev pub only_conflicts : Blocks → List ℕ → Bool
+only_conflicts blocks missing = list_all (λ n. is_conflict (blocks n)) missing
+
+-- nothing is missing but blocks in conflict: its bytes were read, and which of them are right is not known
+abbrev pub is_disputed : Blocks → Standing → Bool
+is_disputed blocks standing.Whole = false
+is_disputed blocks (standing.Torn torn) = only_conflicts blocks torn.missing
+is_disputed blocks standing.Loop = false
+is_disputed blocks (standing.Fault f) = false
+
+-- what a node lacks
+abbrev pub torn_part : Blocks → NodeFields → TornPart
+torn_part blocks n = record { path = n.path; size = or_zero n.size; lost = or_zero (lost_of n.standing n.kind); disputed = is_disputed blocks n.standing }
+
+-- what a torn file lacks
+abbrev pub torn_file : Blocks → NodeFields → Option TornPart
+torn_file blocks n = cond (is_node_of sort.TornFile n) (Some (torn_part blocks n)) None
+
+-- the torn files, in the order of the nodes
+unfoldable pub torn_files : Blocks → List NodeFields → List TornPart
+torn_files blocks nodes = filter_map (torn_file blocks) nodes
+
+-- how many of them are disputed
+abbrev pub disputed_count : List TornPart → ℕ
+disputed_count files = count_by (λ (f : TornPart). f.disputed) files
+
+-- how many are not
+abbrev pub damaged_count : List TornPart → ℕ
+damaged_count files = count_by (λ (f : TornPart). not f.disputed) files
+
+-- how many bytes those have that are not disputed
+abbrev pub damaged_bytes : List TornPart → ℕ
+damaged_bytes files = sum_by (λ (f : TornPart). cond f.disputed 0 f.size) files
+
+-- how many of these bytes are lost
+abbrev pub damaged_lost : List TornPart → ℕ
+damaged_lost files = sum_by (λ (f : TornPart). cond f.disputed 0 f.lost) files
 
 -- the greatest number of 128 bits in place of a greater one
 abbrev pub at_most_128_bits : ℕ → ℕ
 at_most_128_bits n = min n (2 ^ 128 - 1)
 
--- all that is counted of nodes
-unfoldable pub tally_of : List NodeFields → Tally
-tally_of nodes = record {
+-- ---- all
+
+-- all that is counted of nodes, of which these are the torn files
+abbrev pub tally_with : List TornPart → List NodeFields → Tally
+tally_with torn nodes = record {
   whole_files = count_of sort.WholeFile nodes;
   whole_bytes = bytes_of sort.WholeFile nodes;
-  torn_files = count_of sort.TornFile nodes;
-  torn_bytes = bytes_of sort.TornFile nodes;
-  lost_bytes = at_most_128_bits (lost_in sort.TornFile nodes);
+  torn_files = damaged_count torn;
+  torn_bytes = damaged_bytes torn;
+  lost_bytes = at_most_128_bits (damaged_lost torn);
+  disputed = disputed_count torn;
   unread = count_of sort.Unread nodes;
   whole_folders = count_of sort.WholeFolder nodes;
   torn_folders = count_of sort.TornFolder nodes;
@@ -124,6 +168,10 @@ tally_of nodes = record {
   loops = count_of sort.Loop nodes;
 }
 
+-- all that is counted of nodes
+unfoldable pub tally_of : Blocks → List NodeFields → Tally
+tally_of blocks nodes = tally_with (torn_files blocks nodes) nodes
+
 -- how many nodes are counted, of all sorts
 abbrev pub node_count : Tally → ℕ
-node_count t = t.whole_files + t.torn_files + t.unread + t.whole_folders + t.torn_folders + t.others + t.left_out + t.faulty + t.loops
+node_count t = t.whole_files + t.torn_files + t.disputed + t.unread + t.whole_folders + t.torn_folders + t.others + t.left_out + t.faulty + t.loops

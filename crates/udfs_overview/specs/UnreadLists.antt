@@ -3,6 +3,7 @@
 --     unread_text paths      their lines: the first twenty, and how many more there are
 use Rattle.std.specs.Prelude.{ℕ, ◌-◌, ◌==◌, List, [], ◌++◌, Option, Some, None, codes, cond, filter_map, flat_map, length, take, if◌then◌else◌}
 use Rattle.udfs_walk.specs.NodeFields.{NodeFields}
+use Rattle.udfs_overview.specs.Narrow.{narrow}
 use Rattle.udfs_overview.specs.Sentences.{by_number, counted}
 use Rattle.udfs_overview.specs.Tallies.{is_node_of}
 use Rattle.udfs_overview.specs.TornLists.{more_line, shown_path, shown_rows}
@@ -20,9 +21,9 @@ unread_paths nodes = filter_map unread_path nodes
 unfoldable pub unread_head : ℕ → List ℕ
 unread_head n = codes "Unread     " ++ counted n (by_number n (codes " entry, a file or a whole folder of unknown size:\n") (codes " entries, each a file or a whole folder of unknown size:\n"))
 
--- the line of one
+-- the line of one, in 80 columns
 unfoldable pub path_line : List (List ℕ) → List ℕ
-path_line path = codes "           " ++ shown_path path ++ codes "\n"
+path_line path = codes "           " ++ narrow 33 (shown_path path) ++ codes "\n"
 
 -- the lines of those that are shown, and how many more there are
 unfoldable pub unread_rows : List (List (List ℕ)) → List ℕ

@@ -62,7 +62,7 @@ fn ends_of(number: u32, others: &[u32]) -> usize
 }
 
 /// Whether two readings of a block differ.
-fn is_in_conflict(table: &BlockTable, block: u32) -> bool
+pub(crate) fn is_in_conflict(table: &BlockTable, block: u32) -> bool
     ensures { result ≡ is_in_conflict table.now block }
 {
     match table.state(block) {

@@ -6,10 +6,15 @@ mod disagreements;
 mod disc_tallies;
 mod figures;
 mod left_out;
+mod lost_found;
+mod lost_lines;
+mod lost_list;
 mod moved_tags;
+mod narrow;
 mod next_commands;
 mod node_columns;
 mod node_list;
+mod node_objects;
 mod repeating;
 mod safe_names;
 mod sentences;
@@ -28,6 +33,8 @@ pub use disagreements::{push_anchors_text, push_apart};
 pub use disc_tallies::{DiscTally, UnnamedTally, count_disc, count_unnamed};
 pub use figures::{push_grouped, push_percent, push_size};
 pub use left_out::{left_out_remark, left_out_types, push_left_out};
+pub use lost_found::found_lost;
+pub use lost_list::write_lost_list;
 pub use moved_tags::{count_moved, push_moved};
 pub use next_commands::{
     Margins, Pass, cleaned, push_extract, push_inputs_end, push_needed_steps, push_summary_by,

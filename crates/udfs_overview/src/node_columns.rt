@@ -2,9 +2,10 @@
 
 ghost use Rattle.std.specs.Prelude.{◌≡◌, ◌++◌, ◌∷◌, [], ℕ, OnOk, Some};
 ghost use Rattle.std.specs.String.{string_bytes};
-ghost use Rattle.udfs_salvage.specs.NodeTexts.{kind_name, node_fault_number};
+ghost use Rattle.udfs_osta.specs.StampTexts.{stamp_text};
+ghost use Rattle.udfs_salvage.specs.NodeTexts.{node_fault_number};
 ghost use Rattle.udfs_walk.specs.Unsettled.{is_whole};
-ghost use Rattle.udfs_overview.specs.NodeLists.{column, lost_bytes, lost_of, number_text, safe_path, standing_word, time_text, told_columns};
+ghost use Rattle.udfs_overview.specs.NodeLists.{column, kind_word, lost_bytes, lost_of, number_text, safe_path, short_time, standing_word, time_text, told_columns};
 
 use crate::safe_names::push_safe_name;
 use std::fmt::Write;
@@ -49,7 +50,7 @@ pub fn lost_of(standing: &Standing, kind: Kind) -> Option<u128>
 }
 
 /// The number of a fault.
-fn fault_number(fault: NodeFault) -> u8
+pub(crate) fn fault_number(fault: NodeFault) -> u8
     ensures { result ≡ node_fault_number fault }
 {
     fault as u8
@@ -72,14 +73,14 @@ fn push_standing(text: &mut String, standing: &Standing) -> Result<(), OutOfMemo
 
 /// A kind.
 fn push_kind(text: &mut String, kind: Kind) -> Result<(), OutOfMemory>
-    ensures { OnOk result (string_bytes text.new ≡ string_bytes text.old ++ column (kind_name kind)) }
+    ensures { OnOk result (string_bytes text.new ≡ string_bytes text.old ++ column (kind_word kind)) }
 {
     match kind {
         Kind::Directory => text.push_str("directory\t"),
         Kind::File => text.push_str("file\t"),
         Kind::Link => text.push_str("link\t"),
         Kind::Other(number) => write!(text, "other-{number}\t"),
-        Kind::Unread => text.push_str("unread\t"),
+        Kind::Unread => text.push_str("unknown\t"),
     }
 }
 
@@ -103,6 +104,30 @@ fn push_size(text: &mut String, size: Option<u64>) -> Result<(), OutOfMemory>
     }
 }
 
+/// The text of a time, without the fraction of its second where that is 0.
+#[tactic(auto, using(crate::proofs::ShortTimes::short_by, crate::proofs::ShortTimes::short_local, crate::proofs::ShortTimes::long))]
+fn push_short(text: &mut String, time: &str) -> Result<(), OutOfMemory>
+    ensures { OnOk result (string_bytes text.new ≡ string_bytes text.old ++ short_time time.now) }
+{
+    if let Some(second) = time.strip_suffix(".000000Z") {
+        text.push_str(second)?;
+        return text.push('Z');
+    }
+    match time.strip_suffix(".000000") {
+        Some(second) => text.push_str(second),
+        None => text.push_str(time),
+    }
+}
+
+/// A time that is known.
+fn push_stamp(text: &mut String, stamp: Stamp) -> Result<(), OutOfMemory>
+    ensures { OnOk result (string_bytes text.new ≡ string_bytes text.old ++ short_time (stamp_text stamp)) }
+{
+    let mut time = String::new(*text.allocator());
+    stamp.write_text(&mut time)?;
+    push_short(text, time.as_str())
+}
+
 /// A time.
 fn push_time(text: &mut String, stamp: Option<Stamp>) -> Result<(), OutOfMemory>
     ensures { OnOk result (string_bytes text.new ≡ string_bytes text.old ++ column (time_text stamp)) }
@@ -110,7 +135,7 @@ fn push_time(text: &mut String, stamp: Option<Stamp>) -> Result<(), OutOfMemory>
     match stamp {
         None => text.push_str("-\t"),
         Some(stamp) => {
-            stamp.write_text(text)?;
+            push_stamp(text, stamp)?;
             text.push('\t')
         }
     }

@@ -7,9 +7,10 @@ ghost use Rattle.udfs_space.specs.Views.{view_now};
 ghost use Rattle.udfs_walk.specs.Bare.{full_node, node_with};
 ghost use Rattle.udfs_salvage.specs.Printing.{PassesOn, Prints};
 ghost use Rattle.udfs_salvage.specs.Surveys.{survey_now};
-ghost use Rattle.udfs_overview.specs.NodeLists.{front_columns, line_end, list_line, list_text, listed, listed_in, tail_column};
+ghost use Rattle.udfs_overview.specs.NodeLists.{column_names, columns, front_columns, header_line, line_end, lines_by, list_line, list_text, listed, listed_in, tail_column};
 
 use crate::node_columns::{is_whole, push_safe_path, push_told};
+use crate::node_objects::push_object;
 use std::alloc::Global;
 use udfs_osta::OutOfMemory;
 use udfs_reading::Sink;
@@ -26,10 +27,14 @@ pub struct ListForm {
     pub null: bool,
     /// A line has the path alone.
     pub paths: bool,
+    /// The first line has the columns' names.
+    pub header: bool,
+    /// A line is a JSON object. It needs no header.
+    pub json: bool,
 }
 
 /// The end of a line.
-fn push_end(text: &mut String, form: ListForm) -> Result<(), OutOfMemory>
+pub(crate) fn push_end(text: &mut String, form: ListForm) -> Result<(), OutOfMemory>
     ensures { OnOk result (string_bytes text.new ≡ string_bytes text.old ++ line_end form) }
 {
     if form.null {
@@ -55,7 +60,7 @@ fn push_front(
 }
 
 /// The word behind the path of a node whose body is read by the tail of its last extent.
-fn push_tail(text: &mut String, form: ListForm, tail: bool) -> Result<(), OutOfMemory>
+pub(crate) fn push_tail(text: &mut String, form: ListForm, tail: bool) -> Result<(), OutOfMemory>
     ensures { OnOk result (string_bytes text.new ≡ string_bytes text.old ++ tail_column form tail) }
 {
     if tail && !form.paths {
@@ -63,6 +68,22 @@ fn push_tail(text: &mut String, form: ListForm, tail: bool) -> Result<(), OutOfM
     } else {
         Ok(())
     }
+}
+
+/// The columns of a node with this standing, whose body is read by a tail or not.
+#[tactic(auto, unfolding(crate::specs::NodeLists::columns))]
+fn push_columns(
+    text: &mut String,
+    form: ListForm,
+    tail: bool,
+    node: &Node,
+    standing: &Standing,
+) -> Result<(), OutOfMemory>
+    ensures { OnOk result (string_bytes text.new ≡ string_bytes text.old ++ columns form tail (node_with node.now standing.now)) }
+{
+    push_front(text, form, node, standing)?;
+    push_safe_path(text, &node.path)?;
+    push_tail(text, form, tail)
 }
 
 /// The line of a node with this standing, whose body is read by a tail or not.
@@ -76,9 +97,11 @@ fn push_line(
 ) -> Result<(), OutOfMemory>
     ensures { OnOk result (string_bytes text.new ≡ string_bytes text.old ++ list_line form tail (node_with node.now standing.now)) }
 {
-    push_front(text, form, node, standing)?;
-    push_safe_path(text, &node.path)?;
-    push_tail(text, form, tail)?;
+    if form.json {
+        push_object(text, form, tail, node, standing)?;
+        return push_end(text, form);
+    }
+    push_columns(text, form, tail, node, standing)?;
     push_end(text, form)
 }
 
@@ -204,9 +227,31 @@ fn put_full_all<W: Sink>(
     put_full_nodes(alloc, text, sink, view, form, behind_root(nodes))
 }
 
-/// All lines.
-#[tactic(auto, unfolding(crate::specs::NodeLists::list_text))]
-fn put_list<W: Sink>(
+/// The columns' names, or that of the path.
+fn column_names(form: ListForm) -> &'static str
+    ensures { result.now ≡ column_names form }
+{
+    if form.paths {
+        "path"
+    } else {
+        "standing\tkind\tlost\tsize\ttime\tpath"
+    }
+}
+
+/// The first line, where it is asked for.
+#[tactic(auto, unfolding(crate::specs::NodeLists::header_line))]
+fn push_header(text: &mut String, form: ListForm) -> Result<(), OutOfMemory>
+    ensures { OnOk result (string_bytes text.new ≡ string_bytes text.old ++ header_line form) }
+{
+    if form.header && !form.json {
+        text.push_str(column_names(form))?;
+        return push_end(text, form);
+    }
+    Ok(())
+}
+
+/// The lines of all nodes.
+fn put_lines<W: Sink>(
     alloc: Global,
     text: &mut String,
     sink: &mut W,
@@ -214,7 +259,7 @@ fn put_list<W: Sink>(
     form: ListForm,
 ) -> Result<(), RunError>
     ensures { PassesOn (W.stream sink.old) (W.stream sink.new) (string_bytes text.old) (string_bytes text.new)
-        (list_text form (state_of survey.now.table.now) (survey_now survey.now)) result }
+        (lines_by form (state_of survey.now.table.now) (survey_now survey.now).volume (drop 1 (survey_now survey.now).nodes)) result }
 {
     match &survey.volume {
         Volume::Open(opened) => {
@@ -225,10 +270,26 @@ fn put_list<W: Sink>(
     }
 }
 
+/// The first line, where it is asked for, and the lines of all nodes.
+pub(crate) fn put_list<W: Sink>(
+    alloc: Global,
+    text: &mut String,
+    sink: &mut W,
+    survey: &Survey<'_>,
+    form: ListForm,
+) -> Result<(), RunError>
+    ensures { PassesOn (W.stream sink.old) (W.stream sink.new) (string_bytes text.old) (string_bytes text.new)
+        (list_text form (state_of survey.now.table.now) (survey_now survey.now)) result }
+{
+    push_header(text, form)?;
+    put_lines(alloc, text, sink, survey, form)
+}
+
 /// Writes a line for each node after the root of the report that a survey represents, in the report's order: its standing, its
 /// kind, how many of its bytes are lost, its size in bytes, its time and its path, separated by tabs, with `-` for what is not
 /// known. Behind the path of a node whose body is read by the tail of its last extent, as the wide rules do, is the column `tail`. `form` can leave
-/// out whole nodes or all columns but the path. The blocks and holes of one node are held at a time.
+/// out whole nodes or all columns but the path, put the columns' names on a first line, or make each line a JSON object with these values. The blocks
+/// and holes of one node are held at a time.
 ///
 /// # Errors
 ///

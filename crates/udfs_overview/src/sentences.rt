@@ -81,11 +81,17 @@ fn push_torn_folders(text: &mut String, folders: u64) -> Result<(), OutOfMemory>
     push_part(text, ",\n", folders, words)
 }
 
-/// What has faults, the files of a type that is not written, and the folders that are torn.
+/// The files of which readings differ, what has faults, the files of a type that is not written, and the folders that are torn.
 #[tactic(auto, unfolding(crate::specs::Sentences::folders_part))]
 fn push_folders_part(text: &mut String, tally: &Tally) -> Result<(), OutOfMemory>
     ensures { OnOk result (string_bytes text.new ≡ string_bytes text.old ++ folders_part tally.now) }
 {
+    push_part(
+        text,
+        ",\n",
+        tally.disputed as u64,
+        " disputed: two readings differ",
+    )?;
     push_part(text, ",\n", tally.faulty as u64, " with faults")?;
     push_part(
         text,

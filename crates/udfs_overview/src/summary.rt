@@ -1,25 +1,22 @@
 //! The summary of a volume: what a person wants to know, on one screen.
 
-ghost use Rattle.std.specs.Prelude.{◌≡◌, ◌++◌, IfOk, OnOk, codes, length, option_map, map, if◌then◌else◌};
+ghost use Rattle.std.specs.Prelude.{◌≡◌, ◌++◌, IfOk, OnOk, codes, length, option_map, if◌then◌else◌};
 ghost use Rattle.std.specs.String.{string_bytes};
 ghost use Rattle.udfs_lattice.specs.Tables.{state_of};
-ghost use Rattle.udfs_space.specs.Views.{view_now};
-ghost use Rattle.udfs_walk.specs.Bare.{full_node};
 ghost use Rattle.udfs_salvage.specs.Found.{volume_now};
 ghost use Rattle.udfs_salvage.specs.Printing.{Prints};
 ghost use Rattle.udfs_salvage.specs.Surveys.{survey_now};
 ghost use Rattle.udfs_overview.specs.DiscTallies.{disc_of};
 ghost use Rattle.udfs_overview.specs.Repeating.{given_now};
 ghost use Rattle.udfs_overview.specs.Sentences.{sentence};
-ghost use Rattle.udfs_overview.specs.Summaries.{again_lines, counts_lines, extract_lines, fault_lines, folders_counts, folders_line, found_lines, is_all_whole, missing_in, missing_line, names_missing, next_lines, no_need_lines, nodes_lines, summary_text, torn_folder, torn_lines, wide_lines};
+ghost use Rattle.udfs_overview.specs.Summaries.{again_lines, counts_lines, extract_lines, fault_lines, folders_counts, folders_line, found_lines, is_all_whole, missing_in, missing_line, names_missing, next_lines, no_need_lines, nodes_lines, summary_text, torn_folder, wide_lines};
 ghost use Rattle.udfs_overview.specs.LeftOut.{left_out_line};
 ghost use Rattle.udfs_overview.specs.Spares.{spares_disagree, spares_line};
 ghost use Rattle.udfs_overview.specs.MovedTags.{moved_count, moved_line};
 ghost use Rattle.udfs_overview.specs.Streams.{stream_count, streams_line};
 ghost use Rattle.udfs_overview.specs.SummaryTexts.{files_line, others_line, unnamed_line};
-ghost use Rattle.udfs_overview.specs.Tallies.{tally_of};
 ghost use Rattle.udfs_overview.specs.UnreadLists.{unread_paths, unread_text};
-ghost use Rattle.udfs_overview.specs.TornLists.{by_loss, torn_rows, torn_text};
+ghost use Rattle.udfs_overview.specs.TornLists.{torn_rows, torn_text};
 
 use crate::disagreements::push_apart;
 use crate::disc_tallies::{DiscTally, UnnamedTally, count_disc, count_unnamed};
@@ -31,9 +28,9 @@ use crate::sentences::{push_counted, push_part, push_sentence};
 use crate::spares::{push_spares, spares_disagree};
 use crate::streams::{count_streams, push_streams};
 use crate::summary_lines::{push_disc, push_files, push_others, push_unnamed};
-use crate::tallies::{NodeSort, Tally, count_nodes, count_of};
+use crate::tallies::{NodeSort, Tally, count_nodes};
 use crate::torn_lines::{push_more, push_torn};
-use crate::torn_rows::{SHOWN, push_shown_path, top_rows};
+use crate::torn_rows::{SHOWN, push_narrow_path, torn_files};
 use crate::unread_lines::{push_unread, unread_in};
 use crate::volume_lines::push_volume;
 use crate::widenings::{Widening, push_widening, widening_by};
@@ -41,7 +38,6 @@ use std::alloc::Global;
 use udfs_osta::OutOfMemory;
 use udfs_reading::Sink;
 use udfs_salvage::{RunError, Survey, Volume, flush};
-use udfs_space::View;
 use udfs_volume::Profile;
 use udfs_walk::{Node, Path};
 
@@ -69,24 +65,30 @@ pub fn first_torn_folder<'a>(survey: &'a Survey<'_>) -> Option<&'a Path>
 
 /// Where names may be missing.
 #[tactic(auto, unfolding(crate::specs::Summaries::missing_line))]
-fn push_missing_line(text: &mut String, path: &Path) -> Result<(), OutOfMemory>
+fn push_missing_line(alloc: Global, text: &mut String, path: &Path) -> Result<(), OutOfMemory>
     ensures { OnOk result (string_bytes text.new ≡ string_bytes text.old ++ missing_line path.now) }
 {
     text.push_str("           names may be missing in ")?;
-    push_shown_path(text, path)?;
+    push_narrow_path(alloc, text, 21, path)?;
     text.push_str("\n")
 }
 
 /// The first torn directory, and how many more.
-fn push_missing_in(text: &mut String, torn: usize, path: &Path) -> Result<(), OutOfMemory>
+fn push_missing_in(
+    alloc: Global,
+    text: &mut String,
+    torn: usize,
+    path: &Path,
+) -> Result<(), OutOfMemory>
     ensures { OnOk result (string_bytes text.new ≡ string_bytes text.old ++ missing_in torn path.now) }
 {
-    push_missing_line(text, path)?;
+    push_missing_line(alloc, text, path)?;
     push_more(text, torn.saturating_sub(1))
 }
 
 /// Where names may be missing, if anywhere.
 fn push_names_missing(
+    alloc: Global,
     text: &mut String,
     torn: usize,
     path: Option<&Path>,
@@ -95,7 +97,7 @@ fn push_names_missing(
 {
     match path {
         None => Ok(()),
-        Some(path) => push_missing_in(text, torn, path),
+        Some(path) => push_missing_in(alloc, text, torn, path),
     }
 }
 
@@ -112,14 +114,19 @@ fn push_folders_counts(text: &mut String, tally: &Tally) -> Result<(), OutOfMemo
 
 /// The lines of the folders, if there are any.
 #[tactic(auto, unfolding(crate::specs::Summaries::folders_line))]
-fn push_folders(text: &mut String, tally: &Tally, path: Option<&Path>) -> Result<(), OutOfMemory>
+fn push_folders(
+    alloc: Global,
+    text: &mut String,
+    tally: &Tally,
+    path: Option<&Path>,
+) -> Result<(), OutOfMemory>
     ensures { OnOk result (string_bytes text.new ≡ string_bytes text.old ++ folders_line tally.now (option_map (λ path. path.now) path.entry)) }
 {
     if tally.whole_folders == 0 && tally.torn_folders == 0 {
         return Ok(());
     }
     push_folders_counts(text, tally)?;
-    push_names_missing(text, tally.torn_folders, path)
+    push_names_missing(alloc, text, tally.torn_folders, path)
 }
 
 /// The lines of what is found of a volume that opens.
@@ -135,7 +142,7 @@ fn push_nodes(
         ++ (files_line tally.now ++ folders_line tally.now (option_map (λ path. path.now) path.entry) ++ others_line tally.now ++ left_out_line types.now ++ unnamed_line unnamed.now)) }
 {
     push_files(text, tally)?;
-    push_folders(text, tally, path)?;
+    push_folders(alloc, text, tally, path)?;
     push_others(text, tally)?;
     push_left_out(alloc, text, types)?;
     push_unnamed(text, unnamed)
@@ -149,8 +156,7 @@ fn push_counts(
     survey: &Survey<'_>,
     tally: &Tally,
 ) -> Result<(), OutOfMemory>
-    requires { tally.now ≡ tally_of (survey_now survey.now).nodes }
-    ensures { OnOk result (string_bytes text.new ≡ string_bytes text.old ++ counts_lines (survey_now survey.now)) }
+    ensures { OnOk result (string_bytes text.new ≡ string_bytes text.old ++ counts_lines tally.now (survey_now survey.now)) }
 {
     let types = left_out_types(alloc, survey)?;
     let unnamed = count_unnamed(survey);
@@ -170,8 +176,7 @@ fn push_nodes_sentence(
     survey: &Survey<'_>,
     tally: &Tally,
 ) -> Result<(), OutOfMemory>
-    requires { tally.now ≡ tally_of (survey_now survey.now).nodes }
-    ensures { OnOk result (string_bytes text.new ≡ string_bytes text.old ++ sentence (tally_of (survey_now survey.now).nodes) (length (survey_now survey.now).reread)) }
+    ensures { OnOk result (string_bytes text.new ≡ string_bytes text.old ++ sentence tally.now (length (survey_now survey.now).reread)) }
 {
     push_sentence(text, tally, survey.reread.len() as u64)
 }
@@ -179,7 +184,7 @@ fn push_nodes_sentence(
 /// The lines of what is found of a volume, where it opens.
 #[tactic(auto, unfolding(crate::specs::Summaries::nodes_lines))]
 fn push_found(alloc: Global, text: &mut String, survey: &Survey<'_>) -> Result<(), OutOfMemory>
-    ensures { OnOk result (string_bytes text.new ≡ string_bytes text.old ++ nodes_lines (survey_now survey.now)) }
+    ensures { OnOk result (string_bytes text.new ≡ string_bytes text.old ++ nodes_lines (state_of survey.now.table.now) (survey_now survey.now)) }
 {
     let tally = count_nodes(alloc, survey)?;
     push_nodes_sentence(text, survey, &tally)?;
@@ -190,7 +195,7 @@ fn push_found(alloc: Global, text: &mut String, survey: &Survey<'_>) -> Result<(
 /// disagree.
 fn push_all_found(alloc: Global, text: &mut String, survey: &Survey<'_>) -> Result<(), OutOfMemory>
     ensures { OnOk result (string_bytes text.new ≡ string_bytes text.old
-        ++ (nodes_lines (survey_now survey.now) ++ streams_line (stream_count (state_of survey.now.table.now) (survey_now survey.now))
+        ++ (nodes_lines (state_of survey.now.table.now) (survey_now survey.now) ++ streams_line (stream_count (state_of survey.now.table.now) (survey_now survey.now))
         ++ moved_line (moved_count (state_of survey.now.table.now) (survey_now survey.now))
         ++ spares_line (spares_disagree (state_of survey.now.table.now) (volume_now survey.now.volume)))) }
 {
@@ -200,20 +205,13 @@ fn push_all_found(alloc: Global, text: &mut String, survey: &Survey<'_>) -> Resu
     push_spares(text, spares_disagree(survey))
 }
 
-/// The lines of the torn files among nodes that are given without their blocks and holes.
-#[tactic(auto, unfolding(crate::specs::TornLists::torn_text, crate::specs::Tallies::tally_of))]
-fn push_top(
-    alloc: Global,
-    text: &mut String,
-    view: View<'_>,
-    nodes: &[Node],
-) -> Result<(), OutOfMemory>
-    ensures { OnOk result (string_bytes text.new ≡ string_bytes text.old
-        ++ torn_text (tally_of (map (full_node (view_now view.entry)) nodes.now)).torn_files (by_loss (torn_rows (map (full_node (view_now view.entry)) nodes.now)))) }
+/// The lines of the torn files.
+#[tactic(auto, unfolding(crate::specs::TornLists::torn_text))]
+fn push_top(alloc: Global, text: &mut String, survey: &Survey<'_>) -> Result<(), OutOfMemory>
+    ensures { OnOk result (string_bytes text.new ≡ string_bytes text.old ++ torn_text (torn_rows (state_of survey.now.table.now) (survey_now survey.now).nodes)) }
 {
-    let rows = top_rows(alloc, view, nodes)?;
-    let count = count_of(NodeSort::TornFile, nodes);
-    push_torn(alloc, text, &rows, count.saturating_sub(SHOWN))
+    let torn = torn_files(alloc, survey)?;
+    push_torn(alloc, text, &torn.rows, torn.count.saturating_sub(SHOWN))
 }
 
 /// The lines of what is found of the nodes of a volume, where it opens.
@@ -230,29 +228,12 @@ fn push_found_if_open(
     }
 }
 
-/// The lines of the torn files of a volume, where it opens.
-fn push_torn_if_open(
-    alloc: Global,
-    text: &mut String,
-    survey: &Survey<'_>,
-) -> Result<(), OutOfMemory>
-    ensures { OnOk result (string_bytes text.new ≡ string_bytes text.old ++ torn_lines (volume_now survey.now.volume) (survey_now survey.now)) }
-{
-    match &survey.volume {
-        Volume::Open(opened) => {
-            let view = opened.view(survey.table);
-            push_top(alloc, text, view, &survey.nodes)
-        }
-        _ => Ok(()),
-    }
-}
-
 /// The lines of the entries that were not read.
 fn push_all_unread(alloc: Global, text: &mut String, survey: &Survey<'_>) -> Result<(), OutOfMemory>
     ensures { OnOk result (string_bytes text.new ≡ string_bytes text.old ++ unread_text (unread_paths (survey_now survey.now).nodes)) }
 {
     let paths = unread_in(alloc, survey)?;
-    push_unread(text, &paths)
+    push_unread(alloc, text, &paths)
 }
 
 /// What stands before what to do next.
@@ -408,7 +389,7 @@ fn push_summary(
     let disc = count_disc(survey);
     push_disc(text, &disc)?;
     push_all_unread(alloc, text, survey)?;
-    push_torn_if_open(alloc, text, survey)?;
+    push_top(alloc, text, survey)?;
     push_next(alloc, text, given, survey, &disc)
 }
 

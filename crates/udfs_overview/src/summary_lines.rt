@@ -45,6 +45,19 @@ fn push_torn_files(text: &mut String, tally: &Tally) -> Result<(), OutOfMemory>
     push_lost_files(text, tally)
 }
 
+/// How many files are disputed, if any are.
+fn push_disputed(text: &mut String, disputed: u64) -> Result<(), OutOfMemory>
+    ensures { OnOk result (string_bytes text.new ≡ string_bytes text.old
+        ++ part (codes "           ") disputed (codes " disputed: two readings differ, nothing is lost\n")) }
+{
+    push_part(
+        text,
+        "           ",
+        disputed,
+        " disputed: two readings differ, nothing is lost\n",
+    )
+}
+
 /// How many entries are not yet known, if any are.
 fn push_unread(text: &mut String, unread: u64) -> Result<(), OutOfMemory>
     ensures { OnOk result (string_bytes text.new ≡ string_bytes text.old
@@ -70,6 +83,7 @@ pub fn push_files(text: &mut String, tally: &Tally) -> Result<(), OutOfMemory>
     text.push_str("Files      ")?;
     push_whole_files(text, tally)?;
     push_torn_files(text, tally)?;
+    push_disputed(text, tally.disputed as u64)?;
     push_unread(text, tally.unread as u64)
 }
 

@@ -2,9 +2,10 @@
 
 ghost use Rattle.std.specs.Prelude.{◌≡◌, ◌++◌, IfOk, OnOk, flat_map, codes};
 ghost use Rattle.std.specs.String.{string_bytes};
-ghost use Rattle.udfs_overview.specs.TornLists.{cell, column_width, filling, later_line, left_cell, loss_text, more_line, right_cell, row_line, rows_text, spaces, text_width};
+ghost use Rattle.udfs_overview.specs.TornLists.{cell, column_width, filling, later_line, left_cell, loss_cell, loss_text, more_line, right_cell, row_line, rows_text, spaces, text_width};
 
 use crate::figures::{push_grouped, push_percent, push_size};
+use crate::narrow::push_narrow;
 use crate::torn_rows::TornRow;
 use std::alloc::Global;
 use udfs_osta::OutOfMemory;
@@ -23,19 +24,33 @@ pub(crate) enum Column {
     Size,
 }
 
-/// The text of a cell. A file without bytes has `-` in place of a percentage.
+/// How much of a file is lost, in hundredths: `-` of a file without bytes, `disputed` where nothing is missing but blocks in conflict.
+#[tactic(auto, unfolding(crate::specs::TornLists::loss_cell))]
+fn push_loss_cell(text: &mut String, row: &TornRow) -> Result<(), OutOfMemory>
+    ensures { OnOk result (string_bytes text.new ≡ string_bytes text.old ++ loss_cell row.now) }
+{
+    if row.disputed {
+        return text.push_str("disputed");
+    }
+    if row.size == 0 {
+        return text.push_str("-");
+    }
+    push_percent(row.lost, u128::from(row.size), text)
+}
+
+/// The text of a cell. A path takes at most 31 columns.
 #[tactic(auto, unfolding(crate::specs::TornLists::cell))]
-fn push_cell(text: &mut String, column: Column, row: &TornRow) -> Result<(), OutOfMemory>
+fn push_cell(
+    alloc: Global,
+    text: &mut String,
+    column: Column,
+    row: &TornRow,
+) -> Result<(), OutOfMemory>
     ensures { OnOk result (string_bytes text.new ≡ string_bytes text.old ++ cell column row.now) }
 {
     match column {
-        Column::Percent => {
-            if row.size == 0 {
-                return text.push_str("-");
-            }
-            push_percent(row.lost, u128::from(row.size), text)
-        }
-        Column::Path => text.push_str(&row.path),
+        Column::Percent => push_loss_cell(text, row),
+        Column::Path => push_narrow(alloc, text, 14, &row.path),
         Column::Lost => push_size(row.lost, text),
         Column::Size => push_size(u128::from(row.size), text),
     }
@@ -46,7 +61,7 @@ fn cell_width(alloc: Global, column: Column, row: &TornRow) -> Result<usize, Out
     ensures { IfOk result (λ width. width ≡ text_width (cell column row.now)) }
 {
     let mut text = String::new(alloc);
-    push_cell(&mut text, column, row)?;
+    push_cell(alloc, &mut text, column, row)?;
     Ok(text.as_str().width())
 }
 
@@ -101,7 +116,7 @@ fn push_right(
     ensures { OnOk result (string_bytes text.new ≡ string_bytes text.old ++ right_cell column rows.now row.now) }
 {
     push_filling(alloc, text, column, rows, row)?;
-    push_cell(text, column, row)
+    push_cell(alloc, text, column, row)
 }
 
 /// A cell at the left edge of its column.
@@ -115,11 +130,11 @@ fn push_left(
 ) -> Result<(), OutOfMemory>
     ensures { OnOk result (string_bytes text.new ≡ string_bytes text.old ++ left_cell column rows.now row.now) }
 {
-    push_cell(text, column, row)?;
+    push_cell(alloc, text, column, row)?;
     push_filling(alloc, text, column, rows, row)
 }
 
-/// How many bytes of a file are lost, and of how many.
+/// How many bytes of a file are lost, and of how many; those of one that is disputed are not.
 fn push_loss(
     alloc: Global,
     text: &mut String,
@@ -131,7 +146,7 @@ fn push_loss(
     push_right(alloc, text, Column::Lost, rows, row)?;
     text.push_str(" of ")?;
     push_right(alloc, text, Column::Size, rows, row)?;
-    text.push_str(" lost\n")
+    text.push_str(if row.disputed { "\n" } else { " lost\n" })
 }
 
 /// The line of a torn file, among the rows that are shown.

@@ -9,7 +9,7 @@ ghost use Rattle.udfs_overview.specs.UnreadLists.{path_line, unread_head, unread
 use crate::sentences::{by_number, push_counted};
 use crate::tallies::NodeSort;
 use crate::torn_lines::push_more;
-use crate::torn_rows::{SHOWN, push_shown_path};
+use crate::torn_rows::{SHOWN, push_narrow_path};
 use std::alloc::Global;
 use udfs_osta::OutOfMemory;
 use udfs_salvage::Survey;
@@ -68,20 +68,20 @@ fn push_head(text: &mut String, count: u64) -> Result<(), OutOfMemory>
 
 /// The line of one.
 #[tactic(auto, unfolding(crate::specs::UnreadLists::path_line))]
-fn push_path_line(text: &mut String, path: &Path) -> Result<(), OutOfMemory>
+fn push_path_line(alloc: Global, text: &mut String, path: &Path) -> Result<(), OutOfMemory>
     ensures { OnOk result (string_bytes text.new ≡ string_bytes text.old ++ path_line path.now) }
 {
     text.push_str("           ")?;
-    push_shown_path(text, path)?;
+    push_narrow_path(alloc, text, 33, path)?;
     text.push_str("\n")
 }
 
 /// The lines of these.
-fn push_path_lines(text: &mut String, paths: &[&Path]) -> Result<(), OutOfMemory>
+fn push_path_lines(alloc: Global, text: &mut String, paths: &[&Path]) -> Result<(), OutOfMemory>
     ensures { OnOk result (string_bytes text.new ≡ string_bytes text.old ++ flat_map path_line (map (λ path. path.now) paths.now)) }
 {
     for path in paths {
-        push_path_line(text, path)?;
+        push_path_line(alloc, text, path)?;
     }
     Ok(())
 }
@@ -100,10 +100,10 @@ fn shown<'a, 'b>(paths: &'b [&'a Path]) -> &'b [&'a Path]
 
 /// The lines of those that are shown, and how many more there are.
 #[tactic(auto, unfolding(crate::specs::UnreadLists::unread_rows))]
-fn push_shown(text: &mut String, paths: &[&Path]) -> Result<(), OutOfMemory>
+fn push_shown(alloc: Global, text: &mut String, paths: &[&Path]) -> Result<(), OutOfMemory>
     ensures { OnOk result (string_bytes text.new ≡ string_bytes text.old ++ unread_rows (map (λ path. path.now) paths.now)) }
 {
-    push_path_lines(text, shown(paths))?;
+    push_path_lines(alloc, text, shown(paths))?;
     push_more(text, paths.len().saturating_sub(SHOWN))
 }
 
@@ -113,12 +113,12 @@ fn push_shown(text: &mut String, paths: &[&Path]) -> Result<(), OutOfMemory>
 ///
 /// If memory runs out. Then a part may be appended.
 #[tactic(auto, unfolding(crate::specs::UnreadLists::unread_text))]
-pub fn push_unread(text: &mut String, paths: &[&Path]) -> Result<(), OutOfMemory>
+pub fn push_unread(alloc: Global, text: &mut String, paths: &[&Path]) -> Result<(), OutOfMemory>
     ensures { OnOk result (string_bytes text.new ≡ string_bytes text.old ++ unread_text (map (λ path. path.now) paths.now)) }
 {
     if paths.is_empty() {
         return Ok(());
     }
     push_head(text, paths.len() as u64)?;
-    push_shown(text, paths)
+    push_shown(alloc, text, paths)
 }

@@ -9,7 +9,7 @@ use Rattle.udfs_page.specs.Heads.{before_title, head_back, head_text, heading_ht
 use Rattle.udfs_page.specs.Markups.{markup}
 use Rattle.udfs_page.specs.Naming.{CalledWords}
 use Rattle.udfs_page.specs.Overviews.{title_html}
-use Rattle.udfs_page.specs.Pages.{disc_html, files_html, page_html}
+use Rattle.udfs_page.specs.Pages.{disc_html, files_html, lacking_html, page_html}
 
 -- a front of some text is a front of that text and more
 and_more : (whole a rest more : List ℕ) → whole ≡ a ++ rest → whole ++ more ≡ a ++ (rest ++ more)
@@ -26,11 +26,12 @@ begins_marked g called rules table last report = (
   _,
   and_more _ (markup page_mark) _ (markup (codes "</body>\n</html>\n"))
       (and_more _ (markup page_mark) _ (files_html (state_of table) report.volume report)
+      (and_more _ (markup page_mark) _ (lacking_html (state_of table) report.nodes)
       (and_more _ (markup page_mark) _ (disc_html g called rules table last report)
       (and_more _ (markup page_mark) _ (heading_html called.title)
       (and_more _ (markup page_mark) _ head_back
       (and_more _ (markup page_mark) _ (title_html report.volume)
-      (and_more (markup page_mark ++ markup before_title) (markup page_mark) (markup before_title) (titled_html called.title) refl)))))),
+      (and_more (markup page_mark ++ markup before_title) (markup page_mark) (markup before_title) (titled_html called.title) refl))))))),
 )
 
 pub begins_so : (g : GivenWords) (called : CalledWords) (rules : Profile) (table : Table) (last : ℕ) (report : Report) → (rest : List ℕ) × (page_html g called rules table last report ≡ page_mark ++ rest)

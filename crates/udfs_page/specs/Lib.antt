@@ -9,6 +9,7 @@ pub mod Naming
 pub mod NextSteps
 pub mod Overviews
 pub mod TornTables
+pub mod UnreadTables
 pub mod Trees
 pub mod Pages
 pub mod Nestings

@@ -3,6 +3,7 @@
 --     overview_html rules table last r   what is found of a volume, and the blocks of its disc, a division a line
 use Rattle.std.specs.Prelude.{ℕ, ◌-◌, ◌==◌, ◌&&◌, nat_le, List, [], ◌++◌, Option, Some, None, codes, length, if◌then◌else◌}
 use Rattle.udfs_lattice.specs.Tables.{Table, state_of}
+use Rattle.udfs_lattice.specs.Volumes.{Blocks}
 use Rattle.udfs_volume.specs.declared.profiles.Profile.{Profile}
 use Rattle.udfs_volume.specs.Answers.{Answer, found, holes, faulty}
 use Rattle.udfs_salvage.specs.Found.{Found}
@@ -71,16 +72,16 @@ open_html f last =
     shown_name (label_text f.layout.label) ++ markup (codes "   ") ++ revision_and_kinds f.layout ++ markup (codes "   ") ++ disc_size_text last ++ next_line
 
 -- the lines of a volume that opens
-abbrev pub opened_html : Found → ℕ → Report → List ℕ
-opened_html f last r = open_html f last ++ html_lines (sentence (tally_of r.nodes) (length r.reread)) ++ found_html (tally_of r.nodes) (torn_folder r.nodes) (left_out_types r.nodes) (unnamed_of r.unnamed)
+abbrev pub opened_html : Tally → Found → ℕ → Report → List ℕ
+opened_html t f last r = open_html f last ++ html_lines (sentence t (length r.reread)) ++ found_html t (torn_folder r.nodes) (left_out_types r.nodes) (unnamed_of r.unnamed)
 
 -- the lines of the volume: of one that does not open, why
-abbrev pub volume_html : Answer Found → ℕ → Report → List ℕ
-volume_html (found f) last r = opened_html f last r
-volume_html (holes blocks) last r = html_lines (volume_line (holes blocks) last)
-volume_html (faulty f) last r = html_lines (volume_line (faulty f) last)
+abbrev pub volume_html : Blocks → Answer Found → ℕ → Report → List ℕ
+volume_html blocks (found f) last r = opened_html (tally_of blocks r.nodes) f last r
+volume_html blocks (holes unread) last r = html_lines (volume_line (holes unread) last)
+volume_html blocks (faulty f) last r = html_lines (volume_line (faulty f) last)
 
 -- all lines
 unfoldable pub overview_html : Profile → Table → ℕ → Report → List ℕ
 overview_html rules table last r =
-    markup (codes "<div class=s>\n<div>") ++ volume_html r.volume last r ++ html_lines (apart_lines rules (state_of table) last) ++ html_lines (moved_line (moved_count (state_of table) r)) ++ html_lines (disc_line (disc_of table last r.reread)) ++ markup (codes "</div>\n</div>\n")
+    markup (codes "<div class=s>\n<div>") ++ volume_html (state_of table) r.volume last r ++ html_lines (apart_lines rules (state_of table) last) ++ html_lines (moved_line (moved_count (state_of table) r)) ++ html_lines (disc_line (disc_of table last r.reread)) ++ markup (codes "</div>\n</div>\n")

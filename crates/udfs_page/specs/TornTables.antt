@@ -5,9 +5,9 @@ use Rattle.udfs_overview.specs.Figures.{grouped, percent_text, size_text}
 use Rattle.udfs_overview.specs.TornRows.{Row}
 use Rattle.udfs_page.specs.Markups.{markup, shown_name}
 
--- how much of a file is lost; of one without bytes there is no percentage
+-- how much of a file is lost; of one that is disputed, or without bytes, there is no percentage
 abbrev pub lost_part : Row → List ℕ
-lost_part r = if r.size == 0 then markup (codes "-") else percent_text r.lost r.size
+lost_part r = if r.disputed then markup (codes "disputed") else if r.size == 0 then markup (codes "-") else percent_text r.lost r.size
 
 -- the end of the row of a file
 abbrev pub last_cell : Row → List ℕ
@@ -32,7 +32,7 @@ more_html count shown = if nat_le count shown then [] else more_line (count - sh
 -- the table
 abbrev pub table_html : List Row → List ℕ
 table_html rows =
-    markup (codes "<h2>Torn files, most lost first</h2>\n<table>\n<tr><th>File<th>Lost<th>Bytes lost<th>Of\n") ++ flat_map row_html rows ++ markup (codes "</table>\n")
+    markup (codes "<h2>Torn files, most lost first</h2>\n<table>\n<tr><th>File<th>Lost<th>Bytes<th>Of\n") ++ flat_map row_html rows ++ markup (codes "</table>\n")
 
 -- the table, and how many more there are
 abbrev pub some_html : ℕ → List Row → List ℕ

@@ -85,7 +85,7 @@ fn push_style_tree(text: &mut String) -> Result<(), OutOfMemory>
 {
     push_markup(
         text,
-        "details details,details>div{margin-left:1.4rem}details>div{padding-left:1rem}summary{cursor:pointer}small{color:var(--s);margin-left:.7em}\n",
+        "details details,details>div{margin-left:1.4rem}details details details details details details details details>*{margin-left:0}details>div{padding-left:1rem}summary{cursor:pointer}small{color:var(--s);margin-left:.7em}\n",
     )?;
     push_markup(
         text,
@@ -93,7 +93,7 @@ fn push_style_tree(text: &mut String) -> Result<(), OutOfMemory>
     )?;
     push_markup(
         text,
-        "@media print{body{max-width:none;padding:0;font-size:9pt}h2{break-after:avoid}figure,tr,pre{break-inside:avoid}\n",
+        "@media print{body{max-width:none;padding:0;font-size:9pt;columns:2}h1,h2,p,ul,.s,figure,pre,table{column-span:all}h2{break-after:avoid}figure,tr,pre{break-inside:avoid}\n",
     )?;
     push_markup(
         text,

@@ -15,6 +15,7 @@ mod pictures;
 mod spiral;
 mod torn_tables;
 mod trees;
+mod unread_tables;
 
 pub use disc_arcs::{Mark, arcs};
 pub use escapes::{html_gives_the_text_back, html_injects_nothing, push_html};

@@ -12,6 +12,7 @@ ghost use Rattle.udfs_overview.specs.LeftOut.{left_out_line};
 ghost use Rattle.udfs_overview.specs.MovedTags.{moved_count, moved_line};
 ghost use Rattle.udfs_overview.specs.Sentences.{sentence};
 ghost use Rattle.udfs_overview.specs.SummaryTexts.{disc_line, files_line, others_line, unnamed_line};
+ghost use Rattle.udfs_overview.specs.Tallies.{tally_of};
 ghost use Rattle.udfs_overview.specs.TornLists.{shown_path};
 ghost use Rattle.udfs_overview.specs.VolumeLines.{label_text, volume_line};
 ghost use Rattle.udfs_page.specs.Escapes.{html_lines, html_text};
@@ -108,7 +109,7 @@ fn push_other_folders(text: &mut String, torn: usize) -> Result<(), OutOfMemory>
 }
 
 /// A path, by itself.
-fn push_path(alloc: Global, text: &mut String, path: &Path) -> Result<(), OutOfMemory>
+pub(crate) fn push_path(alloc: Global, text: &mut String, path: &Path) -> Result<(), OutOfMemory>
     ensures { OnOk result (string_bytes text.new ≡ string_bytes text.old ++ shown_name (shown_path path.now)) }
 {
     let mut shown = String::new(alloc);
@@ -300,7 +301,7 @@ fn push_opened(
     opened: &OpenVolume,
     survey: &Survey<'_>,
 ) -> Result<(), OutOfMemory>
-    ensures { OnOk result (string_bytes text.new ≡ string_bytes text.old ++ opened_html (found_now opened.now) survey.now.last (survey_now survey.now)) }
+    ensures { OnOk result (string_bytes text.new ≡ string_bytes text.old ++ opened_html (tally_of (state_of survey.now.table.now) (survey_now survey.now).nodes) (found_now opened.now) survey.now.last (survey_now survey.now)) }
 {
     let tally = count_nodes(alloc, survey)?;
     let types = left_out_types(alloc, survey)?;
@@ -313,7 +314,7 @@ fn push_opened(
 
 /// The lines of the volume: of one that does not open, why.
 fn push_volume_of(alloc: Global, text: &mut String, survey: &Survey<'_>) -> Result<(), OutOfMemory>
-    ensures { OnOk result (string_bytes text.new ≡ string_bytes text.old ++ volume_html (volume_now survey.now.volume) survey.now.last (survey_now survey.now)) }
+    ensures { OnOk result (string_bytes text.new ≡ string_bytes text.old ++ volume_html (state_of survey.now.table.now) (volume_now survey.now.volume) survey.now.last (survey_now survey.now)) }
 {
     match &survey.volume {
         Volume::Open(opened) => push_opened(alloc, text, opened, survey),

@@ -1,9 +1,7 @@
 //! The page of the report that a survey represents.
 
-ghost use Rattle.std.specs.Prelude.{◌≡◌, ◌++◌, ◌+◌, ℕ, List, OnOk, map, option_map};
+ghost use Rattle.std.specs.Prelude.{◌≡◌, ◌++◌, ◌+◌, ℕ, List, OnOk, option_map};
 ghost use Rattle.std.specs.String.{string_bytes};
-ghost use Rattle.udfs_space.specs.Views.{view_now};
-ghost use Rattle.udfs_walk.specs.Bare.{full_node};
 ghost use Rattle.udfs_lattice.specs.Tables.{Table, state_of};
 ghost use Rattle.udfs_volume.specs.declared.profiles.Profile.{Profile};
 ghost use Rattle.udfs_salvage.specs.Found.{volume_now};
@@ -13,10 +11,13 @@ ghost use Rattle.udfs_salvage.specs.Surveys.{survey_now};
 ghost use Rattle.udfs_page.specs.Arcs.{arcs_of};
 ghost use Rattle.udfs_page.specs.Heads.{head_text, page_mark};
 ghost use Rattle.udfs_overview.specs.Repeating.{GivenWords, given_now};
+ghost use Rattle.udfs_overview.specs.TornLists.{torn_rows};
+ghost use Rattle.udfs_overview.specs.UnreadLists.{unread_paths};
 ghost use Rattle.udfs_page.specs.Naming.{CalledWords, called_now};
 ghost use Rattle.udfs_page.specs.Overviews.{title_html};
-ghost use Rattle.udfs_page.specs.Pages.{disc_html, files_html, nodes_of, page_html, torn_of};
+ghost use Rattle.udfs_page.specs.Pages.{disc_html, files_html, lacking_html, page_html, torn_of};
 ghost use Rattle.udfs_page.specs.Pictures.{picture_html};
+ghost use Rattle.udfs_page.specs.UnreadTables.{unread_html};
 
 use crate::disc_arcs::arcs;
 use crate::heads::{push_head_back, push_head_front, push_heading, push_titled};
@@ -27,14 +28,13 @@ use crate::overviews::{push_overview, push_title};
 use crate::pictures::push_picture;
 use crate::torn_tables::push_torn;
 use crate::trees::put_tree;
+use crate::unread_tables::push_unread;
 use std::alloc::Global;
 use udfs_lattice::BlockTable;
 use udfs_osta::OutOfMemory;
-use udfs_overview::{Given, torn_files};
+use udfs_overview::{Given, torn_files, unread_in};
 use udfs_reading::Sink;
 use udfs_salvage::{RunError, Survey, Volume, flush};
-use udfs_space::View;
-use udfs_walk::Node;
 
 /// The head, with the title of the page.
 #[tactic(auto, unfolding(crate::specs::Heads::head_text))]
@@ -82,35 +82,35 @@ fn push_about_disc(
     push_next(alloc, text, given, called, survey)
 }
 
-/// The torn files among nodes that are given without their blocks and holes.
-fn push_torn_files(
-    alloc: Global,
-    text: &mut String,
-    view: View<'_>,
-    nodes: &[Node],
-) -> Result<(), OutOfMemory>
-    ensures { OnOk result (string_bytes text.new ≡ string_bytes text.old ++ torn_of (map (full_node (view_now view.entry)) nodes.now)) }
+/// The torn files.
+fn push_torn_files(alloc: Global, text: &mut String, survey: &Survey<'_>) -> Result<(), OutOfMemory>
+    ensures { OnOk result (string_bytes text.new ≡ string_bytes text.old ++ torn_of (torn_rows (state_of survey.now.table.now) (survey_now survey.now).nodes)) }
 {
-    let torn = torn_files(alloc, view, nodes)?;
+    let torn = torn_files(alloc, survey)?;
     push_torn(text, torn.count, &torn.rows)
 }
 
-/// What the page says of nodes that are given without their blocks and holes.
-fn put_about_nodes<W: Sink>(
+/// What was not read.
+fn push_unread_entries(
     alloc: Global,
     text: &mut String,
-    sink: &mut W,
-    view: View<'_>,
-    nodes: &[Node],
-) -> Result<(), RunError>
-    ensures { PassesOn (W.stream sink.old) (W.stream sink.new) (string_bytes text.old) (string_bytes text.new)
-        (nodes_of (view_now view.entry) (map (full_node (view_now view.entry)) nodes.now)) result }
+    survey: &Survey<'_>,
+) -> Result<(), OutOfMemory>
+    ensures { OnOk result (string_bytes text.new ≡ string_bytes text.old ++ unread_html (unread_paths (survey_now survey.now).nodes)) }
 {
-    push_torn_files(alloc, text, view, nodes)?;
-    put_tree(alloc, text, sink, view, nodes)
+    let paths = unread_in(alloc, survey)?;
+    push_unread(alloc, text, &paths)
 }
 
-/// What the page says of the nodes of the volume, if that opens.
+/// What was not read, and what is torn.
+fn push_lacking(alloc: Global, text: &mut String, survey: &Survey<'_>) -> Result<(), OutOfMemory>
+    ensures { OnOk result (string_bytes text.new ≡ string_bytes text.old ++ lacking_html (state_of survey.now.table.now) (survey_now survey.now).nodes) }
+{
+    push_unread_entries(alloc, text, survey)?;
+    push_torn_files(alloc, text, survey)
+}
+
+/// The tree of the nodes of the volume, if that opens.
 fn put_about_files<W: Sink>(
     alloc: Global,
     text: &mut String,
@@ -123,13 +123,13 @@ fn put_about_files<W: Sink>(
     match &survey.volume {
         Volume::Open(opened) => {
             let view = opened.view(survey.table);
-            put_about_nodes(alloc, text, sink, view, &survey.nodes)
+            put_tree(alloc, text, sink, view, &survey.nodes)
         }
         _ => Ok(()),
     }
 }
 
-/// All before what the page says of the nodes.
+/// All before the tree of the nodes.
 fn push_front(
     alloc: Global,
     text: &mut String,
@@ -137,10 +137,12 @@ fn push_front(
     called: &Called<'_>,
     survey: &Survey<'_>,
 ) -> Result<(), OutOfMemory>
-    ensures { OnOk result (string_bytes text.new ≡ string_bytes text.old ++ (head_text (called_now called.now).title (title_html (volume_now survey.now.volume)) ++ disc_html (given_now given.now) (called_now called.now) survey.now.profile survey.now.table.now survey.now.last (survey_now survey.now))) }
+    ensures { OnOk result (string_bytes text.new ≡ string_bytes text.old ++ (head_text (called_now called.now).title (title_html (volume_now survey.now.volume)) ++ disc_html (given_now given.now) (called_now called.now) survey.now.profile survey.now.table.now survey.now.last (survey_now survey.now)
+        ++ lacking_html (state_of survey.now.table.now) (survey_now survey.now).nodes)) }
 {
     push_head(alloc, text, called.title, &survey.volume)?;
-    push_about_disc(alloc, text, given, called, survey)
+    push_about_disc(alloc, text, given, called, survey)?;
+    push_lacking(alloc, text, survey)
 }
 
 /// All of it.
@@ -162,7 +164,7 @@ fn put_page<W: Sink>(
 }
 
 /// Writes the page of the report that a survey represents, where these arguments were given and the page is called so: a whole HTML file, with what is found of the volume, the disc as a picture, what to do
-/// next, the torn files of which most is lost, and all files inside their folders. No name can begin or end an element in it. It is written in pieces: the
+/// next, what was not read, the torn files of which most is lost, and all files inside their folders. No name can begin or end an element in it. It is written in pieces: the
 /// blocks and holes of one node are held at a time, and no more text of the nodes than a piece and that of one of them.
 ///
 /// # Errors

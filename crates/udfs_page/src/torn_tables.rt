@@ -8,10 +8,13 @@ use crate::markups::{push_markup, push_shown};
 use udfs_osta::OutOfMemory;
 use udfs_overview::{TornRow, push_grouped, push_percent, push_size};
 
-/// How much of a file is lost.
+/// How much of a file is lost, if it is not disputed.
 fn push_lost_part(text: &mut String, row: &TornRow) -> Result<(), OutOfMemory>
     ensures { OnOk result (string_bytes text.new ≡ string_bytes text.old ++ lost_part row.now) }
 {
+    if row.disputed {
+        return push_markup(text, "disputed");
+    }
     if row.size == 0 {
         return push_markup(text, "-");
     }
@@ -61,7 +64,7 @@ fn push_more_line(text: &mut String, more: usize) -> Result<(), OutOfMemory>
 }
 
 /// How many of `count` files are not shown, where `shown` are; nothing where all are.
-fn push_more(text: &mut String, count: usize, shown: usize) -> Result<(), OutOfMemory>
+pub(crate) fn push_more(text: &mut String, count: usize, shown: usize) -> Result<(), OutOfMemory>
     ensures { OnOk result (string_bytes text.new ≡ string_bytes text.old ++ more_html count shown) }
 {
     if count <= shown {
@@ -76,7 +79,7 @@ fn push_table(text: &mut String, rows: &[TornRow]) -> Result<(), OutOfMemory>
 {
     push_markup(
         text,
-        "<h2>Torn files, most lost first</h2>\n<table>\n<tr><th>File<th>Lost<th>Bytes lost<th>Of\n",
+        "<h2>Torn files, most lost first</h2>\n<table>\n<tr><th>File<th>Lost<th>Bytes<th>Of\n",
     )?;
     push_rows(text, rows)?;
     push_markup(text, "</table>\n")

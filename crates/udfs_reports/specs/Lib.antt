@@ -6,3 +6,4 @@ pub mod Rereading
 pub mod Listing
 pub mod Reporting
 pub mod Paging
+pub mod LostListing

@@ -5,6 +5,7 @@
 mod comparing;
 pub mod giving;
 pub mod list;
+pub mod lost_list;
 pub mod page;
 mod paths;
 pub mod report;

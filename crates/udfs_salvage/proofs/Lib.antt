@@ -29,6 +29,7 @@ pub mod TreeBytes
 pub mod PathNames
 pub mod FullTexts
 pub mod Surveying
+pub mod StoreAnswers
 pub mod JsonPieces
 pub mod ShortTexts
 pub mod Putting

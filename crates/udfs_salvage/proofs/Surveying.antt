@@ -1,11 +1,12 @@
 -- Surveys, and the reports that they stand for.
-use Rattle.std.proofs.Common.{◌≡◌, refl, sym, ◌∙◌, subst, ℕ, List, [], ◌∷◌, map}
+use Rattle.std.proofs.Common.{◌≡◌, refl, sym, ◌∙◌, ap, subst, ℕ, List, [], ◌∷◌, map}
 use Rattle.std.specs.Prelude.{◌&&◌}
 use Rattle.std.specs.List.{list_all}
 use Rattle.udfs_volume.specs.declared.profiles.Profile.{Profile}
 use Rattle.udfs_lattice.specs.Volumes.{Blocks}
 use Rattle.udfs_volume.specs.Answers.{Answer, found, holes, faulty}
-use Rattle.udfs_volume.specs.Layout.{Layout, layout_by}
+use Rattle.udfs_volume.specs.Answers.{and_then}
+use Rattle.udfs_volume.specs.Layout.{layout_by}
 use Rattle.udfs_volume.specs.declared.faults.VolumeFault.{VolumeFault}
 use Rattle.udfs_space.specs.Places.{View, view}
 use Rattle.udfs_walk.specs.Bare.{full_node, lists_at, with_lists}
@@ -13,23 +14,20 @@ use Rattle.udfs_walk.specs.NodeFields.{NodeFields}
 use Rattle.udfs_walk.specs.TornFields.{TornFields}
 use Rattle.udfs_walk.specs.declared.standings.Standing.{Standing}
 use Rattle.udfs_walk.specs.declared.standings.Standing.TheVariants.{Whole, Torn, Loop, Fault}
-use Rattle.udfs_salvage.specs.Found.{Found, volume_by}
-use Rattle.udfs_salvage.specs.Reports.{IsLookRefused, MayWantMemoryBy, all_whole}
+use Rattle.udfs_walk.specs.declared.answers.Unnamed.{Unnamed}
+use Rattle.udfs_salvage.specs.Found.{Found, placed, volume_by}
+use Rattle.udfs_salvage.specs.Listings.{full_entry_in, full_in, unnamed_in}
+use Rattle.udfs_salvage.specs.Reports.{MayWantMemoryBy, Report, ReportsBy, all_whole}
 use Rattle.udfs_walk.specs.Unsettled.{is_whole}
-use Rattle.udfs_salvage.specs.Surveys.{IsVolumeFound, full_nodes}
-use Rattle.udfs_salvage.specs.declared.errors.SalvageError.{SalvageError}
-use Rattle.udfs_salvage.specs.declared.errors.SalvageError.TheVariants as errors
-use Rattle.udfs_salvage.proofs.Opens.{found_by}
+use Rattle.udfs_salvage.specs.Surveys.{IsNoFault, full_entries, full_nodes}
 
-no_fault : (l : Layout) (f : VolumeFault) → found l ≡ faulty f → ⊥
-no_fault l f e = let z : ⊥ = cc in z
-
--- of a volume that opens memory may be wanted
-pub wants_memory : (P : Profile) (M : Blocks) (N : ℕ) (a : Answer Found) (e : SalvageError) → a ≡ volume_by P M N → e ≡ errors.OutOfMemory → IsVolumeFound a → IsLookRefused P M N e
-wants_memory P M N a e is of f = subst (IsLookRefused P M N) (sym of) (may (found_by P M N f.opened (sym is ∙ f.is)).layout_is)
+-- of a volume without a fault memory may be wanted
+pub wants_memory : (P : Profile) (M : Blocks) (N : ℕ) (a : Answer Found) → a ≡ volume_by P M N → IsNoFault a → MayWantMemoryBy P M N
+unfolding volume_by
+wants_memory P M N a is free = (λ h. never _ h, λ h. never _ h)
   where
-    may : layout_by P M N ≡ found (f.opened).layout → MayWantMemoryBy P M N
-    may l = (λ h. no_fault (f.opened).layout _ (sym l ∙ h), λ h. no_fault (f.opened).layout _ (sym l ∙ h))
+    never : (e : VolumeFault) → layout_by P M N ≡ faulty e → ⊥
+    never e h = subst IsNoFault (is ∙ ap (λ l. and_then l (placed M)) h) free
 
 -- ---- the blocks and holes do not say whether a node is whole
 same_whole : (lists : TornFields) (s : Standing) → is_whole (with_lists lists s) ≡ is_whole s
@@ -45,6 +43,27 @@ all_same v (n ∷ ns) = λ i. same_whole (lists_at v n.icb) n.standing i && all_
 full_whole : (v : View) (ns : List NodeFields) → all_whole (map (full_node v) ns) ≡ all_whole ns
 full_whole v [] = refl
 full_whole v (n ∷ ns) = all_same v (n ∷ ns)
+
+-- nor do those of a listing
+no_nodes : (M : Blocks) (a : Answer Found) (ns : List NodeFields) → map (full_in M a) ns ≡ [] → ns ≡ map (full_in M a) ns
+no_nodes M a [] e = refl
+no_nodes M a (n ∷ ns) e = absurd (let z : ⊥ = cc in z)
+
+no_entries : (M : Blocks) (a : Answer Found) (us : List Unnamed) → map (full_entry_in M a) us ≡ [] → us ≡ []
+no_entries M a [] e = refl
+no_entries M a (u ∷ us) e = absurd (let z : ⊥ = cc in z)
+
+-- the nodes of a survey are those of the listing
+pub nodes_same : (M : Blocks) (a : Answer Found) (report : Report) (ns : List NodeFields) → ReportsBy M a report → report.nodes ≡ map (full_in M a) ns → full_nodes M a ns ≡ map (full_in M a) ns
+nodes_same M (found f) report ns by is = refl
+nodes_same M (holes listed) report ns by is = no_nodes M (holes listed) ns (sym is ∙ by.no_nodes)
+nodes_same M (faulty fault) report ns by is = no_nodes M (faulty fault) ns (sym is ∙ by.no_nodes)
+
+-- and so are the entries that no name leads to
+pub entries_same : (M : Blocks) (a : Answer Found) (us : List Unnamed) (ns : List NodeFields) → map (full_entry_in M a) us ≡ unnamed_in M a ns → full_entries M a us ≡ unnamed_in M a ns
+entries_same M (found f) us ns is = is
+entries_same M (holes listed) us ns is = no_entries M (holes listed) us is
+entries_same M (faulty fault) us ns is = no_entries M (faulty fault) us is
 
 pub survey_whole : (M : Blocks) (a : Answer Found) (ns : List NodeFields) → all_whole (full_nodes M a ns) ≡ all_whole ns
 survey_whole M (found f) ns = full_whole (view M f.space) ns

@@ -3,6 +3,7 @@ pub mod Laws
 pub mod VolumeTrees
 pub mod WideVolumes
 pub mod Reports
+pub mod Stores
 pub mod TreeReports
 pub mod Texts
 pub mod NodeTexts

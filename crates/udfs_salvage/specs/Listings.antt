@@ -1,11 +1,12 @@
 -- Listings: what a table says of a volume and its nodes, without the blocks and the holes of torn ones.
 --     full_in blocks volume n                  a node with what is missing of it
 --     full_entry_in blocks volume u            an entry that no name leads to, with what is missing of it
---     listing_now listing                      the report whose nodes these are
---     AreUnnamed listing entries               these are the entries that no name leads to, without the blocks and the holes of torn ones
+--     listing_by states listing                the report whose nodes these are
+--     listing_now listing                      the same over a table
+--     AreUnnamedBy states listing entries      these are the entries that no name leads to, without the blocks and the holes of torn ones
 use Rattle.std.specs.Prelude.{◌≡◌, List, [], ℕ, map}
 use Rattle.udfs_tag.specs.declared.layouts.LongAd.{LongAd}
-use Rattle.udfs_lattice.specs.Tables.{state_of}
+use Rattle.udfs_lattice.specs.Tables.{Table, state_of}
 use Rattle.udfs_lattice.specs.Volumes.{Blocks}
 use Rattle.udfs_volume.specs.Answers.{Answer, found, holes, faulty}
 use Rattle.udfs_space.specs.Places.{view}
@@ -47,18 +48,26 @@ reread_in (holes listed) nodes = listed
 reread_in (faulty fault) nodes = []
 
 -- the nodes of a listing with what is missing of them
-abbrev pub listed_nodes : code_listing.Listing → List NodeFields
-listed_nodes l = map (full_in (state_of l.table.now) (volume_now l.volume)) l.nodes.items
+abbrev pub listed_nodes : {B : Type 0} → (B → Blocks) → code_listing.Listing B → List NodeFields
+listed_nodes states l = map (full_in (states l.table.now) (volume_now l.volume)) l.nodes.items
 
--- the report of which a listing has the volume and the nodes
-abbrev pub listing_now : code_listing.Listing → Report
-listing_now l = record {
+-- the report of which a listing of a store has the volume and the nodes, where these are the store's states
+abbrev pub listing_by : {B : Type 0} → (B → Blocks) → code_listing.Listing B → Report
+listing_by states l = record {
   volume = volume_now l.volume;
-  nodes = listed_nodes l;
-  unnamed = unnamed_in (state_of l.table.now) (volume_now l.volume) (listed_nodes l);
-  reread = reread_in (volume_now l.volume) (listed_nodes l);
+  nodes = listed_nodes states l;
+  unnamed = unnamed_in (states l.table.now) (volume_now l.volume) (listed_nodes states l);
+  reread = reread_in (volume_now l.volume) (listed_nodes states l);
 }
 
+-- the same of a table's
+abbrev pub listing_now : code_listing.Listing Table → Report
+listing_now = listing_by state_of
+
 -- the entries that no name leads to, once it is found what is missing of them
-abbrev pub AreUnnamed : code_listing.Listing → List Unnamed → Type 0
-AreUnnamed l entries = map (full_entry_in (state_of l.table.now) (volume_now l.volume)) entries ≡ (listing_now l).unnamed
+abbrev pub AreUnnamedBy : {B : Type 0} → (B → Blocks) → code_listing.Listing B → List Unnamed → Type 0
+AreUnnamedBy states l entries = map (full_entry_in (states l.table.now) (volume_now l.volume)) entries ≡ (listing_by states l).unnamed
+
+-- the same of a table's
+abbrev pub AreUnnamed : code_listing.Listing Table → List Unnamed → Type 0
+AreUnnamed = AreUnnamedBy state_of

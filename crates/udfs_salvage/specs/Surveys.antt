@@ -1,9 +1,9 @@
 -- Reports of which the blocks and the holes of torn nodes were let go.
---     survey_now survey      the report, with what is missing of the torn nodes found again
---     IsVolumeFound volume         it opens
---     IsClosed volume        it does not
+--     survey_by states survey      the report, with what is missing of the torn nodes found again
+--     survey_now survey      the same over a table
+--     IsNoFault volume       it has no fault
 use Rattle.std.specs.Prelude.{◌≡◌, ⊤, List, map}
-use Rattle.udfs_lattice.specs.Tables.{state_of}
+use Rattle.udfs_lattice.specs.Tables.{Table, state_of}
 use Rattle.udfs_lattice.specs.Volumes.{Blocks}
 use Rattle.udfs_volume.specs.Answers.{Answer, found, holes, faulty}
 use Rattle.udfs_space.specs.Places.{view}
@@ -26,22 +26,21 @@ full_entries blocks (found f) entries = map (full_entry (view blocks f.space)) e
 full_entries blocks (holes listed) entries = entries
 full_entries blocks (faulty fault) entries = entries
 
--- the report that a survey represents
-abbrev pub survey_now : code_survey.Survey → Report
-survey_now s = record {
+-- the report that a survey of a store represents, whose states these are
+abbrev pub survey_by : {B : Type 0} → (B → Blocks) → code_survey.Survey B → Report
+survey_by states s = record {
   volume = volume_now s.volume;
-  nodes = full_nodes (state_of s.table.now) (volume_now s.volume) s.nodes.items;
-  unnamed = full_entries (state_of s.table.now) (volume_now s.volume) s.unnamed.items;
+  nodes = full_nodes (states s.table.now) (volume_now s.volume) s.nodes.items;
+  unnamed = full_entries (states s.table.now) (volume_now s.volume) s.unnamed.items;
   reread = s.reread.items;
 }
 
--- the volume opens
-pub record IsVolumeFound (answer : Answer Found) : Type 0 where
-  pub opened : Found
-  pub is : answer ≡ found opened
+-- the same of a table's
+abbrev pub survey_now : code_survey.Survey Table → Report
+survey_now = survey_by state_of
 
--- the volume does not open
-abbrev pub IsClosed : Answer Found → Type 0
-IsClosed (found f) = ⊥
-IsClosed (holes listed) = ⊤
-IsClosed (faulty fault) = ⊤
+-- it has no fault
+abbrev pub IsNoFault : Answer Found → Type 0
+IsNoFault (found f) = ⊤
+IsNoFault (holes listed) = ⊤
+IsNoFault (faulty fault) = ⊥

@@ -5,6 +5,7 @@ ghost use Rattle.std.specs.Prelude.{◌≡◌};
 use std::alloc::AllocError;
 use std::error::Error;
 use std::fmt;
+use udfs_lattice::{GaveUp, ReadFault};
 use udfs_reading::InputError;
 
 /// Why a table has no report.
@@ -40,6 +41,60 @@ impl From<AllocError> for SalvageError {
 
     fn from(_: AllocError) -> SalvageError {
         SalvageError::OutOfMemory
+    }
+}
+
+/// Why a store of blocks has no report.
+#[derive(Clone, Copy, Debug, PartialEq, Eq)]
+pub enum StoreError {
+    /// As of a table.
+    Salvage(SalvageError),
+    /// The bytes of a known block could not be read. Nothing is told of the volume then.
+    Unread,
+}
+
+impl fmt::Display for StoreError {
+    fn fmt<W: fmt::Write>(&self, f: &mut fmt::Formatter<W>) -> fmt::Result {
+        match self {
+            StoreError::Salvage(error) => write!(f, "{error}"),
+            StoreError::Unread => write!(f, "a known block could not be read"),
+        }
+    }
+}
+
+impl Error for StoreError {}
+
+impl From<ReadFault> for StoreError {
+    ghost use Rattle.udfs_salvage.specs.declared.errors.StoreError.TheVariants.{Unread};
+
+    ghost from_gives = { λ fault error. error ≡ Unread };
+
+    fn from(_: ReadFault) -> StoreError {
+        StoreError::Unread
+    }
+}
+
+impl From<GaveUp> for StoreError {
+    ghost use Rattle.udfs_salvage.specs.Stores.{store_error};
+
+    ghost from_gives = { λ why error. error ≡ store_error why };
+
+    fn from(why: GaveUp) -> StoreError {
+        match why {
+            GaveUp::OutOfMemory => StoreError::Salvage(SalvageError::OutOfMemory),
+            GaveUp::Unread => StoreError::Unread,
+        }
+    }
+}
+
+impl From<AllocError> for StoreError {
+    ghost use Rattle.udfs_salvage.specs.declared.errors.SalvageError.TheVariants as salvage_error;
+    ghost use Rattle.udfs_salvage.specs.declared.errors.StoreError.TheVariants.{Salvage};
+
+    ghost from_gives = { λ refused error. error ≡ Salvage salvage_error.OutOfMemory };
+
+    fn from(_: AllocError) -> StoreError {
+        StoreError::Salvage(SalvageError::OutOfMemory)
     }
 }
 

@@ -27,6 +27,7 @@ mod printing;
 mod reports;
 mod reread_printing;
 mod running;
+mod stores;
 mod survey_json;
 mod survey_printing;
 mod surveys;
@@ -37,18 +38,22 @@ mod word_printing;
 mod words;
 
 pub use appending::push_names;
-pub use errors::{RunError, SalvageError};
+pub use errors::{RunError, SalvageError, StoreError};
 pub use extraction::{ExtractError, Fill, extract, extract_by, is_offered};
 pub use json_reports::report_json;
 pub use listed_extraction::{write_lost, write_node};
-pub use listings::{Listing, list_unnamed, list_volume_by, reread_blocks};
+pub use listings::{
+    Listing, list_store, list_unnamed, list_unnamed_by, list_volume_by, reread_blocks,
+    reread_blocks_by,
+};
 pub use printing::{flush, pass_on, write_report, write_volume, write_volume_line};
 pub use reports::{Report, all_whole, salvage, salvage_by};
 pub use reread_printing::{write_numbers, write_reread};
 pub use running::{report_run, report_run_by};
+pub use stores::ReportStore;
 pub use survey_json::write_json;
 pub use survey_printing::write_survey;
-pub use surveys::{Survey, survey_volume, survey_volume_by};
+pub use surveys::{Survey, survey_store, survey_volume, survey_volume_by};
 pub use unnamed_extraction::{extract_unnamed_by, has_two_partitions, is_lost_file};
-pub use volumes::{OpenVolume, Volume};
+pub use volumes::{OpenVolume, Volume, open_by};
 pub use words::revision_name;

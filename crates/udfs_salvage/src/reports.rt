@@ -1,6 +1,6 @@
 //! Reports.
 
-ghost use Rattle.std.specs.Prelude.{◌≡◌, ◌↔◌, ℕ, IfOk, IfErr, IsErrOf, MatchOption, OnOk};
+ghost use Rattle.std.specs.Prelude.{◌≡◌, ◌↔◌, ℕ, IfOk, IfErr, IsErrOf, OnOk};
 ghost use Rattle.udfs_lattice.specs.Tables.{state_of};
 ghost use Rattle.udfs_volume.specs.Seen.{IsRising};
 ghost use Rattle.udfs_volume.specs.declared.profiles.Profile.TheVariants.{Strict};
@@ -10,7 +10,8 @@ ghost use Rattle.udfs_salvage.specs.Reports.{HasTooManyPaths, HasTooManyPathsBy,
 ghost use Rattle.udfs_walk.specs.Unsettled.{is_whole};
 
 use crate::errors::SalvageError;
-use crate::surveys::look_full;
+use crate::stores::ReportStore;
+use crate::surveys::{filled, survey_volume_by};
 use crate::volumes::Volume;
 use std::alloc::Global;
 use udfs_lattice::BlockTable;
@@ -59,34 +60,21 @@ pub fn all_whole(nodes: &[Node]) -> bool
     !nodes.is_empty()
 }
 
-/// The least block after `last` of which something is known, if there is one.
-fn past_end(table: &BlockTable, last: u32) -> Option<u32>
-    ensures { MatchOption result (IsNothingPast (state_of table.now) last) (λ n. IsPastEnd (state_of table.now) last n) }
-{
-    for (block, _) in table.entries() {
-        if block > last {
-            return Some(block);
-        }
-    }
-    None
-}
-
-/// Checks that `last` can be the last block of a volume, and that the table says nothing of a block after it.
+/// Checks that `last` can be the last block of a volume, and that the store says nothing of a block after it. It takes no memory and reads nothing.
 ///
 /// # Errors
 ///
 /// `LastRange` exactly where `last` is not from 513 to 4,194,303; else `PastEnd` exactly where something is known of a block after the last, with the
 /// least such block.
-pub(crate) fn judge_last(table: &BlockTable, last: u32) -> Result<(), SalvageError>
-    ensures good { OnOk result ((¬ IsOutOfRange last) × IsNothingPast (state_of table.now) last) }
-    ensures range { IsErrOf result SalvageError.LastRange ↔ IsOutOfRange last }
-    ensures past { (n : ℕ) → (IsErrOf result (SalvageError.PastEnd n) ↔ ((¬ IsOutOfRange last) × IsPastEnd (state_of table.now) last n)) }
-    ensures bad { IfErr result (IsUnfit (state_of table.now) last) }
+pub(crate) fn judge_last<B: ReportStore>(blocks: &B, last: u32) -> Result<(), SalvageError>
+    ensures range { OnOk result (¬ IsOutOfRange last) }
+    ensures good { OnOk result (B.tells → IsNothingPast (B.states blocks.now) last) }
+    ensures bad { IfErr result (λ error. B.tells → IsUnfit (B.states blocks.now) last error) }
 {
     if last < FIRST_LAST || last > LAST_BLOCK {
         return Err(SalvageError::LastRange);
     }
-    match past_end(table, last) {
+    match blocks.first_past(last) {
         Some(block) => Err(SalvageError::PastEnd(block)),
         None => Ok(()),
     }
@@ -114,7 +102,6 @@ pub(crate) fn judge_last(table: &BlockTable, last: u32) -> Result<(), SalvageErr
 /// block after the last, with the least such block; else `TooManyPaths` where more than 65,536 routes lead from the
 /// root to a node; and `OutOfMemory` where memory runs out, but never where one of the first two is due, nor for a volume without
 /// an anchor or with wrong extents.
-#[tactic(auto, using(crate::proofs::TreeReports::unfit, crate::proofs::TreeReports::look_refused))]
 pub fn salvage_by<'a>(
     alloc: Global,
     table: &'a BlockTable,
@@ -134,8 +121,11 @@ pub fn salvage_by<'a>(
     ensures rules { IfOk result (λ report. report.profile ≡ profile) }
     ensures of { IfOk result (λ report. (report.table.now ≡ table.now) × (report.last ≡ last)) }
 {
-    match judge_last(table, last) {
-        Ok(()) => look_full(alloc, table, last, profile),
+    match survey_volume_by(alloc, table, last, profile) {
+        Ok(survey) => match filled(alloc, survey) {
+            Ok(report) => Ok(report),
+            Err(_) => Err(SalvageError::OutOfMemory),
+        },
         Err(error) => Err(error),
     }
 }

@@ -1,34 +1,34 @@
 //! Surveys: reports that keep no blocks and holes of torn nodes.
 
-ghost use Rattle.std.specs.Prelude.{◌≡◌, ◌≤◌, ◌↔◌, ℕ, [], IfOk, IfErr, IsErrOf, map};
+ghost use Rattle.std.specs.Prelude.{◌≡◌, ◌↔◌, ℕ, IfOk, IfErr, IsErrOf, OnErr};
 ghost use Rattle.udfs_lattice.specs.Tables.{state_of};
-ghost use Rattle.udfs_volume.specs.Answers.{found};
 ghost use Rattle.udfs_volume.specs.Seen.{IsRising};
+ghost use Rattle.udfs_volume.specs.declared.profiles.Profile.{Profile};
 ghost use Rattle.udfs_volume.specs.declared.profiles.Profile.TheVariants.{Strict};
-ghost use Rattle.udfs_space.specs.Places.{view};
-ghost use Rattle.udfs_walk.specs.Bare.{full_node};
-ghost use Rattle.udfs_walk.specs.Walks.{AreNodes};
-ghost use Rattle.udfs_salvage.specs.Found.{found_now, volume_now};
+ghost use Rattle.udfs_salvage.specs.Found.{volume_now};
 ghost use Rattle.udfs_salvage.specs.Headline.{Headline, HeadlineBy};
+ghost use Rattle.udfs_salvage.specs.Listings.{listing_by};
+ghost use Rattle.udfs_salvage.specs.Stores.{IsStoreRefused};
 ghost use Rattle.udfs_salvage.specs.TreeReports.{IsOfNoLawful, IsOfNoLawfulBy};
-ghost use Rattle.udfs_salvage.specs.Reports.{HasTooManyPaths, HasTooManyPathsBy, IsLookRefused, IsNothingPast, IsOutOfRange, IsPastEnd, IsReport, IsReportBy, IsWalkRefused, MayWantMemory, MayWantMemoryBy, ReportsBy, all_whole, report_now};
-ghost use Rattle.udfs_salvage.specs.Surveys.{IsClosed, IsVolumeFound, survey_now};
+ghost use Rattle.udfs_salvage.specs.Reports.{HasTooManyPaths, HasTooManyPathsBy, IsNothingPast, IsOutOfRange, IsPastEnd, IsReport, IsReportBy, MayWantMemory, MayWantMemoryBy, all_whole, report_now};
+ghost use Rattle.udfs_salvage.specs.Surveys.{IsNoFault, survey_by, survey_now};
 
-use crate::errors::SalvageError;
-use crate::reports::{Report, all_whole, judge_last};
-use crate::volumes::{OpenVolume, Volume, open};
+use crate::errors::{SalvageError, StoreError};
+use crate::listings::{Listing, list_store, list_unnamed_by, reread_blocks_by};
+use crate::reports::{Report, all_whole};
+use crate::stores::ReportStore;
+use crate::volumes::Volume;
 use std::alloc::{AllocError, Global};
-use udfs_lattice::BlockTable;
-use udfs_volume::{Profile, Seen};
-use udfs_walk::unnamed_entries::bare_unnamed;
-use udfs_walk::{Node, NodesError, Unnamed, bare_nodes, bare_reread, full_entries, full_nodes};
+use udfs_lattice::{BlockStore, BlockTable, GaveUp};
+use udfs_volume::Profile;
+use udfs_walk::{Node, Unnamed, full_entries, full_nodes};
 
-/// What a table says of a volume, as a [`Report`] has it, but without the blocks and holes of torn nodes and entries: these
+/// What a store of blocks says of a volume, as a [`Report`] has it, but without the blocks and holes of torn nodes and entries: these
 /// are found again when they are needed, so that only those of one node are held at a time.
 #[derive(Drop)]
-pub struct Survey<'a> {
-    /// The table.
-    pub table: &'a BlockTable,
+pub struct Survey<'a, B: BlockStore = BlockTable> {
+    /// The table, or another store of blocks.
+    pub table: &'a B,
     /// The last block of the volume.
     pub last: u32,
     /// The rules by which the volume is read.
@@ -43,130 +43,82 @@ pub struct Survey<'a> {
     pub reread: Vec<u32>,
 }
 
-impl<'a> Survey<'a> {
+impl<'a, B: BlockStore> Survey<'a, B> {
     /// Whether there are nodes, and all are whole.
     pub fn all_whole(&self) -> bool
-        ensures { result ≡ all_whole (survey_now self.now).nodes }
+        ensures { result ≡ all_whole (survey_by B.states self.now).nodes }
     {
         all_whole(&self.nodes)
     }
 }
 
-/// The nodes of a volume that opens.
-pub(crate) fn list(
+/// The survey of a listing: with the entries that no name leads to, and the blocks to read again.
+fn surveyed<'a, B: BlockStore>(
     alloc: Global,
-    table: &BlockTable,
-    opened: &OpenVolume,
-) -> Result<Vec<Node>, SalvageError>
-    ensures nodes { IfOk result (λ listed. AreNodes (view (state_of table.now) opened.now.space) opened.now.root (map (full_node (view (state_of table.now) opened.now.space)) listed.items)) }
-    ensures refused { IfErr result (IsWalkRefused (state_of table.now) (found_now opened.now)) }
+    listing: Listing<'a, B>,
+) -> Result<Survey<'a, B>, GaveUp>
+    ensures report { IfOk result (λ survey. B.tells → (profile : Profile) (last : ℕ) → IsReportBy profile (B.states listing.entry.table.now) last (listing_by B.states listing.entry) →
+        survey_by B.states survey ≡ listing_by B.states listing.entry) }
+    ensures of { IfOk result (λ survey. (survey.table.now ≡ listing.entry.table.now) × (survey.last ≡ listing.entry.last) × (survey.profile ≡ listing.entry.profile)) }
+    ensures fault { OnErr result (IsNoFault (volume_now listing.entry.volume)) }
+    ensures fails { IsErrOf result GaveUp.Unread → B.fails }
 {
-    let view = opened.view(table);
-    match bare_nodes(alloc, view, opened.root) {
-        Ok(listed) => Ok(listed),
-        Err(NodesError::TooManyPaths) => Err(SalvageError::TooManyPaths),
-        Err(NodesError::OutOfMemory) => Err(SalvageError::OutOfMemory),
-    }
-}
-
-/// The survey of a volume that opens.
-#[tactic(auto, using(crate::proofs::Rereads::reread_rises))]
-fn survey_open<'a>(
-    alloc: Global,
-    table: &'a BlockTable,
-    last: u32,
-    profile: Profile,
-    opened: OpenVolume,
-) -> Result<Survey<'a>, SalvageError>
-    ensures report { IfOk result (λ survey. ReportsBy (state_of table.now) (found (found_now opened)) (survey_now survey)) }
-    ensures volume { IfOk result (λ survey. volume_now survey.volume ≡ found (found_now opened)) }
-    ensures of { IfOk result (λ survey. (survey.table.now ≡ table.now) × (survey.last ≡ last)) }
-    ensures rules { IfOk result (λ survey. survey.profile ≡ profile) }
-    ensures rising { IfOk result (λ survey. IsRising survey.reread.items) }
-    ensures refused { IfErr result (IsWalkRefused (state_of table.now) (found_now opened)) }
-{
-    let listed = list(alloc, table, &opened)?;
-    let view = opened.view(table);
-    let unnamed = bare_unnamed(alloc, view, &listed)?;
-    let reread = bare_reread(alloc, view, &listed)?;
+    let unnamed = list_unnamed_by(alloc, &listing)?;
+    let reread = reread_blocks_by(alloc, &listing)?;
+    let Listing {
+        table,
+        last,
+        profile,
+        volume,
+        nodes,
+    } = listing;
     Ok(Survey {
         table,
         last,
         profile,
-        volume: Volume::Open(opened),
-        nodes: listed,
+        volume,
+        nodes,
         unnamed,
         reread,
     })
 }
 
-/// The survey of a volume that does not open.
-fn survey_closed<'a>(
+/// What a store of blocks says of the volume by the rules of a profile, where `last` is its last block: the report that [`salvage_by`](crate::salvage_by)
+/// returns of a table with the same states, but without the blocks and the holes of torn nodes and entries, which are found again when they are needed.
+///
+/// # Errors
+///
+/// `Salvage` with the error of [`salvage_by`](crate::salvage_by); and `Unread` where the bytes of a known block could not be read: never where `LastRange`
+/// or `PastEnd` is due. Nothing is told of the volume then: a block whose bytes cannot be had is not an unknown one.
+pub fn survey_store<'a, B: ReportStore>(
     alloc: Global,
-    table: &'a BlockTable,
+    blocks: &'a B,
     last: u32,
     profile: Profile,
-    volume: Volume,
-    reread: Vec<u32>,
-) -> Survey<'a>
-    requires { IsClosed (volume_now volume) }
-    ensures value { survey_now result ≡ record { volume = volume_now volume; nodes = []; unnamed = []; reread = reread.items } }
-    ensures of { (result.table.now ≡ table.now) × (result.last ≡ last) }
-    ensures rules { result.profile ≡ profile }
+) -> Result<Survey<'a, B>, StoreError>
+    ensures report { IfOk result (λ survey. B.tells → IsReportBy profile (B.states blocks.now) last (survey_by B.states survey)) }
+    // All that is promised of a report holds of the one that the survey represents.
+    ensures headline { IfOk result (λ survey. B.tells → HeadlineBy profile (B.states blocks.now) last (survey_by B.states survey)) }
+    ensures refused { IfErr result (λ error. B.tells → IsStoreRefused profile (B.states blocks.now) last error) }
+    ensures rising { IfOk result (λ survey. B.tells → IsRising survey.reread.items) }
+    ensures of { IfOk result (λ survey. (survey.table.now ≡ blocks.now) × (survey.last ≡ last) × (survey.profile ≡ profile)) }
+    ensures fails { IsErrOf result StoreError.Unread → B.fails }
 {
-    Survey {
-        table,
-        last,
-        profile,
-        volume,
-        nodes: Vec::new(alloc),
-        unnamed: Vec::new(alloc),
-        reread,
-    }
-}
-
-/// The survey of a volume, by what is found of it, where nothing is known of a block after its last.
-fn look<'a>(
-    alloc: Global,
-    table: &'a BlockTable,
-    last: u32,
-    profile: Profile,
-) -> Result<Survey<'a>, SalvageError>
-    requires from { 513 ≤ last }
-    requires to { last ≤ 4194303 }
-    requires nothing_past { IsNothingPast (state_of table.now) last }
-    ensures report { IfOk result (λ survey. IsReportBy profile (state_of table.now) last (survey_now survey)) }
-    ensures of { IfOk result (λ survey. (survey.table.now ≡ table.now) × (survey.last ≡ last)) }
-    ensures rules { IfOk result (λ survey. survey.profile ≡ profile) }
-    ensures rising { IfOk result (λ survey. IsRising survey.reread.items) }
-    ensures refused { IfErr result (IsLookRefused profile (state_of table.now) last) }
-{
-    match open(alloc, table, last, profile) {
-        Seen::Got(opened) => survey_open(alloc, table, last, profile, opened),
-        Seen::Holes(blocks) => {
-            let reread = blocks.clone()?;
-            let volume = Volume::Holes(blocks);
-            Ok(survey_closed(alloc, table, last, profile, volume, reread))
-        }
-        Seen::Fault(fault) => Ok(survey_closed(
-            alloc,
-            table,
-            last,
-            profile,
-            Volume::Fault(fault),
-            Vec::new(alloc),
-        )),
-        Seen::OutOfMemory => Err(SalvageError::OutOfMemory),
+    let listing = list_store(alloc, blocks, last, profile)?;
+    match surveyed(alloc, listing) {
+        Ok(survey) => Ok(survey),
+        Err(GaveUp::OutOfMemory) => Err(StoreError::Salvage(SalvageError::OutOfMemory)),
+        Err(GaveUp::Unread) => Err(StoreError::Unread),
     }
 }
 
 /// The report of a survey: the blocks and holes of all torn nodes.
-fn filled<'a>(alloc: Global, survey: Survey<'a>) -> Result<Report<'a>, SalvageError>
+pub(crate) fn filled<'a>(alloc: Global, survey: Survey<'a>) -> Result<Report<'a>, AllocError>
     ensures report { IfOk result (λ report. report_now report ≡ survey_now survey.entry) }
     ensures of { IfOk result (λ report. (report.table.now ≡ survey.entry.table.now) × (report.last ≡ survey.entry.last)) }
     ensures rules { IfOk result (λ report. report.profile ≡ survey.entry.profile) }
     ensures reread { IfOk result (λ report. report.reread.items ≡ survey.entry.reread.items) }
-    ensures refused { IfErr result (λ error. (error ≡ SalvageError.OutOfMemory) × IsVolumeFound (volume_now survey.entry.volume)) }
+    ensures fault { OnErr result (IsNoFault (volume_now survey.entry.volume)) }
 {
     let Survey {
         table,
@@ -213,35 +165,12 @@ fn filled<'a>(alloc: Global, survey: Survey<'a>) -> Result<Report<'a>, SalvageEr
     }
 }
 
-/// The report of a volume, by what is found of it, where nothing is known of a block after its last.
-pub(crate) fn look_full<'a>(
-    alloc: Global,
-    table: &'a BlockTable,
-    last: u32,
-    profile: Profile,
-) -> Result<Report<'a>, SalvageError>
-    requires from { 513 ≤ last }
-    requires to { last ≤ 4194303 }
-    requires nothing_past { IsNothingPast (state_of table.now) last }
-    ensures report { IfOk result (λ report. IsReportBy profile (state_of table.now) last (report_now report)) }
-    ensures of { IfOk result (λ report. (report.table.now ≡ table.now) × (report.last ≡ last)) }
-    ensures rules { IfOk result (λ report. report.profile ≡ profile) }
-    ensures rising { IfOk result (λ report. IsRising report.reread.items) }
-    ensures refused { IfErr result (IsLookRefused profile (state_of table.now) last) }
-{
-    match look(alloc, table, last, profile) {
-        Ok(survey) => filled(alloc, survey),
-        Err(error) => Err(error),
-    }
-}
-
 /// What the table says of the volume by the rules of a profile, where `last` is its last block: the report that [`salvage_by`](crate::salvage_by)
 /// returns, but without the blocks and the holes of torn nodes and entries, which are found again when they are needed.
 ///
 /// # Errors
 ///
 /// As those of [`salvage_by`](crate::salvage_by).
-#[tactic(auto, using(crate::proofs::TreeReports::unfit, crate::proofs::TreeReports::look_refused))]
 pub fn survey_volume_by<'a>(
     alloc: Global,
     table: &'a BlockTable,
@@ -260,9 +189,10 @@ pub fn survey_volume_by<'a>(
     ensures rules { IfOk result (λ survey. survey.profile ≡ profile) }
     ensures of { IfOk result (λ survey. (survey.table.now ≡ table.now) × (survey.last ≡ last)) }
 {
-    match judge_last(table, last) {
-        Ok(()) => look(alloc, table, last, profile),
-        Err(error) => Err(error),
+    match survey_store(alloc, table, last, profile) {
+        Ok(survey) => Ok(survey),
+        Err(StoreError::Salvage(error)) => Err(error),
+        Err(StoreError::Unread) => unreachable!(),
     }
 }
 

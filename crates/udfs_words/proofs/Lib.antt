@@ -2,4 +2,5 @@ pub mod AskingLemmas
 pub mod GrammarLemmas
 pub mod GroupLemmas
 pub mod SizeLemmas
+pub mod SlashLemmas
 pub mod LineLemmas

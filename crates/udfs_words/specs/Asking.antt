@@ -1,5 +1,6 @@
 -- What the arguments of a command ask for.
 --     IsPicked words flag given absent picked     the one thing with the flag, and the other without it
+--     IsTone words tone                           how much is said on standard error
 --     input_texts words                           the paths of the inputs that are files, in order
 --     asked_inputs words                          the inputs: all files, and then all pairs
 --     stream_path path                            standard input for `-`, and else the path
@@ -16,6 +17,7 @@
 --     IsKnownProfile words                        the value of `--profile`, if one is given, names a profile
 --     IsUnknownProfile words name                 this is the value of `--profile`, and it names no profile
 --     IsProfile words profile                     the profile by its name, and the strict one where no name is given
+--     only_path path                              the path without a `/` at its end; `/` is itself
 --     only_texts words                            the paths of the nodes that are asked for; or else that of the root
 --     IsOneEnd words                              the last block, or the size of a disc, or a mapfile to take it from, and not two of them
 --     IsEndFault words fault                      what is wrong with how the end of the disc was given
@@ -23,7 +25,7 @@
 --     MapsEndAt found end inputs                  all inputs are images whose mapfiles end here
 --     IsLastOfSize size last                      the last block of a disc of this size; or 0, for which there is no report, where no disc has it
 --     IsToldLast words last                       the last block as given, or else `IsLastOfSize` of the size given; or 0, where there is neither
-use Rattle.std.specs.Prelude.{◌≡◌, ◌≢◌, ◌⊎◌, ◌↔◌, ℕ, ◌+◌, ◌*◌, ◌%◌, ◌^◌, ◌<◌, ◌&&◌, ◌||◌, Bool, false, is_some, List, [], ◌∷◌, ◌++◌, All, Option, Some, None, IfSome, Ok, codes, map, option_map, unwrap_or, if◌then◌else◌, true}
+use Rattle.std.specs.Prelude.{◌≡◌, ◌≢◌, ◌⊎◌, ◌↔◌, ℕ, ◌+◌, ◌*◌, ◌%◌, ◌^◌, ◌<◌, ◌==◌, ◌&&◌, ◌||◌, Bool, false, is_some, List, [], ◌∷◌, ◌++◌, All, Option, Some, None, IfSome, Ok, codes, map, option_map, unwrap_or, if◌then◌else◌, true}
 use Rattle.std.specs.Str.{bytes_eq}
 use Rattle.clap.specs.Matches.{matched_of, first_value, one_text, raw_values}
 use Rattle.clap.specs.declared.parser.matches.Found.{Found}
@@ -33,6 +35,7 @@ use Rattle.std.specs.Str.Parse.{IsNumeral, digits_value, without_leading_plus}
 use Rattle.udfs_rescue.specs.declared.run.Run.{Run}
 use Rattle.udfs_rescue.specs.Lines.{outcome}
 use Rattle.udfs_rescue.specs.Runs.{end_of_runs}
+use Rattle.udfs_words.specs.declared.forms.Tone.{Tone}
 use Rattle.udfs_words.specs.declared.group.GroupFault.{GroupFault}
 use Rattle.udfs_words.specs.declared.group.GroupFault.TheVariants as grouping
 use Rattle.udfs_words.specs.declared.group.GroupSize.{GroupSize}
@@ -48,6 +51,11 @@ pub record IsPicked {A : Type 0} (words : Found) (flag : List ℕ) (given absent
   pub with_flag : one_text words flag ≡ Some (codes "true") → picked ≡ given
   pub without_flag : one_text words flag ≡ Some (codes "false") → picked ≡ absent
   pub unknown_flag : one_text words flag ≡ None → picked ≡ absent
+
+-- how much is said, by its two flags
+pub record IsTone (words : Found) (tone : Tone) : Type 0 where
+  pub verbose : IsPicked words (codes "verbose") true false tone.verbose
+  pub quiet : IsPicked words (codes "quiet") true false tone.quiet
 
 -- all that was given as an input, each a path
 abbrev pub input_texts : Found → List (List ℕ)
@@ -166,9 +174,19 @@ pub record IsProfile (words : Found) (profile : Profile) : Type 0 where
   pub strict : first_value words (codes "profile") ≡ Some (codes "strict") → profile ≡ Strict
   pub unnamed : first_value words (codes "profile") ≡ None → profile ≡ Strict
 
+-- a text without a `/` (47) at its end
+abbrev pub without_slash : List ℕ → List ℕ
+without_slash [] = []
+without_slash (c ∷ []) = if c == 47 then [] else c ∷ []
+without_slash (c ∷ d ∷ text) = c ∷ without_slash (d ∷ text)
+
+-- a folder's path may end with a `/`, which is no part of it; that of the root is `/`
+abbrev pub only_path : List ℕ → List ℕ
+only_path path = if bytes_eq path (codes "/") then path else without_slash path
+
 -- the paths of the nodes that are asked for, in order; where no path is given, that of the root, which asks for all
 abbrev pub only_texts : Found → List (List ℕ)
-only_texts words = unwrap_or (option_map raw_values (matched_of words (codes "only"))) (codes "/" ∷ [])
+only_texts words = map only_path (unwrap_or (option_map raw_values (matched_of words (codes "only"))) (codes "/" ∷ []))
 
 -- what was given as this is a number, in decimal
 abbrev pub IsNumber : Found → List ℕ → ℕ → Type 0

@@ -1,5 +1,5 @@
 -- The command line that the program takes, as clap has it: each argument by its name, and the commands with their arguments.
-use Rattle.std.specs.Prelude.{ℕ, Bool, true, false, not, Some, codes, pos}
+use Rattle.std.specs.Prelude.{ℕ, Bool, true, false, not, [], ◌∷◌, Some, codes, pos}
 use Rattle.clap.specs.Words.{App, Rule, Text, new_app, new_rule, with_rule, with_subcommand}
 use Rattle.clap.specs.declared.builder.ArgAction.TheVariants.{Append, Set, SetTrue}
 use Rattle.clap.specs.declared.builder.ValueParser.TheVariants.{Signed}
@@ -33,9 +33,9 @@ size_rule = option_rule (codes "size") false
 abbrev pub size_of_rule : Rule
 size_of_rule = option_rule (codes "size-of") false
 
--- `--mapfile FILE`
+-- `--mapfile FILE` or `--domain FILE`
 abbrev pub mapfile_rule : Rule
-mapfile_rule = option_rule (codes "mapfile") false
+mapfile_rule = record (option_rule (codes "mapfile") false) { aliases = codes "domain" ∷ [] }
 
 -- `--group G`
 abbrev pub group_rule : Rule
@@ -45,9 +45,9 @@ group_rule = option_rule (codes "group") false
 abbrev pub profile_rule : Rule
 profile_rule = option_rule (codes "profile") false
 
--- `--out FILE` or `-o FILE`
+-- `--out FILE`, `--output FILE` or `-o FILE`
 abbrev pub out_rule : Rule
-out_rule = record (value_rule (codes "out")) { short = Some 111 }
+out_rule = record (value_rule (codes "out")) { short = Some 111; aliases = codes "output" ∷ [] }
 
 -- `--ddrescue IMAGE MAPFILE`, any number of times
 abbrev pub pairs_rule : Rule
@@ -113,9 +113,13 @@ extract_app given = with_inputs (with_rule (with_rule (with_rule (with_rule (wit
 abbrev pub forget_app : Given → App
 forget_app given = with_inputs (with_rule (with_rule (with_rule (with_rule (new_app (codes "forget")) out_rule) (flag_rule (codes "conflicts"))) (blocks_rule given.conflicts)) (flag_rule (codes "force"))) given.pairs
 
--- `list [--torn] [--null] [--paths] [--force] (--last N | --size BYTES | --size-of MAPFILE) [--profile PROFILE] IN...`
+-- `--null` or `-0`
+abbrev pub null_rule : Rule
+null_rule = letter_rule (codes "null") 48
+
+-- `list [--torn] [--null] [--paths] [--header] [--json] [--lost] [--deleted] [--force] (--last N | --size BYTES | --size-of MAPFILE) [--profile PROFILE] IN...`
 abbrev pub list_app : Given → App
-list_app given = with_inputs (with_rule (with_rule (with_rule (with_rule (with_profile (codes "list") given.needs_last) (flag_rule (codes "torn"))) (flag_rule (codes "null"))) (flag_rule (codes "paths"))) (flag_rule (codes "force"))) given.pairs
+list_app given = with_inputs (with_rule (with_rule (with_rule (with_rule (with_rule (with_rule (with_rule (with_rule (with_profile (codes "list") given.needs_last) (flag_rule (codes "torn"))) null_rule) (flag_rule (codes "paths"))) (flag_rule (codes "header"))) (flag_rule (codes "json"))) (flag_rule (codes "lost"))) (flag_rule (codes "deleted"))) (flag_rule (codes "force"))) given.pairs
 
 -- `summary (--last N | --size BYTES | --size-of MAPFILE) [--profile PROFILE] [--force] IN...`
 abbrev pub summary_app : Given → App

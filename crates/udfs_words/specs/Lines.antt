@@ -42,9 +42,9 @@ abbrev pub IsSomeMerge : Request → Type 0
 IsSomeMerge (request.Merge r) = Have r.inputs (codes "first.rdg" ∷ codes "second.rdg" ∷ []) [] × (r.version ≡ One) × (r.out.now ≡ codes "all.tab") × (r.force ≡ false)
 IsSomeMerge _ = ⊥
 
--- `udfsalvage forget --conflicts --blocks - -o left.tab --force all.tab`
+-- `udfsalvage forget --conflicts --blocks - --output left.tab --force all.tab`
 abbrev pub forget_line : List Text
-forget_line = codes "udfsalvage" ∷ codes "forget" ∷ codes "--conflicts" ∷ codes "--blocks" ∷ codes "-" ∷ codes "-o" ∷ codes "left.tab" ∷ codes "--force" ∷ codes "all.tab" ∷ []
+forget_line = codes "udfsalvage" ∷ codes "forget" ∷ codes "--conflicts" ∷ codes "--blocks" ∷ codes "-" ∷ codes "--output" ∷ codes "left.tab" ∷ codes "--force" ∷ codes "all.tab" ∷ []
 
 -- the blocks in conflict and those that standard input lists, over whatever reading is there
 abbrev pub IsSomeForget : Request → Type 0
@@ -69,22 +69,22 @@ abbrev pub IsSomeReport : Request → Type 0
 IsSomeReport (request.Report r) = Reads r.volume (codes "all.tab") (Block 1000) Strict × (r.form ≡ Json)
 IsSomeReport _ = ⊥
 
--- `udfsalvage reread --last 1000 --only /a --mapfile again.map --group 16 all.tab`
+-- `udfsalvage reread --last 1000 --only /a/ --domain again.map --group 16 all.tab`
 abbrev pub reread_line : List Text
-reread_line = codes "udfsalvage" ∷ codes "reread" ∷ codes "--last" ∷ codes "1000" ∷ codes "--only" ∷ codes "/a" ∷ codes "--mapfile" ∷ codes "again.map" ∷ codes "--group" ∷ codes "16" ∷ codes "all.tab" ∷ []
+reread_line = codes "udfsalvage" ∷ codes "reread" ∷ codes "--last" ∷ codes "1000" ∷ codes "--only" ∷ codes "/a/" ∷ codes "--domain" ∷ codes "again.map" ∷ codes "--group" ∷ codes "16" ∷ codes "all.tab" ∷ []
 
 -- for one file or folder, into a mapfile, in groups of 16, with known blocks
 abbrev pub IsSomeReread : Request → Type 0
 IsSomeReread (request.Reread r) = Reads r.volume (codes "all.tab") (Block 1000) Strict × (texts r.only.items ≡ codes "/a" ∷ []) × (option_map (λ path. path.now) r.mapfile ≡ Some (codes "again.map")) × (r.group ≡ Some Sixteen) × (r.witnesses ≡ true)
 IsSomeReread _ = ⊥
 
--- `udfsalvage list --size 1001s --torn --paths -`
+-- `udfsalvage list --size 1001s --torn --paths -0 --header -`
 abbrev pub list_line : List Text
-list_line = codes "udfsalvage" ∷ codes "list" ∷ codes "--size" ∷ codes "1001s" ∷ codes "--torn" ∷ codes "--paths" ∷ codes "-" ∷ []
+list_line = codes "udfsalvage" ∷ codes "list" ∷ codes "--size" ∷ codes "1001s" ∷ codes "--torn" ∷ codes "--paths" ∷ codes "-0" ∷ codes "--header" ∷ codes "-" ∷ []
 
--- the paths of what is not whole, of 1001 blocks that standard input has
+-- the paths of what is not whole, each with a zero byte behind it and none as JSON, below a header, of 1001 blocks that standard input has
 abbrev pub IsSomeList : Request → Type 0
-IsSomeList (request.List r) = Reads r.volume (codes "/dev/stdin") (Block 1000) Strict × (r.torn ≡ true) × (r.null ≡ false) × (r.paths ≡ true)
+IsSomeList (request.List r) = Reads r.volume (codes "/dev/stdin") (Block 1000) Strict × (r.torn ≡ true) × (r.null ≡ true) × (r.paths ≡ true) × (r.header ≡ true) × (r.json ≡ false)
 IsSomeList _ = ⊥
 
 -- `udfsalvage summary --last 1000 --profile wide all.tab`

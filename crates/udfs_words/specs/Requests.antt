@@ -17,7 +17,7 @@ use Rattle.std.specs.Str.{bytes_eq}
 use Rattle.std.specs.Borrow.{Bor}
 use Rattle.clap.specs.Matches.{first_value, matched_of, raw_values}
 use Rattle.clap.specs.declared.parser.matches.Found.{Found}
-use Rattle.udfs_words.specs.Asking.{IsEndFault, IsGoodGroup, IsGroup, IsGroupFault, IsKnownProfile, IsOneEnd, IsPicked, IsProfile, IsToldLast, IsUnknownProfile, are_two_streams, asked_for, folder_text, input_texts, list_texts, mapfile_text, only_texts, out_text, pair_texts, pairs_of, stream_path}
+use Rattle.udfs_words.specs.Asking.{IsEndFault, IsGoodGroup, IsGroup, IsGroupFault, IsKnownProfile, IsOneEnd, IsPicked, IsProfile, IsToldLast, IsUnknownProfile, are_two_streams, asked_for, folder_text, input_texts, list_texts, mapfile_text, only_path, only_texts, out_text, pair_texts, pairs_of, stream_path}
 use Rattle.udfs_words.specs.Asking.Asked.{AskedFile}
 use Rattle.udfs_words.specs.Obeying.{IsAsked}
 use Rattle.udfs_words.specs.declared.forms.Form.TheVariants.{Json, Text}
@@ -97,7 +97,7 @@ pub record IsForget (words : Found) (request : ForgetRequest) : Type 0 where
   pub inputs : AreInputs (streamed_texts words) (pair_texts words) request.inputs
   pub conflicts : IsPicked words (codes "conflicts") true false request.conflicts
   pub lists : texts request.lists.items ≡ map stream_path (list_texts words)
-  pub out : request.out.now ≡ out_text words
+  pub out : request.out.now ≡ printed_path words
   pub force : IsPicked words (codes "force") true false request.force
 
 -- the arguments of `image`
@@ -116,7 +116,7 @@ pub record IsReport (words : Found) (request : ReportRequest) : Type 0 where
 -- the arguments of `reread`; where no path is given of what is wanted, there is none
 pub record IsReread (words : Found) (request : RereadRequest) : Type 0 where
   pub volume : IsVolumeSource (input_texts words) words request.volume
-  pub only : texts request.only.items ≡ given_texts words (codes "only")
+  pub only : texts request.only.items ≡ map only_path (given_texts words (codes "only"))
   pub mapfile : option_map (λ path. path.now) request.mapfile ≡ optional_text words (codes "mapfile")
   pub group : IsGroup words request.group
   pub witnesses : IsPicked words (codes "no-witnesses") false true request.witnesses
@@ -127,6 +127,10 @@ pub record IsList (words : Found) (request : ListRequest) : Type 0 where
   pub torn : IsPicked words (codes "torn") true false request.torn
   pub null : IsPicked words (codes "null") true false request.null
   pub paths : IsPicked words (codes "paths") true false request.paths
+  pub header : IsPicked words (codes "header") true false request.header
+  pub json : IsPicked words (codes "json") true false request.json
+  pub lost : IsPicked words (codes "lost") true false request.lost
+  pub deleted : IsPicked words (codes "deleted") true false request.deleted
 
 -- the arguments of `summary`
 pub record IsSummary (words : Found) (request : SummaryRequest) : Type 0 where

@@ -1,15 +1,15 @@
 //! The arguments that commands take.
 
-ghost use Rattle.std.specs.Prelude.{◌≡◌, false, codes};
+ghost use Rattle.std.specs.Prelude.{◌≡◌, ◌∷◌, ◌++◌, [], false, IfOk, codes};
 ghost use Rattle.clap.specs.Words.{rule_of};
-ghost use Rattle.udfs_words.specs.Grammar.{blocks_rule, flag_rule, group_rule, inputs_rule, last_rule, letter_rule, manifest_rule, mapfile_rule, only_rule, option_rule, out_rule, pairs_rule, profile_rule, size_of_rule, size_rule, title_rule, unnamed_rule, value_rule};
+ghost use Rattle.udfs_words.specs.Grammar.{blocks_rule, flag_rule, group_rule, inputs_rule, last_rule, letter_rule, manifest_rule, mapfile_rule, null_rule, only_rule, option_rule, out_rule, pairs_rule, profile_rule, size_of_rule, size_rule, title_rule, unnamed_rule, value_rule};
 
 use crate::words::{
-    BLOCKS, FORCE, GROUP, INPUTS, LAST, MANIFEST, MAPFILE, ONLY, OUT, PAIRS, PROFILE, QUIET, SIZE,
-    SIZE_OF, TITLE, TO, UNNAMED, VERBOSE,
+    BLOCKS, FORCE, GROUP, INPUTS, LAST, MANIFEST, MAPFILE, NULL, ONLY, OUT, PAIRS, PROFILE, QUIET,
+    SIZE, SIZE_OF, TITLE, TO, UNNAMED, VERBOSE,
 };
 use clap::{Arg, ArgAction, value_parser};
-use std::alloc::Global;
+use std::alloc::{AllocError, Global};
 
 /// The flag for saying more.
 pub fn verbose<'a>(alloc: Global) -> Arg<'a>
@@ -18,9 +18,7 @@ pub fn verbose<'a>(alloc: Global) -> Arg<'a>
     Arg::new(alloc, VERBOSE)
         .short('v')
         .long("verbose")
-        .help(
-            "Print more on standard error, as on a terminal: after an error, why and what to do next",
-        )
+        .help("Print more: why, and what to do next")
         .action(ArgAction::SetTrue)
 }
 
@@ -31,7 +29,7 @@ pub fn quiet<'a>(alloc: Global) -> Arg<'a>
     Arg::new(alloc, QUIET)
         .short('q')
         .long("quiet")
-        .help("Print an error's own line alone on standard error, also on a terminal")
+        .help("Print an error's own line alone")
         .action(ArgAction::SetTrue)
 }
 
@@ -52,7 +50,7 @@ pub fn force<'a>(alloc: Global) -> Arg<'a>
     flag(
         alloc,
         FORCE,
-        "Write over a file that is no table file and no input, and join an image of another disc",
+        "Write over any file that is no input, and{n}join an image of another disc",
     )
 }
 
@@ -60,11 +58,7 @@ pub fn force<'a>(alloc: Global) -> Arg<'a>
 pub fn joining<'a>(alloc: Global) -> Arg<'a>
     ensures { (rule_of result ≡ flag_rule (codes "force")) × (result.global ≡ false) }
 {
-    flag(
-        alloc,
-        FORCE,
-        "Join an image all the same that disagrees with the inputs before it, as one of another disc",
-    )
+    flag(alloc, FORCE, "Join an image of another disc too")
 }
 
 /// An option with one value, for which the usage shows `value`.
@@ -85,11 +79,29 @@ fn option<'a>(
         .action(ArgAction::Set)
 }
 
-/// The file to write, with the letter `o`.
-fn output<'a>(alloc: Global, value: &'a str, help: &'a str) -> Arg<'a>
-    ensures { (rule_of result ≡ out_rule) × (result.global ≡ false) }
+/// An argument that is taken by another long name too, which the help leaves out.
+fn also<'a>(arg: Arg<'a>, name: &'a str) -> Result<Arg<'a>, AllocError>
+    ensures { IfOk result (λ more. (rule_of more ≡ record (rule_of arg.entry) { aliases = (rule_of arg.entry).aliases ++ name.now ∷ [] }) × (more.global ≡ arg.entry.global)) }
 {
-    option(alloc, OUT, value, help, true).short('o')
+    arg.alias(name)
+}
+
+/// The file to write, with the letter `o`, and also as `--output`.
+fn output<'a>(alloc: Global, value: &'a str, help: &'a str) -> Result<Arg<'a>, AllocError>
+    ensures { IfOk result (λ arg. (rule_of arg ≡ out_rule) × (arg.global ≡ false)) }
+{
+    also(option(alloc, OUT, value, help, true).short('o'), "output")
+}
+
+/// The flag for lines that end with a zero byte.
+pub fn null<'a>(alloc: Global) -> Arg<'a>
+    ensures { (rule_of result ≡ null_rule) × (result.global ≡ false) }
+{
+    Arg::new(alloc, NULL)
+        .short('0')
+        .long(NULL)
+        .help("End lines with a zero byte")
+        .action(ArgAction::SetTrue)
 }
 
 /// The rules by which the volume is read.
@@ -100,21 +112,24 @@ pub fn profile<'a>(alloc: Global) -> Arg<'a>
         alloc,
         PROFILE,
         "PROFILE",
-        "The rules by which the volume is read: strict, as without it, or wide",
+        "Rules to read by: strict (default) or wide",
         false,
     )
 }
 
-/// The mapfile to write.
-pub fn domain<'a>(alloc: Global) -> Arg<'a>
-    ensures { (rule_of result ≡ mapfile_rule) × (result.global ≡ false) }
+/// The mapfile to write, which ddrescue takes as its domain: also `--domain`.
+pub fn domain<'a>(alloc: Global) -> Result<Arg<'a>, AllocError>
+    ensures { IfOk result (λ arg. (rule_of arg ≡ mapfile_rule) × (arg.global ≡ false)) }
 {
-    option(
-        alloc,
-        MAPFILE,
-        "FILE",
-        "Write the blocks as a domain mapfile for ddrescue -m, and print how many they are",
-        false,
+    also(
+        option(
+            alloc,
+            MAPFILE,
+            "FILE",
+            "Write the blocks as a mapfile for ddrescue{n}-m, and print how many they are",
+            false,
+        ),
+        "domain",
     )
 }
 
@@ -126,7 +141,7 @@ pub fn group<'a>(alloc: Global) -> Arg<'a>
         alloc,
         GROUP,
         "G",
-        "Complete the blocks of the mapfile to whole groups of G: 16 is what a DVD drive reads at once, 32 a packet of a CD-RW",
+        "Complete the mapfile to groups of G blocks:{n}16 on a DVD, 32 on a CD-RW",
         false,
     )
 }
@@ -138,27 +153,23 @@ pub fn blocks<'a>(alloc: Global, conflicts: bool) -> Arg<'a>
     Arg::new(alloc, BLOCKS)
         .long("blocks")
         .value_name("LIST")
-        .help("Forget the blocks of this list: decimal numbers, one a line; - is standard input")
+        .help("Forget the blocks of this list: numbers, one{n}a line; - is standard input")
         .required(!conflicts)
         .action(ArgAction::Append)
 }
 
 /// The table file to write.
-pub fn table_file<'a>(alloc: Global) -> Arg<'a>
-    ensures { (rule_of result ≡ out_rule) × (result.global ≡ false) }
+pub fn table_file<'a>(alloc: Global) -> Result<Arg<'a>, AllocError>
+    ensures { IfOk result (λ arg. (rule_of arg ≡ out_rule) × (arg.global ≡ false)) }
 {
     output(alloc, "FILE", "The table file to write, over an old one")
 }
 
 /// The page to write.
-pub fn page_file<'a>(alloc: Global) -> Arg<'a>
-    ensures { (rule_of result ≡ out_rule) × (result.global ≡ false) }
+pub fn page_file<'a>(alloc: Global) -> Result<Arg<'a>, AllocError>
+    ensures { IfOk result (λ arg. (rule_of arg ≡ out_rule) × (arg.global ≡ false)) }
 {
-    output(
-        alloc,
-        "FILE",
-        "The page to write, over an old one; - is standard output",
-    )
+    output(alloc, "FILE", "The page to write; - is standard output")
 }
 
 /// What the page is called.
@@ -169,20 +180,16 @@ pub fn title<'a>(alloc: Global) -> Arg<'a>
         alloc,
         TITLE,
         "TEXT",
-        "What the page is called, as the disc's shelf mark: it stands before the volume's name",
+        "What the page is called, as a shelf mark",
         false,
     )
 }
 
 /// The image to write.
-pub fn image_file<'a>(alloc: Global) -> Arg<'a>
-    ensures { (rule_of result ≡ out_rule) × (result.global ≡ false) }
+pub fn image_file<'a>(alloc: Global) -> Result<Arg<'a>, AllocError>
+    ensures { IfOk result (λ arg. (rule_of arg ≡ out_rule) × (arg.global ≡ false)) }
 {
-    output(
-        alloc,
-        "IMAGE",
-        "The image to write: what is not known is zeros",
-    )
+    output(alloc, "IMAGE", "The image to write, unknown bytes as zeros")
 }
 
 /// The image's mapfile to write.
@@ -193,7 +200,7 @@ pub fn image_map<'a>(alloc: Global) -> Arg<'a>
         alloc,
         MAPFILE,
         "MAPFILE",
-        "The image's mapfile to write: + known, - in conflict, ? unknown",
+        "Its mapfile: + known, - conflict, ? unknown",
         true,
     )
 }
@@ -202,13 +209,7 @@ pub fn image_map<'a>(alloc: Global) -> Arg<'a>
 pub fn folder<'a>(alloc: Global) -> Arg<'a>
     ensures { (rule_of result ≡ value_rule (codes "to")) × (result.global ≡ false) }
 {
-    option(
-        alloc,
-        TO,
-        "DIR",
-        "The folder to make, which may not be there yet",
-        true,
-    )
+    option(alloc, TO, "DIR", "The folder to make, not there yet", true)
 }
 
 /// Paths of nodes that alone are asked for.
@@ -230,7 +231,7 @@ pub fn manifest<'a>(alloc: Global) -> Arg<'a>
         alloc,
         MANIFEST,
         "FILE",
-        "Write a manifest too, for sha256sum -c in the new folder, over an old one",
+        "Write a manifest too, for sha256sum -c in{n}the new folder",
         false,
     )
 }
@@ -243,7 +244,7 @@ pub fn lost_folder<'a>(alloc: Global) -> Arg<'a>
         alloc,
         UNNAMED,
         "DIR",
-        "Write whole files without a name too, by their blocks, into this folder, which may not be there yet",
+        "Write whole files without a name too, by{n}their blocks, into this new folder",
         false,
     )
 }
@@ -270,7 +271,7 @@ pub fn disc_size<'a>(alloc: Global) -> Arg<'a>
         alloc,
         SIZE,
         "BYTES",
-        "The size of the disc, in place of --last: bytes, or with s after it blocks of 2048 bytes, with k, M or G powers of 1000, with Ki, Mi or Gi powers of 1024",
+        "The disc's size in bytes, in place of --last{n}(or with s for blocks, k, M, G, Ki, Mi, Gi)",
         false,
     )
 }
@@ -283,7 +284,7 @@ pub fn size_map<'a>(alloc: Global) -> Arg<'a>
         alloc,
         SIZE_OF,
         "MAPFILE",
-        "A GNU ddrescue mapfile of the disc: its end is the size, in place of --last",
+        "Take the size from this ddrescue mapfile",
         false,
     )
 }
@@ -295,7 +296,7 @@ pub fn pair_inputs<'a>(alloc: Global) -> Arg<'a>
     Arg::new(alloc, PAIRS)
         .long("ddrescue")
         .value_names(&["IMAGE", "MAPFILE"])
-        .help("An image and its GNU ddrescue mapfile, as the reading of its rescued blocks")
+        .help("An image with its GNU ddrescue mapfile")
         .num_args(2)
         .action(ArgAction::Append)
 }

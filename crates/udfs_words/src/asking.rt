@@ -4,12 +4,14 @@ ghost use Rattle.std.specs.Prelude.{◌≡◌, ◌++◌, true, false, Some, None
 ghost use Rattle.clap.specs.Matches.{found_of, one_text};
 ghost use Rattle.udfs_words.specs.declared.forms.Version.{Version};
 ghost use Rattle.udfs_words.specs.declared.forms.Form.{Form};
-ghost use Rattle.udfs_words.specs.Asking.{Asked, IsPicked, asked_for, asked_inputs, asked_streams, folder_text, mapfile_text, out_text, pairs_of, stream_path};
+ghost use Rattle.udfs_words.specs.Asking.{Asked, IsPicked, IsTone, asked_for, asked_inputs, asked_streams, folder_text, mapfile_text, out_text, pairs_of, stream_path};
 ghost use Rattle.udfs_words.specs.Asking.Asked.{AskedFile};
 
-use crate::forms::{Form, Version};
+use crate::forms::{Form, Tone, Version};
 use crate::input_path::InputPath;
-use crate::words::{CONFLICTS, FORCE, INPUTS, JSON, MAPFILE, NO_WITNESSES, OUT, PAIRS, TO, V1};
+use crate::words::{
+    CONFLICTS, FORCE, INPUTS, JSON, MAPFILE, NO_WITNESSES, OUT, PAIRS, QUIET, TO, V1, VERBOSE,
+};
 use clap::ArgMatches;
 use std::alloc::{AllocError, Global};
 
@@ -138,6 +140,16 @@ pub fn asked_witnesses(words: &ArgMatches<'_>) -> bool
     ensures { IsPicked (found_of words.now) (codes "no-witnesses") false true result }
 {
     !words.get_flag(NO_WITNESSES)
+}
+
+/// How much the arguments ask to be said on standard error.
+pub fn asked_tone(words: &ArgMatches<'_>) -> Tone
+    ensures { IsTone (found_of words.now) result }
+{
+    Tone {
+        verbose: words.get_flag(VERBOSE),
+        quiet: words.get_flag(QUIET),
+    }
 }
 
 /// Whether a flag is among the arguments.

@@ -2,7 +2,7 @@
 
 ghost use Rattle.std.specs.Prelude.{◌≡◌, [], None, IfOk, IfErr, IfSome, codes, map, option_map, unwrap_or};
 ghost use Rattle.clap.specs.Matches.{found_of, matched_of, raw_values};
-ghost use Rattle.udfs_words.specs.Asking.{input_texts, only_texts, pair_texts, stream_path};
+ghost use Rattle.udfs_words.specs.Asking.{input_texts, only_path, only_texts, pair_texts, stream_path, without_slash};
 ghost use Rattle.udfs_words.specs.Requests.{AreInputs, IsCommandName, IsLastSource, IsRequest, IsUsageFault, IsVolumeSource, Reads, optional_text, printed_path, streamed_texts, texts};
 
 use crate::asking::{
@@ -18,8 +18,8 @@ use crate::request::{
 };
 use crate::streams::are_two_streams;
 use crate::words::{
-    BLOCKS, FILL, INPUTS, LAST, MANIFEST, MAPFILE, NULL, ONLY, PAIRS, PATHS, SHORT_NAMES, SIZE,
-    SIZE_OF, TIMES, TITLE, TORN, UNNAMED,
+    BLOCKS, DELETED, FILL, HEADER, INPUTS, JSON, LAST, LOST, MANIFEST, MAPFILE, NULL, ONLY, PAIRS,
+    PATHS, SHORT_NAMES, SIZE, SIZE_OF, TIMES, TITLE, TORN, UNNAMED,
 };
 use clap::ArgMatches;
 use std::alloc::{AllocError, Global};
@@ -124,24 +124,49 @@ fn read_optional<'a>(words: &ArgMatches<'a>, id: &str) -> Option<&'a str>
     None
 }
 
-/// The paths of what is wanted of a volume.
+/// A path without a `/` at its end.
+fn without_slash(path: &str) -> &str
+    ensures { result.now ≡ without_slash path.now }
+{
+    path.strip_suffix('/').unwrap_or(path)
+}
+
+/// The path of what is wanted, without a `/` at its end; that of the root is `/`.
+fn only_path(path: &str) -> &str
+    ensures { result.now ≡ only_path path.now }
+{
+    if path == ROOT {
+        return path;
+    }
+    without_slash(path)
+}
+
+/// These paths, none of which ends with a `/` but that of the root.
+fn only_paths<'a>(alloc: Global, given: &[&'a str]) -> Result<Vec<&'a str>, AllocError>
+    ensures { IfOk result (λ paths. texts paths.items ≡ map only_path (texts given.now)) }
+{
+    let mut paths = Vec::new(alloc);
+    for path in given {
+        paths.push(only_path(path))?;
+    }
+    Ok(paths)
+}
+
+/// The paths of what is wanted of a volume; that of the root, where none was given.
 fn read_only<'a>(alloc: Global, words: &ArgMatches<'a>) -> Result<Vec<&'a str>, AllocError>
     ensures { IfOk result (λ paths. texts paths.items ≡ only_texts (found_of words.now)) }
 {
-    let mut paths = Vec::new(alloc);
     match words.get_strs(ONLY) {
-        Some(given) => match paths.extend_from_slice(given) {
-            Ok(()) => Ok(paths),
-            Err(_) => Err(AllocError),
-        },
+        Some(given) => only_paths(alloc, given),
         None => {
+            let mut paths = Vec::new(alloc);
             paths.push(ROOT)?;
             Ok(paths)
         }
     }
 }
 
-/// The path of the page, where `-` is standard output.
+/// The path of the output, where `-` is standard output.
 fn read_printed<'a>(words: &ArgMatches<'a>) -> &'a str
     ensures { result.now ≡ printed_path (found_of words.now) }
 {
@@ -201,7 +226,7 @@ fn read_forget<'a>(alloc: Global, words: &ArgMatches<'a>) -> Result<Request<'a>,
         inputs,
         conflicts: asked_conflicts(words),
         lists,
-        out: asked_out(words),
+        out: read_printed(words),
         force: asked_force(words),
     }))
 }
@@ -236,7 +261,7 @@ fn read_reread<'a>(alloc: Global, words: &ArgMatches<'a>) -> Result<Request<'a>,
     ensures { IfOk result (IsRequest (codes "reread") (found_of words.now)) }
 {
     let volume = read_volume(alloc, words)?;
-    let only = read_texts(alloc, words, ONLY)?;
+    let only = only_paths(alloc, words.get_strs(ONLY).unwrap_or(&[]))?;
     Ok(Request::Reread(RereadRequest {
         volume,
         only,
@@ -256,6 +281,10 @@ fn read_list<'a>(alloc: Global, words: &ArgMatches<'a>) -> Result<Request<'a>, A
         torn: is_set(words, TORN),
         null: is_set(words, NULL),
         paths: is_set(words, PATHS),
+        header: is_set(words, HEADER),
+        json: is_set(words, JSON),
+        lost: is_set(words, LOST),
+        deleted: is_set(words, DELETED),
     }))
 }
 

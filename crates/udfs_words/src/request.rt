@@ -112,6 +112,14 @@ pub struct ListRequest<'a> {
     pub null: bool,
     /// A line is to have the path alone.
     pub paths: bool,
+    /// The first line is to have the columns' names.
+    pub header: bool,
+    /// A line is to be a JSON object.
+    pub json: bool,
+    /// Lost folders with all that is in them, and lost files, are to be listed too.
+    pub lost: bool,
+    /// These are, and what was deleted is one of them.
+    pub deleted: bool,
 }
 
 /// What a person wants to know of a volume is to be printed.

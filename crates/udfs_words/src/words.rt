@@ -8,7 +8,7 @@ ghost use Rattle.udfs_words.specs.Grammar.{extract_app, forget_app, image_app, l
 
 use crate::arguments::{
     blocks, disc_size, domain, flag, folder, force, group, image_file, image_map, inputs, joining,
-    last, lost_folder, manifest, only, page_file, pair_inputs, profile, quiet, size_map,
+    last, lost_folder, manifest, null, only, page_file, pair_inputs, profile, quiet, size_map,
     table_file, title, verbose,
 };
 use clap::Command;
@@ -91,6 +91,15 @@ pub const NULL: &str = "null";
 
 /// The id of the flag for paths alone among the matches.
 pub const PATHS: &str = "paths";
+
+/// The id of the flag for a first line with the columns' names among the matches.
+pub const HEADER: &str = "header";
+
+/// The id of the flag for listing what is lost among the matches.
+pub const LOST: &str = "lost";
+
+/// The id of the flag for listing what was deleted among the matches.
+pub const DELETED: &str = "deleted";
 
 /// The id of the flag for saying more among the matches.
 pub const VERBOSE: &str = "verbose";
@@ -175,10 +184,14 @@ pub fn grammar<'a>(alloc: Global, given: Given) -> Result<Command<'a>, AllocErro
 fn merge<'a>(alloc: Global, pairs: bool) -> Result<Command<'a>, AllocError>
     ensures { IfOk result (λ command. app_of command ≡ merge_app pairs) }
 {
+    let out = table_file(alloc)?;
     let command = Command::new(alloc, "merge")
         .about("Joins readings and table files into one table file")
-        .arg(table_file(alloc))?
-        .arg(flag(alloc, V1, "Write the table file in version 1, the old form"))?
+        .after_help(
+            "Example:{n}  udfsalvage merge --out disc.tab --ddrescue p1.img p1.map{n}The next pass is joined so:{n}  udfsalvage merge --out disc.tab --ddrescue p2.img p2.map disc.tab",
+        )
+        .arg(out)?
+        .arg(flag(alloc, V1, "Write the table file in version 1"))?
         .arg(force(alloc))?;
     with_inputs(alloc, command, pairs)
 }
@@ -188,7 +201,8 @@ fn report<'a>(alloc: Global, given: Given) -> Result<Command<'a>, AllocError>
     ensures { IfOk result (λ command. app_of command ≡ report_app given) }
 {
     let command = Command::new(alloc, "report")
-        .about("Prints what is known of the volume, file by file, and which blocks to read again")
+        .about("Prints what is known, file by file, and which blocks to read again")
+        .after_help("Example:{n}  udfsalvage report --size-of p1.map disc.tab")
         .override_usage("udfsalvage report [OPTIONS] [--last <N> | --size <BYTES>] <IN>...");
     let command = with_end(alloc, command, given.needs_last)?
         .arg(profile(alloc))?
@@ -203,6 +217,7 @@ fn bare_reread<'a>(alloc: Global) -> Command<'a>
 {
     Command::new(alloc, "reread")
         .about("Prints the numbers of the blocks to read again")
+        .after_help("Example:{n}  udfsalvage reread --size-of p1.map --mapfile want.map disc.tab")
         .override_usage("udfsalvage reread [OPTIONS] [--last <N> | --size <BYTES>] <IN>...")
 }
 
@@ -210,18 +225,19 @@ fn bare_reread<'a>(alloc: Global) -> Command<'a>
 fn reread<'a>(alloc: Global, given: Given) -> Result<Command<'a>, AllocError>
     ensures { IfOk result (λ command. app_of command ≡ reread_app given) }
 {
+    let mapfile = domain(alloc)?;
     let command = with_end(alloc, bare_reread(alloc), given.needs_last)?
         .arg(profile(alloc))?
         .arg(only(
             alloc,
-            "Only the blocks for this file, or this folder with all below it: its path as report prints it",
+            "Only the blocks for this file or folder, by{n}its path as report prints it",
         ))?
-        .arg(domain(alloc))?
+        .arg(mapfile)?
         .arg(group(alloc))?
         .arg(flag(
             alloc,
             NO_WITNESSES,
-            "Leave out of the mapfile the known blocks by which a pass of another disc shows",
+            "Leave out of the mapfile the known blocks{n}by which a pass of another disc shows",
         ))?
         .arg(joining(alloc))?;
     with_inputs(alloc, command, given.pairs)
@@ -233,8 +249,9 @@ fn bare_extract<'a>(alloc: Global) -> Command<'a>
 {
     Command::new(alloc, "extract")
         .about("Writes the files that are whole into a new folder")
+        .after_help("Example:{n}  udfsalvage extract --size-of p1.map --to files --times disc.tab")
         .override_usage(
-            "udfsalvage extract [OPTIONS] [--last <N> | --size <BYTES>] --to <DIR> <IN>...",
+            "udfsalvage extract [OPTIONS] [--last <N> | --size <BYTES>] --to <DIR>\n                          <IN>...",
         )
 }
 
@@ -248,23 +265,19 @@ fn extract<'a>(alloc: Global, given: Given) -> Result<Command<'a>, AllocError>
         .arg(flag(
             alloc,
             FILL,
-            "Write torn files too, with zeros for the bytes that are missing",
+            "Write torn files too, with zeros for what{n}is missing",
         ))?
         .arg(only(
             alloc,
-            "Write only this file, or this folder with all below it: its path as report prints it",
+            "Write only this file or folder, by its path{n}as report prints it",
         ))?
         .arg(manifest(alloc))?
         .arg(lost_folder(alloc))?
-        .arg(flag(
-            alloc,
-            TIMES,
-            "Set the times of the files and folders to those that the volume has for them",
-        ))?
+        .arg(flag(alloc, TIMES, "Set the times that the volume has"))?
         .arg(flag(
             alloc,
             SHORT_NAMES,
-            "Write what has a name that is too long under a short one: its beginning and a number",
+            "Write what has too long a name under its{n}beginning and a number",
         ))?
         .arg(joining(alloc))?;
     with_inputs(alloc, command, given.pairs)
@@ -274,12 +287,14 @@ fn extract<'a>(alloc: Global, given: Given) -> Result<Command<'a>, AllocError>
 fn forget<'a>(alloc: Global, given: Given) -> Result<Command<'a>, AllocError>
     ensures { IfOk result (λ command. app_of command ≡ forget_app given) }
 {
+    let out = table_file(alloc)?;
     let command = Command::new(alloc, "forget")
-        .about("Writes the table of the inputs, in which some blocks are unknown again")
+        .about("Writes the table of the inputs with some blocks unknown again")
+        .after_help("Example:{n}  udfsalvage forget --out disc.tab --conflicts disc.tab")
         .override_usage(
-            "udfsalvage forget [OPTIONS] --out <FILE> <--conflicts|--blocks <LIST>> <IN>...",
+            "udfsalvage forget [OPTIONS] --out <FILE> <--conflicts|--blocks <LIST>>\n                         <IN>...",
         )
-        .arg(table_file(alloc))?
+        .arg(out)?
         .arg(flag(alloc, CONFLICTS, "Forget the blocks in conflict"))?
         .arg(blocks(alloc, given.conflicts))?
         .arg(force(alloc))?;
@@ -291,21 +306,28 @@ fn bare_list<'a>(alloc: Global) -> Command<'a>
     ensures { app_of result ≡ new_app (codes "list") }
 {
     Command::new(alloc, "list")
-        .about(
-            "Prints a line for each file and folder: standing, kind, bytes lost, size, time and path",
-        )
+        .about("Prints a line for each file and folder, with what is lost of it")
+        .after_help("Example:{n}  udfsalvage list --size-of p1.map --torn --header disc.tab")
         .override_usage("udfsalvage list [OPTIONS] [--last <N> | --size <BYTES>] <IN>...")
 }
 
-/// `list [--torn] [--null] [--paths] [--force] (--last N | --size BYTES | --size-of MAPFILE) [--profile PROFILE] IN...`
+/// `list [--torn] [--null] [--paths] [--header] [--json] [--lost] [--deleted] [--force] (--last N | --size BYTES | --size-of MAPFILE) [--profile PROFILE] IN...`
 fn list<'a>(alloc: Global, given: Given) -> Result<Command<'a>, AllocError>
     ensures { IfOk result (λ command. app_of command ≡ list_app given) }
 {
     let command = with_end(alloc, bare_list(alloc), given.needs_last)?
         .arg(profile(alloc))?
         .arg(flag(alloc, TORN, "Leave out what is whole"))?
-        .arg(flag(alloc, NULL, "End lines with a zero byte"))?
+        .arg(null(alloc))?
         .arg(flag(alloc, PATHS, "Print the paths alone"))?
+        .arg(flag(alloc, HEADER, "Print a first line with the columns' names"))?
+        .arg(flag(alloc, JSON, "Print each line as a JSON object"))?
+        .arg(flag(
+            alloc,
+            LOST,
+            "Add lost folders, with the names in them,{n}and lost files",
+        ))?
+        .arg(flag(alloc, DELETED, "Add these, deleted ones too"))?
         .arg(joining(alloc))?;
     with_inputs(alloc, command, given.pairs)
 }
@@ -314,18 +336,22 @@ fn list<'a>(alloc: Global, given: Given) -> Result<Command<'a>, AllocError>
 fn image<'a>(alloc: Global, given: Given) -> Result<Command<'a>, AllocError>
     ensures { IfOk result (λ command. app_of command ≡ image_app given) }
 {
+    let out = image_file(alloc)?;
     let command = Command::new(alloc, "image")
         .about("Writes what is known of the disc as an image, with its mapfile")
+        .after_help(
+            "Example:{n}  udfsalvage image --size-of p1.map -o disc.img --mapfile disc.map disc.tab",
+        )
         .override_usage(
-            "udfsalvage image [OPTIONS] [--last <N> | --size <BYTES>] --out <IMAGE> --mapfile <MAPFILE> <IN>...",
+            "udfsalvage image [OPTIONS] [--last <N> | --size <BYTES>]\n                        --out <IMAGE> --mapfile <MAPFILE> <IN>...",
         );
     let command = with_end(alloc, command, given.needs_last)?
-        .arg(image_file(alloc))?
+        .arg(out)?
         .arg(image_map(alloc))?
         .arg(flag(
             alloc,
             FORCE,
-            "Write over an image or a mapfile that is not one of the inputs, and join an image of another disc",
+            "Write over an image or a mapfile that is no{n}input, and join an image of another disc",
         ))?;
     with_inputs(alloc, command, given.pairs)
 }
@@ -365,6 +391,7 @@ fn summary<'a>(alloc: Global, given: Given) -> Result<Command<'a>, AllocError>
 {
     let command = Command::new(alloc, "summary")
         .about("Prints what a person wants to know of the volume, on one screen")
+        .after_help("Example:{n}  udfsalvage summary --size-of p1.map disc.tab")
         .override_usage("udfsalvage summary [OPTIONS] [--last <N> | --size <BYTES>] <IN>...");
     let command = with_end(alloc, command, given.needs_last)?
         .arg(profile(alloc))?
@@ -376,14 +403,16 @@ fn summary<'a>(alloc: Global, given: Given) -> Result<Command<'a>, AllocError>
 fn page<'a>(alloc: Global, given: Given) -> Result<Command<'a>, AllocError>
     ensures { IfOk result (λ command. app_of command ≡ page_app given) }
 {
+    let out = page_file(alloc)?;
     let command = Command::new(alloc, "page")
-        .about("Writes what is known of the volume as a page for a browser, to print or to keep")
+        .about("Writes what is known as a page for a browser, to print or to keep")
+        .after_help("Example:{n}  udfsalvage page --size-of p1.map --out disc.html disc.tab")
         .override_usage(
-            "udfsalvage page [OPTIONS] [--last <N> | --size <BYTES>] --out <FILE> <IN>...",
+            "udfsalvage page [OPTIONS] [--last <N> | --size <BYTES>] --out <FILE>\n                       <IN>...",
         );
     let command = with_end(alloc, command, given.needs_last)?
         .arg(profile(alloc))?
-        .arg(page_file(alloc))?
+        .arg(out)?
         .arg(title(alloc))?
         .arg(joining(alloc))?;
     with_inputs(alloc, command, given.pairs)

@@ -105,6 +105,25 @@ $ merge -v --out t.tab a.rd c.rd b.rd d.rd
 silent
 remarked 4 inputs: 0 known (0 new), 2 in conflict (2 new)\ninput 2 disagrees in 1 of 1 blocks: is it the same disc?\ninput 4 disagrees in 1 of 1 blocks: is it the same disc?\n
 
+= an_image_that_is_longer_than_its_map
+# It may be that of another disc. Nothing is said of one that ends where its map does, nor where no more is told.
+passes
+file p.img text «4096*d»
+file short.map text # Mapfile\n0x0 + 1\n0 0x800 +\n
+file p.map text # Mapfile\n0x0 + 1\n0 0x1000 +\n
+
+$ merge -v --out t.tab --ddrescue p.img short.map
+silent
+remarked 1 input: 1 known (0 new), 0 in conflict (0 new)\nshort.map ends at 2.0 kB, and p.img has 4.1 kB: are they of one pass?\n
+
+$ merge -v --out t.tab --ddrescue p.img p.map
+silent
+remarked 1 input: 2 known (0 new), 0 in conflict (0 new)\n
+
+$ merge --out t.tab --ddrescue p.img short.map
+silent
+remarked
+
 = an_input_that_contradicts_itself
 # A block of which an input has two contents is not known to it, whichever comes first; one of which it has the same content twice is.
 file first.rd reading 5:61 6:62

@@ -32,7 +32,7 @@ remarked anchors differ: block 256 opens another state of the disc than block 60
 write 600 20 \x30
 but
 $ extract -v --last 600 --to new disc.tab
-remarked anchors differ: block 256 opens another state of the disc than block 600: the volume is not lawful, and the guarantee does not hold for it\n
+remarked anchors differ: block 256 opens another state of the disc than block 600: the volume is not lawful, and the guarantee does not hold for it\n2 written\n
 
 write 600 20 \x30
 but
@@ -79,7 +79,7 @@ remarked copies of the volume's descriptors differ: the volume is not lawful, an
 write 48 240 \x01\x02
 but
 $ extract -v --last 600 --to new disc.tab
-remarked copies of the volume's descriptors differ: the volume is not lawful, and the guarantee does not hold for it\n
+remarked copies of the volume's descriptors differ: the volume is not lawful, and the guarantee does not hold for it\n2 written\n
 
 write 48 240 \x01\x02
 but

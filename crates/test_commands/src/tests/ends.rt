@@ -232,7 +232,7 @@ $ page --size-of disc.tab --out p.html disc.tab
 refused udfsalvage: cannot take the size from the mapfile\n
 
 $ report -v --size-of odd.map disc.tab
-refused udfsalvage: fault 1 LastRange\n  the last block is from 513 to 4194303: the disc's size in bytes / 2048 - 1, or give --size\n
+refused udfsalvage: fault 1 LastRange\n  the last block is from 513 to 4194303: give the disc's size by --size, in bytes, or in blocks with s after it\n
 
 $ extract --size-of small.map --to out disc.tab
 refused udfsalvage: fault 1 LastRange\n
@@ -277,6 +277,12 @@ error «MISSING»
 
 $ report -v a.map --ddrescue a.img a.map
 error «MISSING»«WHERE»
+
+$ report -v --last 600
+error-begins error: the following required arguments were not provided:\n  <IN>...\n
+
+$ report -v --wide --last 600 a.map
+error-begins error: unexpected argument '--wide' found\n
 
 $ report -v
 error error: the following required arguments were not provided:\n  --last <N>\n  <IN>...\n\nUsage: udfsalvage report [OPTIONS] [--last <N> | --size <BYTES>] <IN>...\n\nFor more information, try '--help'.\n«WHERE»

@@ -8,6 +8,7 @@ static WHAT_IS_SAID_BENEATH_A_REFUSAL: &str = r"
 passes
 file cut.rd front 4119 300:61 301:62
 file short.rd front 15 300:61 301:62
+file none.rd text
 file long.rd longer 300:61 301:62
 file my.disc.iso text «2048*\0»
 file order.tab text UDFTABL1\0\x08\0\0\x02\0\0\0\x05\0\0\0\x02\x05\0\0\0\x02
@@ -29,6 +30,12 @@ refused udfsalvage: input 1: fault 4 Truncated at record 2\n  cut.rd is cut shor
 
 $ merge --out t.tab a.rd short.rd --verbose
 refused udfsalvage: input 2: fault 4 Truncated at record 0\n  short.rd is cut short in its header\n
+
+$ merge --out t.tab -v none.rd
+refused udfsalvage: input 1: fault 4 Truncated at record 0\n  none.rd is empty\n
+
+$ merge --out t.tab -v -
+refused udfsalvage: cannot open input 1\n  -: the system does not say why: this command takes it as a path; standard input is /dev/stdin\n
 
 $ merge --out t.tab -v long.rd
 refused udfsalvage: input 1: fault 5 Trailing at record 2\n  long.rd goes on after its last record\n
@@ -110,7 +117,7 @@ $ forget -v --out t.tab --blocks - disc.tab
 refused udfsalvage: cannot open list\n  /dev/stdin: the system does not say why\n
 
 $ report -v --last 512 disc.tab
-refused udfsalvage: fault 1 LastRange\n  the last block is from 513 to 4194303: the disc's size in bytes / 2048 - 1, or give --size\n
+refused udfsalvage: fault 1 LastRange\n  the last block is from 513 to 4194303: give the disc's size by --size, in bytes, or in blocks with s after it\n
 
 $ report -v --last 599 disc.tab
 refused udfsalvage: fault 2 PastEnd 600\n  block 600 is known, so the last block is not 599\n

@@ -190,7 +190,44 @@ remarked
 
 $ extract -v --last 600 --to out disc.tab
 done 1 failed /A\nwritten /B\n
-remarked /A: the system does not say why\n
+remarked /A: the system does not say why\n1 written, 1 failed\n
+
+= why_a_file_is_not_written
+# Beside each line that is not `written`, and beside a file with zeros in it, is why; and at the end how many there are of each.
+
+but 278
+$ extract -v --last 600 --to out disc.tab
+done 1 skipped /A\nwritten /B\n
+remarked /A: torn: 2.0 kB missing at 2048\n1 written, 1 torn\n
+
+but 277 279
+$ extract -v --last 600 --to out --fill disc.tab
+done 1 written /A\nwritten /B\n
+remarked /A: torn: 3.0 kB of zeros at 0 and one more place\n1 written, 1 filled\n
+
+but 275
+$ extract -v --last 600 --to out disc.tab
+done 1 skipped /A\nwritten /B\n
+remarked /A: not read: a file, or a folder with all below it\n1 written, 1 unread\n
+
+but 275
+$ extract -v --last 600 --to out --only /B disc.tab
+done 0 written /B\n
+remarked 1 written\n
+
+but 275
+$ extract -q --last 600 --to out disc.tab
+done 1 skipped /A\nwritten /B\n
+remarked
+
+= why_a_faulty_file_is_not_written
+# The file is 10 bytes longer than its extents, as the Linux driver leaves it.
+write 275 56 \x92\x13
+
+but
+$ extract -v --last 600 --to out disc.tab
+done 1 skipped /A\nwritten /B\n
+remarked /A: fault 9: --profile wide may read it\n1 written, 1 fault\n
 
 = what_refuses_it
 but

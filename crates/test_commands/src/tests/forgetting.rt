@@ -34,7 +34,7 @@ $ merge --v1 --out u.tab t.tab
 silent
 has u.tab table 301:62
 
-$ forget --blocks zeros -o t.tab b.rd a.rd
+$ forget --blocks zeros --output t.tab b.rd a.rd
 silent
 $ merge --v1 --out u.tab t.tab
 silent
@@ -145,16 +145,17 @@ refused udfsalvage: cannot write output\n
 $ forget --conflicts --force --out b.rd a.rd c.rd
 silent
 
-= a_reading_at_the_path_of_a_dash
-# As an input `-` is standard input; as an output it is a path as any other, as `./-` is: what is there is no input.
+= a_dash_is_a_stream
+# As an input `-` is standard input, and as an output standard output; `./-` is a path as any other: what is there is no input.
 passes
+folder /dev
 file /dev/stdin text UDFREAD1\0\x08\0\0\0\0\0\0
 file - text UDFREAD1\0\x08\0\0\0\0\0\0
 file ./- text UDFREAD1\0\x08\0\0\0\0\0\0
 
 $ forget --conflicts --out - -
-refused udfsalvage: cannot write output\n
-calls 0
+silent
+has /dev/stdout text UDFTABL2\0\x08\0\0\0\0\0\0
 has - text UDFREAD1\0\x08\0\0\0\0\0\0
 
 $ forget --conflicts --out ./- -
@@ -162,16 +163,12 @@ refused udfsalvage: cannot write output\n
 calls 0
 has ./- text UDFREAD1\0\x08\0\0\0\0\0\0
 
-$ forget --conflicts --out - a.rd
-refused udfsalvage: cannot write output\n
-calls 0
+$ forget --conflicts --out=- a.rd
+silent
+has - text UDFREAD1\0\x08\0\0\0\0\0\0
 
 $ forget --conflicts --out a.rd - a.rd
 silent
-
-$ forget --conflicts --force --out - -
-silent
-has - text UDFTABL2\0\x08\0\0\0\0\0\0
 
 = a_list_whose_device_fails
 * files

@@ -3,25 +3,25 @@
 use crate::tests::check;
 use std::test::Fail;
 
-static SCRIPT: &str = r"
+static SCRIPT: &str = r#"
 = a_line_for_each_node
 # A line for each node behind the root, whole and torn, and of which the entry is not read.
 
 but
 $ list --last 600 disc.tab
-done 0 whole\tfile\t0\t5000\t2001-07-04T09:30:00.000000Z\t/A\nwhole\tfile\t0\t2\t2001-07-04T09:30:00.000000Z\t/B\n
+done 0 whole\tfile\t0\t5000\t2001-07-04T09:30:00Z\t/A\nwhole\tfile\t0\t2\t2001-07-04T09:30:00Z\t/B\n
 
 but 278
 $ list --last 600 disc.tab
-done 1 torn\tfile\t2048\t5000\t2001-07-04T09:30:00.000000Z\t/A\nwhole\tfile\t0\t2\t2001-07-04T09:30:00.000000Z\t/B\n
+done 1 torn\tfile\t2048\t5000\t2001-07-04T09:30:00Z\t/A\nwhole\tfile\t0\t2\t2001-07-04T09:30:00Z\t/B\n
 
 but 277 279
 $ list --torn --size 1230848 disc.tab
-done 1 torn\tfile\t2952\t5000\t2001-07-04T09:30:00.000000Z\t/A\n
+done 1 torn\tfile\t2952\t5000\t2001-07-04T09:30:00Z\t/A\n
 
 but 275
 $ list --last 600 disc.tab
-done 1 torn\tunread\t-\t-\t-\t/A\nwhole\tfile\t0\t2\t2001-07-04T09:30:00.000000Z\t/B\n
+done 1 torn\tunknown\t-\t-\t-\t/A\nwhole\tfile\t0\t2\t2001-07-04T09:30:00Z\t/B\n
 
 but 278
 $ list --torn --null --paths --last 600 disc.tab
@@ -39,6 +39,108 @@ but 256 344 600
 $ list --last 600 disc.tab
 done 1
 
+= the_forms_of_a_line
+# The columns' names first, paths that end with a zero byte, and objects.
+
+but 278
+$ list --torn --header --last 600 disc.tab
+done 1 standing\tkind\tlost\tsize\ttime\tpath\ntorn\tfile\t2048\t5000\t2001-07-04T09:30:00Z\t/A\n
+
+but 278
+$ list -0 --paths --header --last 600 disc.tab
+done 1 path\0/A\0/B\0
+
+but 278
+$ list --torn --json --header --last 600 disc.tab
+done 1 {"standing":"torn","kind":"file","lost":2048,"size":5000,"time":"2001-07-04T09:30:00.000000Z","path":"/A"}\n
+
+but 275
+$ list --torn --json -0 --last 600 disc.tab
+done 1 {"standing":"torn","kind":"unread","lost":null,"size":null,"time":null,"path":"/A"}\0
+
+but
+$ list --json --paths --last 600 disc.tab
+done 0 {"path":"/A"}\n{"path":"/B"}\n
+
+= lost_folders_keep_their_names
+# The root's block is not read, so no name leads to the folder at 10, whose parent's identifier names the root.
+directory 1 D=10
+directory 10 E=1 A=3 B=4
+write 282 48 \x01
+write 283 18 \x08\0
+write 275 48 \x01
+write 276 48 \x01
+
+but 274
+$ list --lost --last 600 disc.tab
+done 1 whole\tdirectory\t0\t120\t2001-07-04T09:30:00Z\tlost:10/\tin /\nwhole\tfile\t0\t5000\t2001-07-04T09:30:00Z\tlost:10/A\nwhole\tfile\t0\t2\t2001-07-04T09:30:00Z\tlost:10/B\n
+
+but 274
+$ list --lost --paths --null --last 600 disc.tab
+done 1 lost:10/\0lost:10/A\0lost:10/B\0
+
+but 274
+$ list --lost --json --header --last 600 disc.tab
+done 1 {"standing":"whole","kind":"directory","lost":0,"size":120,"time":"2001-07-04T09:30:00.000000Z","path":"lost:10/","in":"/"}\n{"standing":"whole","kind":"file","lost":0,"size":5000,"time":"2001-07-04T09:30:00.000000Z","path":"lost:10/A"}\n{"standing":"whole","kind":"file","lost":0,"size":2,"time":"2001-07-04T09:30:00.000000Z","path":"lost:10/B"}\n
+
+but 274
+$ list --lost --json --paths --torn --last 600 disc.tab
+done 1
+
+but 274
+$ list --last 600 disc.tab
+done 1
+
+but 274 278
+$ list --lost --torn --last 600 disc.tab
+done 1 torn\tfile\t2048\t5000\t2001-07-04T09:30:00Z\tlost:10/A\n
+
+but 274 283
+$ list --lost --last 600 disc.tab
+done 1 torn\tdirectory\t120\t120\t2001-07-04T09:30:00Z\tlost:10/\nwhole\tfile\t0\t5000\t2001-07-04T09:30:00Z\tlost:3\nwhole\tfile\t0\t2\t2001-07-04T09:30:00Z\tlost:4\n
+
+but
+$ list --lost --last 600 disc.tab
+done 0 whole\tdirectory\t0\t120\t2001-07-04T09:30:00Z\t/D\nwhole\tfile\t0\t5000\t2001-07-04T09:30:00Z\t/D/A\nwhole\tfile\t0\t2\t2001-07-04T09:30:00Z\t/D/B\n
+
+= a_lost_folder_in_a_folder
+# The folder at 10 is /D, whose block is not read; the one at 20 says that it is in it.
+directory 1 D=10
+directory 10 E=20
+directory 20 D=10 A=3
+write 282 48 \x01
+write 292 48 \x01
+write 293 18 \x08\0
+write 275 48 \x01
+
+but 283
+$ list --lost --last 600 disc.tab
+done 1 torn\tdirectory\t40\t40\t2001-07-04T09:30:00Z\t/D\nwhole\tdirectory\t0\t80\t2001-07-04T09:30:00Z\tlost:20/\tin /D\nwhole\tfile\t0\t5000\t2001-07-04T09:30:00Z\tlost:20/A\n
+
+= what_was_deleted
+directory 1 D=10
+directory 10 A=3
+write 275 48 \x01
+
+but 274
+$ list --lost --last 600 disc.tab
+done 1 whole\tfile\t0\t5000\t2001-07-04T09:30:00Z\tlost:3\n
+
+but 274
+$ list --deleted --last 600 disc.tab
+done 1 whole\tdirectory\t0\t40\t2001-07-04T09:30:00Z\tlost:10/\nwhole\tfile\t0\t5000\t2001-07-04T09:30:00Z\tlost:10/A\nwhole\tfile\t0\t2\t2001-07-04T09:30:00Z\tlost:4\n
+
+= lost_folders_in_a_ring
+directory 1 D=10
+directory 10 E=12
+directory 12 D=10
+write 282 48 \x01
+write 284 48 \x01
+
+but 274
+$ list --lost --paths --last 600 disc.tab
+done 1 lost:10/\nlost:10/E\nlost:10/E/D\n
+
 = what_refuses_a_list
 file empty.rd reading
 
@@ -47,7 +149,7 @@ refused udfsalvage: fault 1 LastRange\n
 
 $ list --last 600 empty.rd absent.rd
 refused udfsalvage: cannot open input 2\n
-";
+"#;
 
 #[test]
 fn what_is_listed(rt: HostRuntime) -> Result<(), Fail> {

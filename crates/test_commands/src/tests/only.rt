@@ -33,6 +33,13 @@ there out/D/C
 absent out/DX/A
 absent out/B
 
+$ extract --last 600 --to out --only /D/ disc.tab
+done 0 written /D/A\nwritten /D/C\n
+files 3
+
+$ extract --last 600 --to out --only // disc.tab
+done 0 written /D/A\nwritten /D/C\nwritten /DX/A\nwritten /B\n
+
 $ extract --last 600 --to out --only /DX disc.tab
 done 0 written /DX/A\n
 no-folder out/D
@@ -109,10 +116,10 @@ refused udfsalvage: --only 1 is no node\n
 $ extract --last 600 --to out --only D disc.tab
 refused udfsalvage: --only 1 is no node\n
 
-$ extract --last 600 --to out --only /D/ disc.tab
+$ extract --last 600 --to out --only D/ disc.tab
 refused udfsalvage: --only 1 is no node\n
 
-$ extract --last 600 --to out --only // disc.tab
+$ extract --last 600 --to out --only /D// disc.tab
 refused udfsalvage: --only 1 is no node\n
 
 $ extract --last 600 --to out --only /D/A/x disc.tab

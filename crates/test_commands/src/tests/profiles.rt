@@ -148,7 +148,7 @@ remarked
 
 $ extract -v --last 600 --profile wide --to out disc.tab
 out written /A\nwritten /B\n
-remarked
+remarked 2 written\n
 has out/A text «2048*a»«2048*b»«904*c»
 has out/B text Hi
 
@@ -243,7 +243,7 @@ out-has \nnode 1 whole other-250 5000 2001-07-04
 
 $ extract -v --last 600 --profile wide --to out disc.tab
 out skipped /A\nwritten /B\n
-remarked 1 file of a type that is not written (250)\n
+remarked /A: of type 250, which is not written\n1 file of a type that is not written (250)\n1 written, 1 of another type\n
 
 $ summary --last 600 --profile wide disc.tab
 out-has \nOther      1 file of a type that is not written (250)\nDisc
@@ -273,7 +273,7 @@ remarked 1 file of a type that is not written (249, real-time): --profile wide w
 
 $ extract -v --last 600 --to out disc.tab
 out skipped /A\nwritten /B\n
-remarked 1 file of a type that is not written (249, real-time): --profile wide writes it\n
+remarked /A: of type 249, which is not written\n1 file of a type that is not written (249, real-time): --profile wide writes it\n1 written, 1 of another type\n
 files 2
 
 $ summary --last 600 disc.tab

@@ -77,7 +77,7 @@ $ reread --last 600 --mapfile want.map disc.tab
 
 $ reread --last 600 --mapfile want.map disc.tab
 done 1 1 blocks in 1 runs, and 4 known ones to compare\n
-$ reread --size 1230848 disc.tab --mapfile=want.map
+$ reread --size 1230848 disc.tab --domain=want.map
 
 = the_counts_of_a_mapfile
 # Nothing is wanted of a disc of which all is known, and then nothing is compared; of an unread one the anchors are wanted, and no block is known. Blocks 277

@@ -26,7 +26,7 @@ done 1 278\n
 $ reread --last 600 --only /D/A disc.tab
 done 1 278\n
 
-$ reread --last 600 --only /DX disc.tab
+$ reread --last 600 --only /DX/ disc.tab
 done 1 276\n
 
 $ reread --last 600 --only=/DX/C disc.tab
@@ -73,7 +73,7 @@ $ reread --last 600 --only /D/A disc.tab
 done 1 278\n294\n
 
 but 278 294
-$ reread --last 600 --only /DX disc.tab
+$ reread --last 600 --only /DX/ disc.tab
 done 1 278\n
 
 = a_path_of_which_no_folder_is_read

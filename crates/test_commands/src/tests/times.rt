@@ -27,7 +27,7 @@ done 0 written /A\nwritten /B\n
 modified out none
 modified out/A none
 modified out/B none
-remarked
+remarked 2 written\n
 
 = it_is_the_time_of_the_last_change
 # The time of the last change is set, and neither that of the last access, 12 bytes before it, nor that of the attributes, 12 behind.
@@ -130,21 +130,21 @@ but 600
 timeless out/A
 $ extract -v --last 600 --to out --times disc.tab
 done 1 written /A\nwritten /B\n
-remarked time of /A: the system does not say why\n
+remarked time of /A: the system does not say why\n2 written\n
 modified out/A none
 
 but 600
 timeless out
 $ extract -v --last 600 --to out --times --manifest m disc.tab
 done 1 written /A\nwritten /B\n
-remarked time of /: the system does not say why\n
+remarked time of /: the system does not say why\n2 written\n
 modified out none
 
 but 274
 timeless lost/3
 $ extract -v --last 600 --to out --times --unnamed lost disc.tab
 done 1 written unnamed 3\nwritten unnamed 4\n
-remarked time of unnamed 3: the system does not say why\n
+remarked 0 written\ntime of unnamed 3: the system does not say why\n
 modified lost/3 none
 
 = what_is_not_made_has_none

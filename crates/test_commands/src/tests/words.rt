@@ -39,7 +39,7 @@ out-begins Joins readings and table files into one table file
 out-has <IN>...
 
 $ report --help
-out-begins Prints what is known of the volume, file by file
+out-begins Prints what is known, file by file
 out-has --last <N>
 
 $ reread --help
@@ -49,6 +49,14 @@ out-has --last <N>
 $ extract --help
 out-begins Writes the files that are whole into a new folder
 out-has --to <DIR>
+
+$ extract --help
+out-begins Writes the files that are whole into a new folder
+out-has \n\nExample:\n  udfsalvage extract --size-of p1.map --to files --times disc.tab\n
+
+$ list --help
+out-begins Prints a line for each file and folder
+out-has -0, --null
 
 $ --version
 out-begins udfsalvage 0.1.0\n

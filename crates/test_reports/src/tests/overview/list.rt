@@ -18,6 +18,8 @@ const ALL: ListForm = ListForm {
     torn: false,
     null: false,
     paths: false,
+    header: false,
+    json: false,
 };
 
 fn listed(alloc: Global, table: &BlockTable, form: ListForm) -> Result<String, Fail> {
@@ -38,20 +40,20 @@ fn assert_listed(rt: &impl Abort, alloc: Global, disc: &Disc, expected: &str) ->
 static UNREAD: [(&[u32], &str); 6] = [
     (
         &[],
-        "whole\tfile\t0\t5000\t2001-07-04T09:30:00.000000Z\t/A\nwhole\tfile\t0\t2\t2001-07-04T09:30:00.000000Z\t/B\n",
+        "whole\tfile\t0\t5000\t2001-07-04T09:30:00Z\t/A\nwhole\tfile\t0\t2\t2001-07-04T09:30:00Z\t/B\n",
     ),
     (
         &[278],
-        "torn\tfile\t2048\t5000\t2001-07-04T09:30:00.000000Z\t/A\nwhole\tfile\t0\t2\t2001-07-04T09:30:00.000000Z\t/B\n",
+        "torn\tfile\t2048\t5000\t2001-07-04T09:30:00Z\t/A\nwhole\tfile\t0\t2\t2001-07-04T09:30:00Z\t/B\n",
     ),
     // two holes, of 2,048 and 904 bytes
     (
         &[277, 279],
-        "torn\tfile\t2952\t5000\t2001-07-04T09:30:00.000000Z\t/A\nwhole\tfile\t0\t2\t2001-07-04T09:30:00.000000Z\t/B\n",
+        "torn\tfile\t2952\t5000\t2001-07-04T09:30:00Z\t/A\nwhole\tfile\t0\t2\t2001-07-04T09:30:00Z\t/B\n",
     ),
     (
         &[275],
-        "torn\tunread\t-\t-\t-\t/A\nwhole\tfile\t0\t2\t2001-07-04T09:30:00.000000Z\t/B\n",
+        "torn\tunknown\t-\t-\t-\t/A\nwhole\tfile\t0\t2\t2001-07-04T09:30:00Z\t/B\n",
     ),
     // the root is torn, and is not listed
     (&[274], ""),
@@ -82,11 +84,11 @@ fn tails(rt: HostRuntime) -> Result<(), Fail> {
     assert_text(
         &rt,
         String::from_utf8(text.into_inner())?,
-        "whole\tfile\t0\t5010\t2001-07-04T09:30:00.000000Z\t/A\ttail\nwhole\tfile\t0\t2\t2001-07-04T09:30:00.000000Z\t/B\n",
+        "whole\tfile\t0\t5010\t2001-07-04T09:30:00Z\t/A\ttail\nwhole\tfile\t0\t2\t2001-07-04T09:30:00Z\t/B\n",
     );
     // By the strict rules it is a fault.
     let strict =
-        "fault 9\tfile\t-\t5010\t2001-07-04T09:30:00.000000Z\t/A\nwhole\tfile\t0\t2\t2001-07-04T09:30:00.000000Z\t/B\n";
+        "fault 9\tfile\t-\t5010\t2001-07-04T09:30:00Z\t/A\nwhole\tfile\t0\t2\t2001-07-04T09:30:00Z\t/B\n";
     assert_listed(&rt, alloc, &disc, strict)
 }
 
@@ -99,16 +101,96 @@ fn forms(rt: HostRuntime) -> Result<(), Fail> {
             true,
             false,
             false,
-            "torn\tfile\t2048\t5000\t2001-07-04T09:30:00.000000Z\t/A\n",
+            "torn\tfile\t2048\t5000\t2001-07-04T09:30:00Z\t/A\n",
         ),
         (false, false, true, "/A\n/B\n"),
         (false, true, true, "/A\0/B\0"),
         (true, true, true, "/A\0"),
     ];
     for (torn, null, paths, expected) in cases {
-        let form = ListForm { torn, null, paths };
+        let form = ListForm {
+            torn,
+            null,
+            paths,
+            ..ALL
+        };
         assert_text(&rt, listed(alloc, &table, form)?, expected);
     }
+    Ok(())
+}
+
+/// The columns' names stand on the first line, which ends as the others do; they are there for a list without lines too.
+#[test]
+fn headers(rt: HostRuntime) -> Result<(), Fail> {
+    let alloc = rt.alloc();
+    let table = Disc::type1(alloc)?.known_but(alloc, &[278])?;
+    let mut form = ListForm {
+        torn: true,
+        header: true,
+        ..ALL
+    };
+    assert_text(
+        &rt,
+        listed(alloc, &table, form)?,
+        "standing\tkind\tlost\tsize\ttime\tpath\ntorn\tfile\t2048\t5000\t2001-07-04T09:30:00Z\t/A\n",
+    );
+    form.paths = true;
+    form.null = true;
+    assert_text(&rt, listed(alloc, &table, form)?, "path\0/A\0");
+    let shut = Disc::type1(alloc)?.known_but(alloc, &[256, 344, 600])?;
+    assert_text(&rt, listed(alloc, &shut, form)?, "path\0");
+    Ok(())
+}
+
+/// An object for each node, in place of its line, and no header.
+#[test]
+fn objects(rt: HostRuntime) -> Result<(), Fail> {
+    let alloc = rt.alloc();
+    let mut form = ListForm {
+        json: true,
+        header: true,
+        ..ALL
+    };
+    let table = Disc::type1(alloc)?.known_but(alloc, &[278])?;
+    assert_text(
+        &rt,
+        listed(alloc, &table, form)?,
+        "{\"standing\":\"torn\",\"kind\":\"file\",\"lost\":2048,\"size\":5000,\"time\":\"2001-07-04T09:30:00.000000Z\",\"path\":\"/A\"}\n{\"standing\":\"whole\",\"kind\":\"file\",\"lost\":0,\"size\":2,\"time\":\"2001-07-04T09:30:00.000000Z\",\"path\":\"/B\"}\n",
+    );
+    form.paths = true;
+    assert_text(
+        &rt,
+        listed(alloc, &table, form)?,
+        "{\"path\":\"/A\"}\n{\"path\":\"/B\"}\n",
+    );
+    form.paths = false;
+    form.torn = true;
+    let unread = Disc::type1(alloc)?.known_but(alloc, &[275])?;
+    assert_text(
+        &rt,
+        listed(alloc, &unread, form)?,
+        "{\"standing\":\"torn\",\"kind\":\"unread\",\"lost\":null,\"size\":null,\"time\":null,\"path\":\"/A\"}\n",
+    );
+    Ok(())
+}
+
+/// The backslash of an escape, and a quote in a name, are escaped in an object.
+#[test]
+fn names_in_objects(rt: HostRuntime) -> Result<(), Fail> {
+    let alloc = rt.alloc();
+    let mut disc = Disc::type1(alloc)?;
+    disc.write_directory(272, 1, &[(b"\x08a\"\x09b", 3)])?;
+    let table = disc.known_but(alloc, &[])?;
+    let form = ListForm {
+        json: true,
+        paths: true,
+        ..ALL
+    };
+    assert_text(
+        &rt,
+        listed(alloc, &table, form)?,
+        "{\"path\":\"/a\\\"\\\\u0009b\"}\n",
+    );
     Ok(())
 }
 
@@ -121,7 +203,7 @@ fn a_loop(rt: HostRuntime) -> Result<(), Fail> {
         &rt,
         alloc,
         &disc,
-        "loop\tdirectory\t-\t120\t2001-07-04T09:30:00.000000Z\t/A\nwhole\tfile\t0\t2\t2001-07-04T09:30:00.000000Z\t/B\n",
+        "loop\tdirectory\t-\t120\t2001-07-04T09:30:00Z\t/A\nwhole\tfile\t0\t2\t2001-07-04T09:30:00Z\t/B\n",
     )
 }
 
@@ -134,7 +216,7 @@ fn a_fault(rt: HostRuntime) -> Result<(), Fail> {
         &rt,
         alloc,
         &disc,
-        "whole\tfile\t0\t5000\t2001-07-04T09:30:00.000000Z\t/A\nfault 5\tunread\t-\t-\t-\t/B\n",
+        "whole\tfile\t0\t5000\t2001-07-04T09:30:00Z\t/A\nfault 5\tunknown\t-\t-\t-\t/B\n",
     )
 }
 
@@ -148,7 +230,7 @@ fn a_name_that_would_turn_the_text(rt: HostRuntime) -> Result<(), Fail> {
         &rt,
         alloc,
         &disc,
-        "whole\tfile\t0\t5000\t2001-07-04T09:30:00.000000Z\t/\\u202Ea\n",
+        "whole\tfile\t0\t5000\t2001-07-04T09:30:00Z\t/\\u202Ea\n",
     )
 }
 

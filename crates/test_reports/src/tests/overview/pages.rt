@@ -134,7 +134,8 @@ fn what_is_not_whole_is_told(rt: HostRuntime) -> Result<(), Fail> {
     disc.write_directory(272, 22, &[(b"\x08y", 3)])?;
     disc.fill(312, 0x5a)?;
     let page = page_of(alloc, &disc.known_but(alloc, &[275, 293, 295])?)?;
-    static CASES: [&str; 4] = [
+    static CASES: [&str; 5] = [
+        "<h2>Not yet looked at</h2>\n<p>Each is a file or a whole folder, of unknown size.</p>\n<ul>\n<li><bdi>/r</bdi>\n</ul>\n",
         "<div>Folders    1 whole   2 torn: names may be missing in <bdi>/p</bdi> and 1 more</div>\n",
         "<div class=t><bdi>r</bdi><small>not yet known</small></div>\n",
         "<div class=f><bdi>t</bdi><small>folder, a loop: it stands inside itself</small></div>\n",

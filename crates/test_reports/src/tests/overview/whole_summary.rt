@@ -238,6 +238,65 @@ fn several_torn_folders(rt: HostRuntime) -> Result<(), Fail> {
     Ok(())
 }
 
+/// Two readings of block 278 differ, which holds 2,048 of 5,000 bytes: the file is disputed, and not torn. Where 277 is not known either, it is torn.
+#[test]
+fn a_file_of_which_readings_differ(rt: HostRuntime) -> Result<(), Fail> {
+    let alloc = rt.alloc();
+    let mut table = Disc::type1(alloc)?.known_but(alloc, &[])?;
+    table.put(278, &[1; 2048])?;
+    let text = summed_up(alloc, &table)?;
+    assert!(rt;
+        text.as_str()
+            .contains("1 file is complete,\n1 disputed: two readings differ;\n")
+    );
+    assert!(rt;
+        text.as_str().contains(
+            "Files      1 whole (2 B)\n           1 disputed: two readings differ, nothing is lost\nFolders"
+        )
+    );
+    assert!(rt;
+        text.as_str()
+            .contains("Torn       disputed  /A   2.0 kB of 5.0 kB\nNext")
+    );
+    let mut other = Disc::type1(alloc)?.known_but(alloc, &[277])?;
+    other.put(278, &[1; 2048])?;
+    let text = summed_up(alloc, &other)?;
+    assert!(rt; text.as_str().contains("1 file is complete, 1 damaged;\n"));
+    assert!(rt;
+        text.as_str()
+            .contains("Torn       81.9 %  /A   4.1 kB of 5.0 kB lost\n")
+    );
+    Ok(())
+}
+
+/// A name of 70 letters: each line has at most 80 columns, and the path its beginning and its end.
+#[test]
+fn a_long_path_is_cut_in_the_middle(rt: HostRuntime) -> Result<(), Fail> {
+    let alloc = rt.alloc();
+    let mut disc = Disc::type1(alloc)?;
+    disc.write_directory(
+        272,
+        1,
+        &[(
+            b"\x08abcdefghijklmnopqrstuvwxyzabcdefghijklmnopqrstuvwxyzabcdefghijklmnopqr",
+            3,
+        )],
+    )?;
+    let text = summed_up(alloc, &disc.known_but(alloc, &[278])?)?;
+    assert!(rt;
+        text.as_str().contains(
+            "Torn       41.0 %  /abcdefghijklm...efghijklmnopqr   2.0 kB of 5.0 kB lost\n"
+        )
+    );
+    let text = summed_up(alloc, &disc.known_but(alloc, &[275])?)?;
+    assert!(rt;
+        text.as_str().contains(
+            "           /abcdefghijklmnopqrstuvwxyzabcdef...lmnopqrstuvwxyzabcdefghijklmnopqr\n"
+        )
+    );
+    Ok(())
+}
+
 #[test]
 fn a_sink_that_fails_holds_a_beginning(rt: HostRuntime) -> Result<(), Fail> {
     let alloc = rt.alloc();

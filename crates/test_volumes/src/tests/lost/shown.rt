@@ -50,7 +50,7 @@ fn lost_among(
         push_tree(alloc, &mut text, tree)?;
     }
     for file in &lost_files(alloc, view, deleted, &trees, entries)? {
-        push_address(alloc, &mut text, "file", *file)?;
+        push_address(alloc, &mut text, "file", file.address())?;
     }
     Ok(text)
 }

@@ -40,7 +40,7 @@ pub returns-in-Report-clause-failed : goal.returns-in-Report-clause-failed
 returns-in-Report-clause-failed g c = rw c.in-Report.is (unchanged _ _ _ refl)
 
 pub returns-in-List-clause-done : goal.returns-in-List-clause-done
-returns-in-List-clause-done g c = rw c.in-List.is (rw c.node_lines.ensures at c.tell-in-List.ensures.printed)
+returns-in-List-clause-done g c = rw c.in-List.is (rw c.node_lines.ensures at c.list.ensures.printed)
 
 pub returns-in-List-clause-left : goal.returns-in-List-clause-left
 returns-in-List-clause-left g c = rw c.in-List.is refl

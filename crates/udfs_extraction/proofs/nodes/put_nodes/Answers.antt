@@ -197,3 +197,6 @@ returns-clause-put g c =
 
 pub returns-in_err-heard-clause-stays : goal.returns-in_err-heard-clause-stays
 returns-in_err-heard-clause-stays g c told q bytes is = c.put_chosen.ensures.stays told q bytes (c.loop-index.invariant.stays told q bytes is)
+
+pub returns-in_err-note-clause-stays : goal.returns-in_err-note-clause-stays
+returns-in_err-note-clause-stays g c told q bytes is = c.put_chosen.ensures.stays told q bytes (c.loop-index.invariant.stays told q bytes is)

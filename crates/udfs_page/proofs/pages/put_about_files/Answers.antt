@@ -7,7 +7,8 @@ use Rattle.udfs_walk.specs.Bare.{full_node}
 use Rattle.udfs_salvage.specs.Found.{Found, found_now, volume_now}
 use Rattle.udfs_salvage.specs.Printing.{PassesOn}
 use Rattle.udfs_salvage.specs.Surveys.{full_nodes, survey_now}
-use Rattle.udfs_page.specs.Pages.{files_html, nodes_of}
+use Rattle.udfs_page.specs.Pages.{files_html}
+use Rattle.udfs_page.specs.Trees.{tree_html}
 use Rattle.udfs_page.proofs.pages.put_about_files.Goals as goal
 
 pub returns-in-Open : goal.returns-in-Open
@@ -16,8 +17,8 @@ returns-in-Open g c =
     let s = c.args.survey.now in
     let T = state_of s.table.now in
     let opened = ap volume_now c.in-Open.is in
-    subst (λ t. PassesOn (W.stream c.args.sink.now) (W.stream c.put_about_nodes.new.sink) (string_bytes c.args.text.now) (string_bytes c.put_about_nodes.new.text) t c.put_about_nodes.result)
-    (ap (λ v. nodes_of v (map (full_node v) c.deref.result.now)) c.view-view.ensures.value
-    ∙ ap (nodes_of (view T (found_now c.in-Open.opened).space))
+    subst (λ t. PassesOn (W.stream c.args.sink.now) (W.stream c.put_tree.new.sink) (string_bytes c.args.text.now) (string_bytes c.put_tree.new.text) t c.put_tree.result)
+    (ap (λ v. tree_html v (map (full_node v) c.deref.result.now)) c.view-view.ensures.value
+    ∙ ap (tree_html (view T (found_now c.in-Open.opened).space))
     (ap (λ (a : Answer Found). full_nodes T a c.deref.result.now) (sym opened) ∙ ap (full_nodes T (volume_now s.volume)) c.deref.ensures.value)
-    ∙ ap (λ (a : Answer Found). files_html T a (survey_now s)) (sym opened)) c.put_about_nodes.ensures
+    ∙ ap (λ (a : Answer Found). files_html T a (survey_now s)) (sym opened)) c.put_tree.ensures

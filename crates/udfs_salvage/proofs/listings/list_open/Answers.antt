@@ -1,5 +1,4 @@
 use Rattle.std.proofs.Common.{List, map, refl}
-use Rattle.udfs_lattice.specs.Tables.{state_of}
 use Rattle.udfs_volume.specs.Answers.{found}
 use Rattle.udfs_walk.specs.NodeFields.{NodeFields}
 use Rattle.udfs_walk.specs.Rereads.{reread}
@@ -9,6 +8,6 @@ use Rattle.udfs_salvage.proofs.Rereads.{reread_rises}
 use Rattle.udfs_salvage.proofs.listings.list_open.Goals as goal
 
 pub returns-clause-rising : goal.returns-clause-rising
-returns-clause-rising c =
-    let nodes : List NodeFields = map (full_in (state_of c.args.table.now) (found (found_now c.args.opened))) c.in_ok-nodes.nodes.items in
+returns-clause-rising g c =
+    let nodes : List NodeFields = map (full_in (g.B.BlockStore.states c.args.blocks.now) (found (found_now c.args.opened))) c.in_ok-nodes.nodes.items in
     reread_rises (reread nodes) nodes refl

@@ -1,8 +1,9 @@
 -- What the grammar makes of the line, and what a request of it is.
-use Rattle.std.proofs.Common.{◌≡◌, List, [], ◌∷◌, Option, None, Some, codes, ap, refl, ◌∙◌, unwrap_or, lit<}
+use Rattle.std.proofs.Common.{◌≡◌, List, [], ◌∷◌, Option, None, Some, codes, ap, map, refl, ◌∙◌, unwrap_or, lit<}
 use Rattle.clap.specs.Words.{Row, Text, all_of, first_of, one_of, rows_of}
 use Rattle.clap.specs.declared.parser.matches.Found.{Found}
 use Rattle.clap.proofs.OnLiterals.{clap_on_literals}
+use Rattle.udfs_words.specs.Asking.{only_path}
 use Rattle.udfs_words.specs.Obeying.{Asks, GrammarTakes, IsAsked}
 use Rattle.udfs_words.specs.Requests.{IsRequest}
 use Rattle.udfs_words.specs.Lines.{IsSomeExtract, extract_line}
@@ -38,7 +39,7 @@ by name words (request.Extract r) e is = (
     is.1.volume.profile.unnamed (first_is words (codes "profile") _ (ap (λ t. t.4) e)),
   ),
   is.1.folder ∙ ap (λ (o : Option Text). unwrap_or o []) (first_is words (codes "to") _ (ap (λ t. t.8) e)),
-  is.1.only ∙ (all_are words (codes "only") _ _ _ (ap (λ t. t.9) e) refl),
+  is.1.only ∙ ap (map only_path) (all_are words (codes "only") _ _ _ (ap (λ t. t.9) e) refl),
   is.1.fill.with_flag (one_is words (codes "fill") _ (ap (λ t. t.10) e)),
   is.1.short_names.without_flag (one_is words (codes "short-names") _ (ap (λ t. t.11) e)),
   is.1.times.with_flag (one_is words (codes "times") _ (ap (λ t. t.12) e)),

@@ -1,5 +1,6 @@
 -- What the grammar makes of the line, and what a request of it is.
-use Rattle.std.proofs.Common.{◌≡◌, List, [], ◌∷◌, Option, None, Some, codes, ap, map, refl, ◌∙◌, unwrap_or}
+use Rattle.std.proofs.Common.{◌≡◌, List, [], ◌∷◌, Option, None, Some, codes, ap, map, refl, ◌∙◌, unwrap_or, if◌then◌else◌}
+use Rattle.std.specs.Str.{bytes_eq}
 use Rattle.clap.specs.Words.{Row, Text, all_of, first_of, one_of, rows_of}
 use Rattle.clap.specs.declared.parser.matches.Found.{Found}
 use Rattle.clap.proofs.OnLiterals.{clap_on_literals}
@@ -20,6 +21,10 @@ named : Asks forget_line (codes "forget")
 unfolding clap_on_literals
 named = refl
 
+-- where the output goes
+abbrev put_at : Text → Text
+put_at out = if bytes_eq out (codes "-") then codes "/dev/stdout" else out
+
 -- all that is read of the line
 abbrev read : Text → List Row → Text × Option (List Text) × Option (List Text) × Option Text × Option Text × Option (List Text) × Option Text × Option Text × Option Text × Option Text × Option (List Text)
 read name rows = (name, all_of (codes "input") rows, all_of (codes "ddrescue") rows, first_of (codes "size") rows, first_of (codes "profile") rows, all_of (codes "blocks") rows, one_of (codes "conflicts") rows, first_of (codes "out") rows, one_of (codes "force") rows, first_of (codes "group") rows, all_of (codes "size-of") rows)
@@ -36,7 +41,7 @@ by name words (request.Forget r) e is = (
   (is.1.inputs.files ∙ ap (map stream_path) (all_are words (codes "input") _ _ _ (ap (λ t. t.1) e) refl), is.1.inputs.parts ∙ (all_are words (codes "ddrescue") _ _ _ (ap (λ t. t.2) e) refl)),
   is.1.conflicts.with_flag (one_is words (codes "conflicts") _ (ap (λ t. t.6) e)),
   is.1.lists ∙ ap (map stream_path) (all_are words (codes "blocks") _ _ _ (ap (λ t. t.5) e) refl),
-  is.1.out ∙ ap (λ (o : Option Text). unwrap_or o []) (first_is words (codes "out") _ (ap (λ t. t.7) e)),
+  is.1.out ∙ ap (λ (o : Option Text). put_at (unwrap_or o [])) (first_is words (codes "out") _ (ap (λ t. t.7) e)),
   is.1.force.with_flag (one_is words (codes "force") _ (ap (λ t. t.8) e)),
 )
 by name words _ e is = absurd (differ (ap (λ t. t.0) e) is.0 refl refl)

@@ -21,11 +21,11 @@ unfolding clap_on_literals
 named = refl
 
 -- all that is read of the line
-abbrev read : Text → List Row → Text × Option (List Text) × Option (List Text) × Option Text × Option Text × Option (List Text) × Option Text × Option (List Text) × Option (List Text) × Option Text × Option Text × Option Text × Option Text × Option (List Text)
-read name rows = (name, all_of (codes "input") rows, all_of (codes "ddrescue") rows, first_of (codes "size") rows, first_of (codes "profile") rows, all_of (codes "blocks") rows, one_of (codes "last") rows, all_of (codes "last") rows, all_of (codes "size") rows, one_of (codes "torn") rows, one_of (codes "null") rows, one_of (codes "paths") rows, first_of (codes "group") rows, all_of (codes "size-of") rows)
+abbrev read : Text → List Row → Text × Option (List Text) × Option (List Text) × Option Text × Option Text × Option (List Text) × Option Text × Option (List Text) × Option (List Text) × Option Text × Option Text × Option Text × Option Text × Option (List Text) × Option Text × Option Text
+read name rows = (name, all_of (codes "input") rows, all_of (codes "ddrescue") rows, first_of (codes "size") rows, first_of (codes "profile") rows, all_of (codes "blocks") rows, one_of (codes "last") rows, all_of (codes "last") rows, all_of (codes "size") rows, one_of (codes "torn") rows, one_of (codes "null") rows, one_of (codes "paths") rows, first_of (codes "group") rows, all_of (codes "size-of") rows, one_of (codes "header") rows, one_of (codes "json") rows)
 
-abbrev said : Text × Option (List Text) × Option (List Text) × Option Text × Option Text × Option (List Text) × Option Text × Option (List Text) × Option (List Text) × Option Text × Option Text × Option Text × Option Text × Option (List Text)
-said = (codes "list", Some (codes "-" ∷ []), None, Some (codes "1001s"), None, None, None, None, Some (codes "1001s" ∷ []), Some (codes "true"), Some (codes "false"), Some (codes "true"), None, None)
+abbrev said : Text × Option (List Text) × Option (List Text) × Option Text × Option Text × Option (List Text) × Option Text × Option (List Text) × Option (List Text) × Option Text × Option Text × Option Text × Option Text × Option (List Text) × Option Text × Option Text
+said = (codes "list", Some (codes "-" ∷ []), None, Some (codes "1001s"), None, None, None, None, Some (codes "1001s" ∷ []), Some (codes "true"), Some (codes "true"), Some (codes "true"), None, None, Some (codes "true"), Some (codes "false"))
 
 says : (name : Text) (words : Found) → IsAsked list_line name words → read name (rows_of words) ≡ said
 unfolding clap_on_literals
@@ -39,8 +39,10 @@ by name words (request.List r) e is = (
     is.1.volume.profile.unnamed (first_is words (codes "profile") _ (ap (λ t. t.4) e)),
   ),
   is.1.torn.with_flag (one_is words (codes "torn") _ (ap (λ t. t.9) e)),
-  is.1.null.without_flag (one_is words (codes "null") _ (ap (λ t. t.10) e)),
+  is.1.null.with_flag (one_is words (codes "null") _ (ap (λ t. t.10) e)),
   is.1.paths.with_flag (one_is words (codes "paths") _ (ap (λ t. t.11) e)),
+  is.1.header.with_flag (one_is words (codes "header") _ (ap (λ t. t.14) e)),
+  is.1.json.without_flag (one_is words (codes "json") _ (ap (λ t. t.15) e)),
 )
 by name words _ e is = absurd (differ (ap (λ t. t.0) e) is.0 refl refl)
 

@@ -1,8 +1,9 @@
 -- What the grammar makes of the line, and what a request of it is.
-use Rattle.std.proofs.Common.{◌≡◌, List, [], ◌∷◌, Option, None, Some, codes, ap, refl, ◌∙◌, lit<}
+use Rattle.std.proofs.Common.{◌≡◌, List, [], ◌∷◌, Option, None, Some, codes, ap, map, refl, ◌∙◌, lit<}
 use Rattle.clap.specs.Words.{Row, Text, all_of, first_of, one_of, rows_of}
 use Rattle.clap.specs.declared.parser.matches.Found.{Found}
 use Rattle.clap.proofs.OnLiterals.{clap_on_literals}
+use Rattle.udfs_words.specs.Asking.{only_path}
 use Rattle.udfs_words.specs.Obeying.{Asks, GrammarTakes, IsAsked}
 use Rattle.udfs_words.specs.Requests.{IsRequest}
 use Rattle.udfs_words.specs.Lines.{IsSomeReread, reread_line}
@@ -25,7 +26,7 @@ abbrev read : Text → List Row → Text × Option (List Text) × Option (List T
 read name rows = (name, all_of (codes "input") rows, all_of (codes "ddrescue") rows, first_of (codes "size") rows, first_of (codes "profile") rows, all_of (codes "blocks") rows, one_of (codes "last") rows, all_of (codes "last") rows, first_of (codes "mapfile") rows, all_of (codes "mapfile") rows, one_of (codes "no-witnesses") rows, first_of (codes "group") rows, all_of (codes "only") rows, all_of (codes "size-of") rows)
 
 abbrev said : Text × Option (List Text) × Option (List Text) × Option Text × Option Text × Option (List Text) × Option Text × Option (List Text) × Option Text × Option (List Text) × Option Text × Option Text × Option (List Text) × Option (List Text)
-said = (codes "reread", Some (codes "all.tab" ∷ []), None, None, None, None, Some (codes "1000"), Some (codes "1000" ∷ []), Some (codes "again.map"), Some (codes "again.map" ∷ []), Some (codes "false"), Some (codes "16"), Some (codes "/a" ∷ []), None)
+said = (codes "reread", Some (codes "all.tab" ∷ []), None, None, None, None, Some (codes "1000"), Some (codes "1000" ∷ []), Some (codes "again.map"), Some (codes "again.map" ∷ []), Some (codes "false"), Some (codes "16"), Some (codes "/a/" ∷ []), None)
 
 says : (name : Text) (words : Found) → IsAsked reread_line name words → read name (rows_of words) ≡ said
 unfolding clap_on_literals
@@ -38,7 +39,7 @@ by name words (request.Reread r) e is = (
     last_is words _ _ 1000 is.1.volume.last (one_is words (codes "last") _ (ap (λ t. t.6) e)) (given_is words (codes "last") _ _ (ap (λ t. t.7) e) refl) thousand.0 thousand.1 (lit< tt),
     is.1.volume.profile.unnamed (first_is words (codes "profile") _ (ap (λ t. t.4) e)),
   ),
-  is.1.only ∙ (all_are words (codes "only") _ _ _ (ap (λ t. t.12) e) refl),
+  is.1.only ∙ ap (map only_path) (all_are words (codes "only") _ _ _ (ap (λ t. t.12) e) refl),
   is.1.mapfile ∙ optional_is words _ _ (first_is words (codes "mapfile") _ (ap (λ t. t.8) e)) (given_is words (codes "mapfile") _ _ (ap (λ t. t.9) e) refl),
   group_is words _ Sixteen is.1.group (first_is words (codes "group") _ (ap (λ t. t.11) e)),
   is.1.witnesses.without_flag (one_is words (codes "no-witnesses") _ (ap (λ t. t.10) e)),

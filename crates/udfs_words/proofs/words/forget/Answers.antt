@@ -7,7 +7,7 @@ use Rattle.udfs_words.proofs.words.forget.Goals as goal
 pub returns : goal.returns
 returns c =
     let start : app_of c.override_usage.result ≡ new_app (codes "forget") = search rules in
-    let one = c.in_ok-arg.ensures.shape c.table_file.ensures.1 ∙ ap₂ with_rule start c.table_file.ensures.0 in
+    let one = c.in_ok-arg.ensures.shape c.in_ok-out.ensures.1 ∙ ap₂ with_rule start c.in_ok-out.ensures.0 in
     let two = c.in_ok-arg-2.ensures.shape c.flag.ensures.1 ∙ ap₂ with_rule one c.flag.ensures.0 in
     let three = c.in_ok-arg-3.ensures.shape c.blocks-2.ensures.1 ∙ ap₂ with_rule two c.blocks-2.ensures.0 in
     let four = c.in_ok-command.ensures.shape c.force.ensures.1 ∙ ap₂ with_rule three c.force.ensures.0 in

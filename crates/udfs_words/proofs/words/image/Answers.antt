@@ -8,7 +8,7 @@ pub returns : goal.returns
 returns c =
     let start : app_of c.override_usage-command.result ≡ new_app (codes "image") = search rules in
     let two = c.in_ok-with_end.ensures ∙ ap₂ with_end start refl in
-    let three = c.in_ok-arg.ensures.shape c.image_file.ensures.1 ∙ ap₂ with_rule two c.image_file.ensures.0 in
+    let three = c.in_ok-arg.ensures.shape c.in_ok-out.ensures.1 ∙ ap₂ with_rule two c.in_ok-out.ensures.0 in
     let four = c.in_ok-arg-2.ensures.shape c.image_map.ensures.1 ∙ ap₂ with_rule three c.image_map.ensures.0 in
     let five = c.in_ok-command.ensures.shape c.flag.ensures.1 ∙ ap₂ with_rule four c.flag.ensures.0 in
     IfOk-weaker c.with_inputs.result _ _ (λ m h. h ∙ ap₂ with_inputs five refl) c.with_inputs.ensures

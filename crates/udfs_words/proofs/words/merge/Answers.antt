@@ -6,8 +6,8 @@ use Rattle.udfs_words.proofs.words.merge.Goals as goal
 
 pub returns : goal.returns
 returns c =
-    let start : app_of c.about.result ≡ new_app (codes "merge") = search rules in
-    let one = c.in_ok-arg.ensures.shape c.table_file.ensures.1 ∙ ap₂ with_rule start c.table_file.ensures.0 in
+    let start : app_of c.after_help.result ≡ new_app (codes "merge") = search rules in
+    let one = c.in_ok-arg.ensures.shape c.in_ok-out.ensures.1 ∙ ap₂ with_rule start c.in_ok-out.ensures.0 in
     let two = c.in_ok-arg-2.ensures.shape c.flag.ensures.1 ∙ ap₂ with_rule one c.flag.ensures.0 in
     let three = c.in_ok-command.ensures.shape c.force.ensures.1 ∙ ap₂ with_rule two c.force.ensures.0 in
     IfOk-weaker c.with_inputs.result _ _ (λ m h. h ∙ ap₂ with_inputs three refl) c.with_inputs.ensures

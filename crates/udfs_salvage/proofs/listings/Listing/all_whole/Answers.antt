@@ -1,9 +1,8 @@
 use Rattle.std.proofs.Common.{◌∙◌, ap, sym}
-use Rattle.udfs_lattice.specs.Tables.{state_of}
 use Rattle.udfs_salvage.specs.Found.{volume_now}
 use Rattle.udfs_salvage.specs.Reports.{all_whole}
 use Rattle.udfs_salvage.proofs.ListedNodes.{listed_whole}
 use Rattle.udfs_salvage.proofs.listings.Listing.all_whole.Goals as goal
 
 pub returns : goal.returns
-returns c = c.all_whole.ensures ∙ ap all_whole c.deref.ensures.value ∙ sym (listed_whole (state_of c.args.self.now.table.now) (volume_now c.args.self.now.volume) c.args.self.now.nodes.items)
+returns g c = c.all_whole.ensures ∙ ap all_whole c.deref.ensures.value ∙ sym (listed_whole (g.B.BlockStore.states c.args.self.now.table.now) (volume_now c.args.self.now.volume) c.args.self.now.nodes.items)

@@ -1,0 +1,12 @@
+pub mod Rows
+pub mod Reached
+pub mod Known
+pub mod Found
+pub mod Walked
+pub mod Anchored
+pub mod Spared
+pub mod Placed
+pub mod Contradicted
+pub mod Judged
+pub mod Steps
+pub mod LawfulVolumes

@@ -1,0 +1,34 @@
+use Rattle.std.proofs.Common.{map, refl}
+use Rattle.std.specs.Prelude.{flat_map}
+use Rattle.std.specs.Borrow.{Bor}
+use Rattle.std.specs.String.{string_bytes}
+use Rattle.std.proofs.lemmas.Result.{err_from_is_err_and}
+use Rattle.udfs_space.specs.Views.{view_now}
+use Rattle.udfs_walk.specs.Bare.{full_entry}
+use Rattle.udfs_walk.specs.declared.answers.Unnamed.{Unnamed}
+use Rattle.udfs_overview.specs.LostLists.{file_line, tree_lines}
+use Rattle.udfs_overview.proofs.LostPieces.{lost_pieces}
+use Rattle.udfs_salvage.proofs.Printed.{passes_two, stopped_first_of}
+use Rattle.udfs_overview.proofs.lost_list.put_lost_in.Goals as goal
+
+pub returns-in_err-put_trees : goal.returns-in_err-put_trees
+returns-in_err-put_trees g c =
+    let p = err_from_is_err_and c.from_residual-in_err-put_trees.result c.from_residual-in_err-put_trees.ensures.1 in
+    let v = view_now c.args.view in
+    let s = c.args.survey.now in
+    let two = c.has_two_partitions-two.result in
+    let files = c.in_ok-files.files.items in
+    rw (p.1, p.2) (stopped_first_of _ (flat_map (tree_lines c.args.form v two c.deref-2.result.now) c.args.trees.now) _ _
+    (lost_pieces c.args.form c.args.deleted v two _ c.deref-2.result.now s.nodes.items c.deref.result.now s.unnamed.items c.args.trees.now files files c.has_two_partitions-two.ensures c.deref-2.ensures.value c.deref.ensures.value refl c.in_ok-files.ensures) c.in_err-put_trees.ensures)
+
+pub returns : goal.returns
+returns g c =
+    let W = g.W.Sink in
+    let v = view_now c.args.view in
+    let s = c.args.survey.now in
+    let two = c.has_two_partitions-two.result in
+    let files = c.in_ok-files.files.items in
+    passes_two (W.stream c.put_files.new.sink) (string_bytes c.put_files.new.text) (flat_map (tree_lines c.args.form v two c.deref-2.result.now) c.args.trees.now)
+    (flat_map (file_line c.args.form v two) (map (λ (file : Bor Unnamed). full_entry v file.now) c.deref-3.result.now)) _ c.put_files.result
+    (lost_pieces c.args.form c.args.deleted v two _ c.deref-2.result.now s.nodes.items c.deref.result.now s.unnamed.items c.args.trees.now files c.deref-3.result.now c.has_two_partitions-two.ensures c.deref-2.ensures.value c.deref.ensures.value
+    c.deref-3.ensures.value c.in_ok-files.ensures) c.in_ok-put_trees.ensures c.put_files.ensures

@@ -1,0 +1,15 @@
+use Rattle.std.proofs.Common.{map, take}
+use Rattle.std.specs.Prelude.{flat_map}
+use Rattle.std.specs.String.{string_bytes}
+use Rattle.udfs_reading.specs.Writing.{Passed}
+use Rattle.udfs_space.specs.Views.{view_now}
+use Rattle.udfs_walk.specs.Bare.{full_node}
+use Rattle.udfs_overview.specs.LostLists.{node_line}
+use Rattle.udfs_overview.proofs.lost_list.put_nodes.Given as goal
+
+-- the lines so far
+abbrev pub invariant-loop-node : goal.invariant-loop-node
+invariant-loop-node g l =
+    let W = g.W.Sink in
+    Passed (W.stream l.fn.sink) (W.stream l.sink) (string_bytes l.fn.text) (string_bytes l.text)
+    (flat_map (node_line l.form (view_now l.view) l.word l.place) (take l.node-index (map (full_node (view_now l.view)) l.nodes)))

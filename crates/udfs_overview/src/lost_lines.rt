@@ -1,0 +1,320 @@
+//! What a line of the list says of a lost folder, of what is in it, and of a lost file. Each function appends to a text; if memory
+//! runs out, a part may be appended.
+
+ghost use Rattle.std.specs.Prelude.{◌≡◌, ◌++◌, OnOk, IfOk, Some, option_map};
+ghost use Rattle.std.specs.String.{string_bytes};
+ghost use Rattle.udfs_space.specs.Views.{view_now};
+ghost use Rattle.udfs_walk.specs.Bare.{full_entry, full_node};
+ghost use Rattle.udfs_walk.specs.Targets.{is_icb};
+ghost use Rattle.udfs_walk.specs.UnnamedEntries.{names};
+ghost use Rattle.udfs_lost.specs.Folders.{is_directory};
+ghost use Rattle.udfs_overview.specs.LostLists.{file_line, folder_at, in_member, in_place, is_folder_at, lost_columns, lost_line, lost_members, lost_object, lost_path, lost_row, lost_word, node_line, own_place, place_column, place_of};
+
+use crate::node_columns::{is_whole, push_safe_path, push_told};
+use crate::node_list::{ListForm, push_end, push_tail};
+use crate::node_objects::{push_quoted, push_told_json, tail_member};
+use crate::torn_rows::push_shown_path;
+use std::alloc::Global;
+use std::fmt::Write;
+use udfs_file::Kind;
+use udfs_file::file_sets::address_fault;
+use udfs_lost::parent;
+use udfs_osta::{OutOfMemory, Stamp};
+use udfs_space::View;
+use udfs_tag::{LbAddr, LongAd};
+use udfs_walk::{Node, Path, Standing, Unnamed, full_standing, tail_at};
+
+/// What a lost folder or a lost file is called.
+pub(crate) fn push_lost_word(
+    text: &mut String,
+    two: bool,
+    address: LbAddr,
+) -> Result<(), OutOfMemory>
+    ensures { OnOk result (string_bytes text.new ≡ string_bytes text.old ++ lost_word two address) }
+{
+    let LbAddr { block, reference } = address;
+    if two {
+        return write!(text, "lost:{reference}-{block}");
+    }
+    write!(text, "lost:{block}")
+}
+
+/// The path of a node of the lost tree of this name.
+fn push_lost_path(text: &mut String, word: &str, path: &Path) -> Result<(), OutOfMemory>
+    ensures { OnOk result (string_bytes text.new ≡ string_bytes text.old ++ lost_path word.now path.now) }
+{
+    text.push_str(word)?;
+    if path.is_empty() {
+        return text.push('/');
+    }
+    push_safe_path(text, path)
+}
+
+/// The columns before the path, or nothing if only paths are asked for.
+fn push_lost_columns(
+    text: &mut String,
+    form: ListForm,
+    standing: &Standing,
+    kind: Kind,
+    size: Option<u64>,
+    stamp: Option<Stamp>,
+) -> Result<(), OutOfMemory>
+    ensures { OnOk result (string_bytes text.new ≡ string_bytes text.old ++ lost_columns form standing.now kind size stamp) }
+{
+    if form.paths {
+        return Ok(());
+    }
+    push_told(text, standing, kind, size, stamp)
+}
+
+/// Whether it is a directory.
+fn is_directory(kind: Kind) -> bool
+    ensures { result ≡ is_directory kind }
+{
+    match kind {
+        Kind::Directory => true,
+        _ => false,
+    }
+}
+
+/// Whether two addresses are of one information control block.
+fn is_icb(a: LbAddr, b: LbAddr) -> bool
+    ensures { result ≡ is_icb a b }
+{
+    a.reference == b.reference && a.block == b.block
+}
+
+/// Whether the address of a node is good, and leads there.
+fn names(view: View<'_>, address: LbAddr, node: &Node) -> bool
+    ensures { result ≡ names (view_now view.entry) address node.now }
+{
+    match address_fault(view.space, node.icb) {
+        Some(_) => false,
+        None => is_icb(address, node.icb.address()),
+    }
+}
+
+/// Whether a node is the directory at an address.
+fn is_folder_at(view: View<'_>, address: LbAddr, node: &Node) -> bool
+    ensures { result ≡ is_folder_at (view_now view.entry) address node.now }
+{
+    is_directory(node.kind) && names(view, address, node)
+}
+
+/// The path of the first node that is the directory at an address.
+fn folder_at<'a>(view: View<'_>, nodes: &'a [Node], address: LongAd) -> Option<&'a Path>
+    ensures { option_map (λ path. path.now) result ≡ folder_at (view_now view.entry) nodes.now (Some address) }
+{
+    let mut rest = nodes;
+    while let Some((first, others)) = rest.split_first() {
+        if is_folder_at(view, address.address(), first) {
+            return Some(&first.path);
+        }
+        rest = others;
+    }
+    None
+}
+
+/// The path of the directory in which a lost folder is, as it says itself.
+fn place_of<'a>(view: View<'_>, nodes: &'a [Node], folder: LbAddr) -> Option<&'a Path>
+    ensures { option_map (λ path. path.now) result ≡ place_of (view_now view.entry) nodes.now folder }
+{
+    match parent(view, folder) {
+        Some(address) => folder_at(view, nodes, address),
+        None => None,
+    }
+}
+
+/// A path behind the word `in`.
+fn push_in(text: &mut String, place: Option<&Path>) -> Result<(), OutOfMemory>
+    ensures { OnOk result (string_bytes text.new ≡ string_bytes text.old ++ in_place (option_map (λ path. path.now) place.entry)) }
+{
+    match place {
+        None => Ok(()),
+        Some(path) => {
+            text.push_str("\tin ")?;
+            push_shown_path(text, path)
+        }
+    }
+}
+
+/// A path as the member `in` of a JSON object.
+fn push_in_member(text: &mut String, place: Option<&Path>) -> Result<(), OutOfMemory>
+    ensures { OnOk result (string_bytes text.new ≡ string_bytes text.old ++ in_member (option_map (λ path. path.now) place.entry)) }
+{
+    match place {
+        None => Ok(()),
+        Some(path) => {
+            let alloc = *text.allocator();
+            let mut shown = String::new(alloc);
+            push_shown_path(&mut shown, path)?;
+            text.push_str(",\"in\":")?;
+            push_quoted(text, shown)
+        }
+    }
+}
+
+/// The column of a lost folder's place, or the member of an object.
+pub(crate) fn place_column(
+    alloc: Global,
+    form: ListForm,
+    view: View<'_>,
+    nodes: &[Node],
+    folder: LbAddr,
+) -> Result<String, OutOfMemory>
+    ensures { IfOk result (λ text. string_bytes text ≡ place_column form (place_of (view_now view.entry) nodes.now folder)) }
+{
+    let mut text = String::new(alloc);
+    if form.paths {
+        return Ok(text);
+    }
+    let place = place_of(view, nodes, folder);
+    if form.json {
+        push_in_member(&mut text, place)?;
+    } else {
+        push_in(&mut text, place)?;
+    }
+    Ok(text)
+}
+
+/// The column of the folder's place, where a path is that of the folder itself.
+fn own_place<'a>(path: &Path, place: &'a str) -> &'a str
+    ensures { result.now ≡ own_place path.now place.now }
+{
+    if path.is_empty() { place } else { "" }
+}
+
+/// The members before the path, or nothing if only paths are asked for.
+fn push_lost_members(
+    text: &mut String,
+    form: ListForm,
+    standing: &Standing,
+    kind: Kind,
+    size: Option<u64>,
+    stamp: Option<Stamp>,
+) -> Result<(), OutOfMemory>
+    ensures { OnOk result (string_bytes text.new ≡ string_bytes text.old ++ lost_members form standing.now kind size stamp) }
+{
+    if form.paths {
+        return Ok(());
+    }
+    push_told_json(text, standing, kind, size, stamp)
+}
+
+/// The object of what is lost, at a path and with the member of its folder's place.
+#[tactic(auto, unfolding(crate::specs::LostLists::lost_object))]
+fn push_lost_object(
+    text: &mut String,
+    form: ListForm,
+    tail: bool,
+    standing: &Standing,
+    kind: Kind,
+    size: Option<u64>,
+    stamp: Option<Stamp>,
+    path: String,
+    place: &str,
+) -> Result<(), OutOfMemory>
+    ensures { OnOk result (string_bytes text.new ≡ string_bytes text.old ++ lost_object form tail standing.now kind size stamp (string_bytes path) place.now) }
+{
+    text.push_str("{")?;
+    push_lost_members(text, form, standing, kind, size, stamp)?;
+    text.push_str("\"path\":")?;
+    push_quoted(text, path)?;
+    text.push_str(tail_member(form, tail))?;
+    text.push_str(place)?;
+    text.push_str("}")
+}
+
+/// The columns of what is lost, at a path and with the column of its folder's place.
+#[tactic(auto, unfolding(crate::specs::LostLists::lost_row))]
+fn push_lost_row(
+    text: &mut String,
+    form: ListForm,
+    tail: bool,
+    standing: &Standing,
+    kind: Kind,
+    size: Option<u64>,
+    stamp: Option<Stamp>,
+    path: &str,
+    place: &str,
+) -> Result<(), OutOfMemory>
+    ensures { OnOk result (string_bytes text.new ≡ string_bytes text.old ++ lost_row form tail standing.now kind size stamp path.now place.now) }
+{
+    push_lost_columns(text, form, standing, kind, size, stamp)?;
+    text.push_str(path)?;
+    push_tail(text, form, tail)?;
+    text.push_str(place)
+}
+
+/// The line of what is lost.
+#[tactic(auto, unfolding(crate::specs::LostLists::lost_line))]
+fn push_lost_line(
+    text: &mut String,
+    form: ListForm,
+    tail: bool,
+    standing: &Standing,
+    kind: Kind,
+    size: Option<u64>,
+    stamp: Option<Stamp>,
+    path: String,
+    place: &str,
+) -> Result<(), OutOfMemory>
+    ensures { OnOk result (string_bytes text.new ≡ string_bytes text.old ++ lost_line form tail standing.now kind size stamp (string_bytes path) place.now) }
+{
+    if form.json {
+        push_lost_object(text, form, tail, standing, kind, size, stamp, path, place)?;
+        return push_end(text, form);
+    }
+    push_lost_row(text, form, tail, standing, kind, size, stamp, &path, place)?;
+    push_end(text, form)
+}
+
+/// The line of a node of a lost tree, which is given without its blocks and holes, if it is asked for.
+#[tactic(auto, unfolding(crate::specs::LostLists::node_line))]
+pub(crate) fn push_node_line(
+    alloc: Global,
+    text: &mut String,
+    form: ListForm,
+    view: View<'_>,
+    word: &str,
+    place: &str,
+    node: &Node,
+) -> Result<(), OutOfMemory>
+    ensures { OnOk result (string_bytes text.new ≡ string_bytes text.old ++ node_line form (view_now view.entry) word.now place.now (full_node (view_now view.entry) node.now)) }
+{
+    let full = full_standing(alloc, view, node.icb, &node.standing)?;
+    if form.torn && is_whole(&full) {
+        return Ok(());
+    }
+    let tail = tail_at(alloc, view, node.icb)?;
+    let mut path = String::new(alloc);
+    push_lost_path(&mut path, word, &node.path)?;
+    let place = own_place(&node.path, place);
+    push_lost_line(
+        text, form, tail, &full, node.kind, node.size, node.stamp, path, place,
+    )
+}
+
+/// The line of a lost file, which is given without its blocks and holes, if it is asked for.
+#[tactic(auto, unfolding(crate::specs::LostLists::file_line))]
+pub(crate) fn push_file_line(
+    alloc: Global,
+    text: &mut String,
+    form: ListForm,
+    view: View<'_>,
+    two: bool,
+    file: &Unnamed,
+) -> Result<(), OutOfMemory>
+    ensures { OnOk result (string_bytes text.new ≡ string_bytes text.old ++ file_line form (view_now view.entry) two (full_entry (view_now view.entry) file.now)) }
+{
+    let full = full_standing(alloc, view, file.icb(), &file.standing)?;
+    if form.torn && is_whole(&full) {
+        return Ok(());
+    }
+    let tail = tail_at(alloc, view, file.icb())?;
+    let mut path = String::new(alloc);
+    push_lost_word(&mut path, two, file.address())?;
+    let size = Some(file.size);
+    let stamp = Some(file.stamp);
+    push_lost_line(text, form, tail, &full, file.kind, size, stamp, path, "")
+}

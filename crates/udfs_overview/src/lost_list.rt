@@ -1,0 +1,222 @@
+//! The list of lost folders and lost files, behind that of the nodes.
+
+ghost use Rattle.std.specs.Prelude.{◌++◌, flat_map, map};
+ghost use Rattle.std.specs.String.{string_bytes};
+ghost use Rattle.udfs_lattice.specs.Tables.{state_of};
+ghost use Rattle.udfs_space.specs.Views.{view_now};
+ghost use Rattle.udfs_walk.specs.Bare.{full_entry, full_node};
+ghost use Rattle.udfs_salvage.specs.Found.{volume_now};
+ghost use Rattle.udfs_salvage.specs.Printing.{PassesOn, Prints};
+ghost use Rattle.udfs_salvage.specs.Surveys.{survey_now};
+ghost use Rattle.udfs_salvage.specs.Texts.{has_two};
+ghost use Rattle.udfs_overview.specs.LostLists.{file_line, lost_lines, lost_text, node_line, tree_lines};
+ghost use Rattle.udfs_overview.specs.NodeLists.{list_text};
+
+use crate::lost_lines::{place_column, push_file_line, push_lost_word, push_node_line};
+use crate::node_list::{ListForm, put_list};
+use std::alloc::Global;
+use udfs_lost::{LostTree, lost_files};
+use udfs_reading::Sink;
+use udfs_salvage::{RunError, Survey, Volume, flush, has_two_partitions, pass_on};
+use udfs_space::View;
+use udfs_walk::{Node, Unnamed};
+
+/// The line of a node of a lost tree, if it is asked for.
+fn put_node<W: Sink>(
+    alloc: Global,
+    text: &mut String,
+    sink: &mut W,
+    form: ListForm,
+    view: View<'_>,
+    word: &str,
+    place: &str,
+    node: &Node,
+) -> Result<(), RunError>
+    ensures { PassesOn (W.stream sink.old) (W.stream sink.new) (string_bytes text.old) (string_bytes text.new)
+        (node_line form (view_now view.entry) word.now place.now (full_node (view_now view.entry) node.now)) result }
+{
+    push_node_line(alloc, text, form, view, word, place, node)?;
+    pass_on(text, sink)
+}
+
+/// The lines of nodes of a lost tree.
+fn put_nodes<W: Sink>(
+    alloc: Global,
+    text: &mut String,
+    sink: &mut W,
+    form: ListForm,
+    view: View<'_>,
+    word: &str,
+    place: &str,
+    nodes: &[Node],
+) -> Result<(), RunError>
+    ensures { PassesOn (W.stream sink.old) (W.stream sink.new) (string_bytes text.old) (string_bytes text.new)
+        (flat_map (node_line form (view_now view.entry) word.now place.now) (map (full_node (view_now view.entry)) nodes.now)) result }
+{
+    for node in nodes {
+        put_node(alloc, text, sink, form, view, word, place, node)?;
+    }
+    Ok(())
+}
+
+/// The lines of a lost tree of a volume that has these nodes.
+#[tactic(auto, unfolding(crate::specs::LostLists::tree_lines))]
+fn put_tree<W: Sink>(
+    alloc: Global,
+    text: &mut String,
+    sink: &mut W,
+    form: ListForm,
+    view: View<'_>,
+    two: bool,
+    nodes: &[Node],
+    tree: &LostTree,
+) -> Result<(), RunError>
+    ensures { PassesOn (W.stream sink.old) (W.stream sink.new) (string_bytes text.old) (string_bytes text.new)
+        (tree_lines form (view_now view.entry) two nodes.now tree.now) result }
+{
+    let mut word = String::new(alloc);
+    push_lost_word(&mut word, two, tree.folder)?;
+    let place = place_column(alloc, form, view, nodes, tree.folder)?;
+    put_nodes(alloc, text, sink, form, view, &word, &place, &tree.nodes)
+}
+
+/// The lines of lost trees.
+fn put_trees<W: Sink>(
+    alloc: Global,
+    text: &mut String,
+    sink: &mut W,
+    form: ListForm,
+    view: View<'_>,
+    two: bool,
+    nodes: &[Node],
+    trees: &[LostTree],
+) -> Result<(), RunError>
+    ensures { PassesOn (W.stream sink.old) (W.stream sink.new) (string_bytes text.old) (string_bytes text.new)
+        (flat_map (tree_lines form (view_now view.entry) two nodes.now) trees.now) result }
+{
+    for tree in trees {
+        put_tree(alloc, text, sink, form, view, two, nodes, tree)?;
+    }
+    Ok(())
+}
+
+/// The line of a lost file, if it is asked for.
+fn put_file<W: Sink>(
+    alloc: Global,
+    text: &mut String,
+    sink: &mut W,
+    form: ListForm,
+    view: View<'_>,
+    two: bool,
+    file: &Unnamed,
+) -> Result<(), RunError>
+    ensures { PassesOn (W.stream sink.old) (W.stream sink.new) (string_bytes text.old) (string_bytes text.new)
+        (file_line form (view_now view.entry) two (full_entry (view_now view.entry) file.now)) result }
+{
+    push_file_line(alloc, text, form, view, two, file)?;
+    pass_on(text, sink)
+}
+
+/// The lines of lost files.
+fn put_files<W: Sink>(
+    alloc: Global,
+    text: &mut String,
+    sink: &mut W,
+    form: ListForm,
+    view: View<'_>,
+    two: bool,
+    files: &[&Unnamed],
+) -> Result<(), RunError>
+    ensures { PassesOn (W.stream sink.old) (W.stream sink.new) (string_bytes text.old) (string_bytes text.new)
+        (flat_map (file_line form (view_now view.entry) two) (map (λ file. full_entry (view_now view.entry) file.now) files.now)) result }
+{
+    for file in files {
+        put_file(alloc, text, sink, form, view, two, file)?;
+    }
+    Ok(())
+}
+
+/// All lines of lost trees and lost files in a view.
+fn put_lost_in<W: Sink>(
+    alloc: Global,
+    text: &mut String,
+    sink: &mut W,
+    form: ListForm,
+    deleted: bool,
+    view: View<'_>,
+    survey: &Survey<'_>,
+    trees: &[LostTree],
+) -> Result<(), RunError>
+    ensures { PassesOn (W.stream sink.old) (W.stream sink.new) (string_bytes text.old) (string_bytes text.new)
+        (lost_lines form deleted (view_now view.entry) (has_two (volume_now survey.now.volume)) (map (full_node (view_now view.entry)) survey.now.nodes.items) (map (full_entry (view_now view.entry)) survey.now.unnamed.items) trees.now) result }
+{
+    let files = lost_files(alloc, view, deleted, trees, &survey.unnamed)?;
+    let two = has_two_partitions(&survey.volume);
+    put_trees(alloc, text, sink, form, view, two, &survey.nodes, trees)?;
+    put_files(alloc, text, sink, form, view, two, &files)
+}
+
+/// All lines of lost trees and lost files.
+#[tactic(auto, unfolding(crate::specs::LostLists::lost_text))]
+fn put_lost<W: Sink>(
+    alloc: Global,
+    text: &mut String,
+    sink: &mut W,
+    survey: &Survey<'_>,
+    form: ListForm,
+    deleted: bool,
+    trees: &[LostTree],
+) -> Result<(), RunError>
+    ensures { PassesOn (W.stream sink.old) (W.stream sink.new) (string_bytes text.old) (string_bytes text.new)
+        (lost_text form deleted (state_of survey.now.table.now) (survey_now survey.now) trees.now) result }
+{
+    match &survey.volume {
+        Volume::Open(opened) => {
+            let view = opened.view(survey.table);
+            put_lost_in(alloc, text, sink, form, deleted, view, survey, trees)
+        }
+        _ => Ok(()),
+    }
+}
+
+/// The lines of the nodes, and those of lost trees and lost files.
+fn put_both<W: Sink>(
+    alloc: Global,
+    text: &mut String,
+    sink: &mut W,
+    survey: &Survey<'_>,
+    form: ListForm,
+    deleted: bool,
+    trees: &[LostTree],
+) -> Result<(), RunError>
+    ensures { PassesOn (W.stream sink.old) (W.stream sink.new) (string_bytes text.old) (string_bytes text.new)
+        (list_text form (state_of survey.now.table.now) (survey_now survey.now) ++ lost_text form deleted (state_of survey.now.table.now) (survey_now survey.now) trees.now) result }
+{
+    put_list(alloc, text, sink, survey, form)?;
+    put_lost(alloc, text, sink, survey, form, deleted, trees)
+}
+
+/// Writes the lines that [`write_list`](crate::write_list) writes, and then a line for each node of these trees of lost folders, which
+/// [`found_lost`](crate::found_lost) found of the survey, and for each lost file, which is a file that no known name leads to, not even
+/// in them. With `deleted` those of link count 0 are files too. Paths begin with `lost:` and the logical block of the folder's or the
+/// file's entry, with the partition reference and a `-` before it where there are two partitions. The folder's own path ends with `/`;
+/// a last column `in PATH` is behind it where its parent's identifier (ECMA-167 4/14.4.3) names a directory that is a node.
+///
+/// # Errors
+///
+/// `Write` if and only if the sink failed, `OutOfMemory` if memory ran out. In both cases a prefix of the lines, possibly empty, was written.
+pub fn write_lost_list<W: Sink>(
+    alloc: Global,
+    survey: &Survey<'_>,
+    form: ListForm,
+    deleted: bool,
+    trees: &[LostTree],
+    sink: &mut W,
+) -> Result<(), RunError>
+    ensures { Prints (W.stream sink.old) (W.stream sink.new)
+        (list_text form (state_of survey.now.table.now) (survey_now survey.now) ++ lost_text form deleted (state_of survey.now.table.now) (survey_now survey.now) trees.now) result }
+{
+    let mut text = String::new(alloc);
+    put_both(alloc, &mut text, sink, survey, form, deleted, trees)?;
+    flush(&mut text, sink)
+}
