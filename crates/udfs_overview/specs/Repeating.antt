@@ -102,6 +102,7 @@ disc_words g rules last = end_words g.size last ++ rules_words rules ++ force_wo
 abbrev pub image_name : ℕ → List ℕ
 image_name n = codes "p" ++ decimal n ++ codes ".img"
 
+-- the name of the mapfile of a pass by its number
 abbrev pub mapfile_name : ℕ → List ℕ
 mapfile_name n = codes "p" ++ decimal n ++ codes ".map"
 

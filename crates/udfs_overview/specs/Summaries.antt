@@ -80,6 +80,7 @@ found_lines table (faulty f) r = []
 abbrev pub next_label : List ℕ
 next_label = codes "Next       "
 
+-- the spaces in the place of this word before the next lines
 abbrev pub next_indent : List ℕ
 next_indent = codes "           "
 

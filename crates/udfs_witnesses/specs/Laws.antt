@@ -10,6 +10,7 @@ use Rattle.udfs_lattice.specs.Volumes.{Blocks}
 use Rattle.udfs_volume.specs.Seen.{IsRising}
 use Rattle.udfs_witnesses.specs.Witnesses.{is_telling, named, ninth, witnesses}
 
+-- they rise, each once
 abbrev pub WitnessesRise : Type 0
 WitnessesRise = (blocks : Blocks) (last : ℕ) (structures : List ℕ) → IsRising (witnesses blocks last structures)
 
