@@ -98,20 +98,21 @@ try: all
 # Where the program is built, neither rt nor anything of the toolchain is needed.
 install:
 	@test -x $(PROGRAM) || $(MAKE) -s --no-print-directory all
-	install -d $(DESTDIR)$(PREFIX)/bin $(DESTDIR)$(PREFIX)/share/man/man1
+	install -d $(DESTDIR)$(PREFIX)/bin $(DESTDIR)$(PREFIX)/share/man/man1 $(DESTDIR)$(PREFIX)/share/man/man7
 	install -m 755 $(PROGRAM) $(DESTDIR)$(PREFIX)/bin/udfsalvage
 	@mkdir -p out
 	@tools/join-rescue out/udfsalvage-rescue
 	install -m 755 out/udfsalvage-rescue $(DESTDIR)$(PREFIX)/bin/udfsalvage-rescue
-	install -m 644 man/udfsalvage.1 man/udfsalvage-rescue.1 $(DESTDIR)$(PREFIX)/share/man/man1
+	install -m 644 man/*.1 $(DESTDIR)$(PREFIX)/share/man/man1
+	install -m 644 man/*.7 $(DESTDIR)$(PREFIX)/share/man/man7
 	@tools/make-completions $(PROGRAM) out/completions
 	install -D -m 644 out/completions/bash/udfsalvage $(DESTDIR)$(PREFIX)/share/bash-completion/completions/udfsalvage
 	install -D -m 644 out/completions/zsh/_udfsalvage $(DESTDIR)$(PREFIX)/share/zsh/site-functions/_udfsalvage
 	install -D -m 644 out/completions/fish/udfsalvage.fish $(DESTDIR)$(PREFIX)/share/fish/vendor_completions.d/udfsalvage.fish
 
 uninstall:
-	rm -f $(DESTDIR)$(PREFIX)/bin/udfsalvage $(DESTDIR)$(PREFIX)/share/man/man1/udfsalvage.1
-	rm -f $(DESTDIR)$(PREFIX)/bin/udfsalvage-rescue $(DESTDIR)$(PREFIX)/share/man/man1/udfsalvage-rescue.1
+	rm -f $(DESTDIR)$(PREFIX)/bin/udfsalvage $(DESTDIR)$(PREFIX)/bin/udfsalvage-rescue
+	rm -f $(patsubst man/%,$(DESTDIR)$(PREFIX)/share/man/man1/%,$(wildcard man/*.1)) $(patsubst man/%,$(DESTDIR)$(PREFIX)/share/man/man7/%,$(wildcard man/*.7))
 	rm -f $(DESTDIR)$(PREFIX)/share/bash-completion/completions/udfsalvage $(DESTDIR)$(PREFIX)/share/zsh/site-functions/_udfsalvage
 	rm -f $(DESTDIR)$(PREFIX)/share/fish/vendor_completions.d/udfsalvage.fish
 

@@ -25,7 +25,7 @@ closed() {
             ;;
         *)
             tell "The disc does not open: $(printf '%s' "$volume" | sed 's/fault \([0-9]*\) \(.*\)/fault \1, \2/')."
-            tell 'man udfsalvage says what this fault means.'
+            tell 'man udfsalvage-errors says what this fault means.'
             ;;
     esac
 }
