@@ -4,6 +4,7 @@
 
 mod disagreements;
 mod disc_tallies;
+mod errors;
 mod figures;
 mod left_out;
 mod lost_found;
@@ -31,6 +32,7 @@ mod widenings;
 
 pub use disagreements::{push_anchors_text, push_apart};
 pub use disc_tallies::{DiscTally, UnnamedTally, count_disc, count_unnamed};
+pub use errors::PrintError;
 pub use figures::{push_grouped, push_percent, push_size};
 pub use left_out::{left_out_remark, left_out_types, push_left_out};
 pub use lost_found::found_lost;
@@ -41,7 +43,7 @@ pub use next_commands::{
     table_path,
 };
 pub use node_columns::lost_of;
-pub use node_list::{ListForm, write_list};
+pub use node_list::{ListForm, write_list, write_list_by, write_listing_by};
 pub use repeating::{
     Given, pass_number, push_disc_words, push_inputs, push_shell_path, push_shell_word,
 };
