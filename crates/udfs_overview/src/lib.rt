@@ -49,7 +49,7 @@ pub use repeating::{
 };
 pub use safe_names::{push_safe_name, safe_names_are_safe, safe_names_tell_units};
 pub use sentences::push_sentence;
-pub use spares::{push_spares, spares_disagree};
+pub use spares::{push_spares, spares_disagree, spares_disagree_in};
 pub use streams::{count_streams, push_streams};
 pub use summary::{first_torn_folder, is_all_whole, write_summary};
 pub use summary_lines::{push_disc, push_files, push_others, push_unnamed};
