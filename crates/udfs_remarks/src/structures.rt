@@ -128,8 +128,8 @@ pub(crate) fn structures_in<B: BlockStore>(
     Ok(table)
 }
 
-/// Of two blocks, of which nothing after the second is known, but something after the first, those that are half as far from one another, or one apart.
-fn narrowed<B: ReportStore>(blocks: &B, from: u32, to: u32) -> u32
+/// The greatest block of which something is known, where something after `from` is, and nothing after `to`.
+fn greatest_between<B: ReportStore>(blocks: &B, from: u32, to: u32) -> u32
     requires { from ≤ to }
 {
     let mut from = from;
@@ -147,7 +147,7 @@ fn narrowed<B: ReportStore>(blocks: &B, from: u32, to: u32) -> u32
 /// The greatest block of which something is known, if there is one. It reads nothing.
 pub(crate) fn greatest_in<B: ReportStore>(blocks: &B) -> Option<u32> {
     match blocks.first_past(0) {
-        Some(_) => Some(narrowed(blocks, 0, LAST_BLOCK)),
+        Some(_) => Some(greatest_between(blocks, 0, LAST_BLOCK)),
         None => match blocks.knowledge(0) {
             Fact::Unknown => None,
             _ => Some(0),
