@@ -14,6 +14,7 @@ use Rattle.udfs_space.specs.Places.{View, view}
 use Rattle.udfs_walk.specs.NodeBodies.{has_tail}
 use Rattle.udfs_salvage.specs.Found.{Found}
 use Rattle.udfs_salvage.specs.Reports.{Report}
+use Rattle.udfs_salvage.specs.Surveys.{full_nodes}
 use Rattle.udfs_osta.specs.StampTexts.{stamp_text}
 use Rattle.udfs_osta.specs.declared.stamps.Stamp.{Stamp}
 use Rattle.udfs_file.specs.declared.faults.Kind.{Kind}
@@ -167,6 +168,10 @@ abbrev pub lines_by : ListForm → Blocks → Answer Found → List NodeFields �
 lines_by form blocks (answer.found f) nodes = flat_map (listed_in form (view blocks f.space)) nodes
 lines_by form blocks (answer.holes unread) nodes = flat_map (listed form false) nodes
 lines_by form blocks (answer.faulty fault) nodes = flat_map (listed form false) nodes
+
+-- the same of all nodes after the root, which are given without what is missing of them
+abbrev pub bare_lines : ListForm → Blocks → Answer Found → List NodeFields → List ℕ
+bare_lines form blocks volume bare = lines_by form blocks volume (drop 1 (full_nodes blocks volume bare))
 
 -- the columns' names, or that of the path
 abbrev pub column_names : ListForm → List ℕ

@@ -4,6 +4,7 @@
 
 mod disagreements;
 mod disc_tallies;
+mod errors;
 mod figures;
 mod left_out;
 mod lost_found;
@@ -31,6 +32,7 @@ mod widenings;
 
 pub use disagreements::{push_anchors_text, push_apart};
 pub use disc_tallies::{DiscTally, UnnamedTally, count_disc, count_unnamed};
+pub use errors::PrintError;
 pub use figures::{push_grouped, push_percent, push_size};
 pub use left_out::{left_out_remark, left_out_types, push_left_out};
 pub use lost_found::found_lost;
@@ -41,13 +43,13 @@ pub use next_commands::{
     table_path,
 };
 pub use node_columns::lost_of;
-pub use node_list::{ListForm, write_list};
+pub use node_list::{ListForm, write_list, write_list_by, write_listing_by};
 pub use repeating::{
     Given, pass_number, push_disc_words, push_inputs, push_shell_path, push_shell_word,
 };
 pub use safe_names::{push_safe_name, safe_names_are_safe, safe_names_tell_units};
 pub use sentences::push_sentence;
-pub use spares::{push_spares, spares_disagree};
+pub use spares::{push_spares, spares_disagree, spares_disagree_in};
 pub use streams::{count_streams, push_streams};
 pub use summary::{first_torn_folder, is_all_whole, write_summary};
 pub use summary_lines::{push_disc, push_files, push_others, push_unnamed};

@@ -1,22 +1,27 @@
 //! The list of nodes, a line for each but the root.
 
-ghost use Rattle.std.specs.Prelude.{◌≡◌, ◌++◌, OnOk, drop, false, flat_map, map};
+ghost use Rattle.std.specs.Prelude.{◌≡◌, ◌++◌, IsErrOf, OnOk, drop, false, flat_map, map};
 ghost use Rattle.std.specs.String.{string_bytes};
 ghost use Rattle.udfs_lattice.specs.Tables.{state_of};
-ghost use Rattle.udfs_space.specs.Views.{view_now};
+ghost use Rattle.udfs_space.specs.Views.{view_by};
 ghost use Rattle.udfs_walk.specs.Bare.{full_node, node_with};
+ghost use Rattle.udfs_salvage.specs.Found.{volume_now};
+ghost use Rattle.udfs_salvage.specs.Listings.{listing_by};
 ghost use Rattle.udfs_salvage.specs.Printing.{PassesOn, Prints};
-ghost use Rattle.udfs_salvage.specs.Surveys.{survey_now};
-ghost use Rattle.udfs_overview.specs.NodeLists.{column_names, columns, front_columns, header_line, line_end, lines_by, list_line, list_text, listed, listed_in, tail_column};
+ghost use Rattle.udfs_salvage.specs.Surveys.{survey_by, survey_now};
+ghost use Rattle.udfs_overview.specs.NodeLists.{bare_lines, column_names, columns, front_columns, header_line, line_end, list_line, list_text, listed, listed_in, tail_column};
+ghost use Rattle.udfs_overview.specs.StorePrinting.{PassesOnBy, PrintsBy};
 
+use crate::errors::PrintError;
 use crate::node_columns::{is_whole, push_safe_path, push_told};
 use crate::node_objects::push_object;
 use std::alloc::Global;
+use udfs_lattice::BlockStore;
 use udfs_osta::OutOfMemory;
 use udfs_reading::Sink;
-use udfs_salvage::{RunError, Survey, Volume, flush, pass_on};
-use udfs_space::View;
-use udfs_walk::{Node, Standing, full_standing, tail_at};
+use udfs_salvage::{Listing, RunError, Survey, Volume, flush, pass_on};
+use udfs_space::StoreView;
+use udfs_walk::{Node, Standing, full_standing_by, tail_by};
 
 /// What a list shows of nodes, and how.
 #[derive(Clone, Copy, Debug, PartialEq, Eq)]
@@ -155,33 +160,36 @@ fn put_nodes<W: Sink>(
 }
 
 /// The line of a node that is given without its blocks and holes. They are found first.
-fn put_full_node<W: Sink>(
+fn put_full_node<B: BlockStore, W: Sink>(
     alloc: Global,
     text: &mut String,
     sink: &mut W,
-    view: View<'_>,
+    view: StoreView<'_, B>,
     form: ListForm,
     node: &Node,
-) -> Result<(), RunError>
-    ensures { PassesOn (W.stream sink.old) (W.stream sink.new) (string_bytes text.old) (string_bytes text.new)
-        (listed_in form (view_now view.entry) (full_node (view_now view.entry) node.now)) result }
+) -> Result<(), PrintError>
+    ensures printed { B.tells → PassesOnBy (W.stream sink.old) (W.stream sink.new) (string_bytes text.old) (string_bytes text.new)
+        (listed_in form (view_by B.states view.entry) (full_node (view_by B.states view.entry) node.now)) result }
+    ensures fails { IsErrOf result PrintError.Unread → B.fails }
 {
-    let full = full_standing(alloc, view, node.icb, &node.standing)?;
-    let tail = tail_at(alloc, view, node.icb)?;
-    put_listed(text, sink, form, tail, node, &full)
+    let full = full_standing_by(alloc, view, node.icb, &node.standing)?;
+    let tail = tail_by(alloc, view, node.icb)?;
+    put_listed(text, sink, form, tail, node, &full)?;
+    Ok(())
 }
 
 /// The lines of nodes that are given without their blocks and holes. They are found first, for one node at a time.
-fn put_full_nodes<W: Sink>(
+fn put_full_nodes<B: BlockStore, W: Sink>(
     alloc: Global,
     text: &mut String,
     sink: &mut W,
-    view: View<'_>,
+    view: StoreView<'_, B>,
     form: ListForm,
     nodes: &[Node],
-) -> Result<(), RunError>
-    ensures { PassesOn (W.stream sink.old) (W.stream sink.new) (string_bytes text.old) (string_bytes text.new)
-        (flat_map (listed_in form (view_now view.entry)) (map (full_node (view_now view.entry)) nodes.now)) result }
+) -> Result<(), PrintError>
+    ensures printed { B.tells → PassesOnBy (W.stream sink.old) (W.stream sink.new) (string_bytes text.old) (string_bytes text.new)
+        (flat_map (listed_in form (view_by B.states view.entry)) (map (full_node (view_by B.states view.entry)) nodes.now)) result }
+    ensures fails { IsErrOf result PrintError.Unread → B.fails }
 {
     for node in nodes {
         put_full_node(alloc, text, sink, view, form, node)?;
@@ -213,16 +221,17 @@ fn put_all<W: Sink>(
 }
 
 /// The lines of all nodes after the root, where nodes are given without their blocks and holes. They are found first, for one node at a time.
-fn put_full_all<W: Sink>(
+fn put_full_all<B: BlockStore, W: Sink>(
     alloc: Global,
     text: &mut String,
     sink: &mut W,
-    view: View<'_>,
+    view: StoreView<'_, B>,
     form: ListForm,
     nodes: &[Node],
-) -> Result<(), RunError>
-    ensures { PassesOn (W.stream sink.old) (W.stream sink.new) (string_bytes text.old) (string_bytes text.new)
-        (flat_map (listed_in form (view_now view.entry)) (drop 1 (map (full_node (view_now view.entry)) nodes.now))) result }
+) -> Result<(), PrintError>
+    ensures printed { B.tells → PassesOnBy (W.stream sink.old) (W.stream sink.new) (string_bytes text.old) (string_bytes text.new)
+        (flat_map (listed_in form (view_by B.states view.entry)) (drop 1 (map (full_node (view_by B.states view.entry)) nodes.now))) result }
+    ensures fails { IsErrOf result PrintError.Unread → B.fails }
 {
     put_full_nodes(alloc, text, sink, view, form, behind_root(nodes))
 }
@@ -250,27 +259,51 @@ fn push_header(text: &mut String, form: ListForm) -> Result<(), OutOfMemory>
     Ok(())
 }
 
-/// The lines of all nodes.
-fn put_lines<W: Sink>(
+/// The lines of all nodes after the root of a volume, where nodes are given without their blocks and holes.
+fn put_lines<B: BlockStore, W: Sink>(
     alloc: Global,
     text: &mut String,
     sink: &mut W,
-    survey: &Survey<'_>,
+    blocks: &B,
+    volume: &Volume,
+    nodes: &[Node],
     form: ListForm,
-) -> Result<(), RunError>
-    ensures { PassesOn (W.stream sink.old) (W.stream sink.new) (string_bytes text.old) (string_bytes text.new)
-        (lines_by form (state_of survey.now.table.now) (survey_now survey.now).volume (drop 1 (survey_now survey.now).nodes)) result }
+) -> Result<(), PrintError>
+    ensures printed { B.tells → PassesOnBy (W.stream sink.old) (W.stream sink.new) (string_bytes text.old) (string_bytes text.new)
+        (bare_lines form (B.states blocks.now) (volume_now volume.now) nodes.now) result }
+    ensures fails { IsErrOf result PrintError.Unread → B.fails }
 {
-    match &survey.volume {
+    match volume {
         Volume::Open(opened) => {
-            let view = opened.view(survey.table);
-            put_full_all(alloc, text, sink, view, form, &survey.nodes)
+            let view = opened.view_by(blocks);
+            put_full_all(alloc, text, sink, view, form, nodes)
         }
-        _ => put_all(text, sink, form, &survey.nodes),
+        _ => {
+            put_all(text, sink, form, nodes)?;
+            Ok(())
+        }
     }
 }
 
-/// The first line, where it is asked for, and the lines of all nodes.
+/// The first line, where it is asked for, and the lines of all nodes after the root.
+fn put_parts<B: BlockStore, W: Sink>(
+    alloc: Global,
+    text: &mut String,
+    sink: &mut W,
+    blocks: &B,
+    volume: &Volume,
+    nodes: &[Node],
+    form: ListForm,
+) -> Result<(), PrintError>
+    ensures printed { B.tells → PassesOnBy (W.stream sink.old) (W.stream sink.new) (string_bytes text.old) (string_bytes text.new)
+        (header_line form ++ bare_lines form (B.states blocks.now) (volume_now volume.now) nodes.now) result }
+    ensures fails { IsErrOf result PrintError.Unread → B.fails }
+{
+    push_header(text, form)?;
+    put_lines(alloc, text, sink, blocks, volume, nodes, form)
+}
+
+/// The first line, where it is asked for, and the lines of all nodes of a table's volume.
 pub(crate) fn put_list<W: Sink>(
     alloc: Global,
     text: &mut String,
@@ -281,8 +314,38 @@ pub(crate) fn put_list<W: Sink>(
     ensures { PassesOn (W.stream sink.old) (W.stream sink.new) (string_bytes text.old) (string_bytes text.new)
         (list_text form (state_of survey.now.table.now) (survey_now survey.now)) result }
 {
-    push_header(text, form)?;
-    put_lines(alloc, text, sink, survey, form)
+    match put_parts(
+        alloc,
+        text,
+        sink,
+        survey.table,
+        &survey.volume,
+        &survey.nodes,
+        form,
+    ) {
+        Ok(()) => Ok(()),
+        Err(PrintError::Run(error)) => Err(error),
+        Err(PrintError::Unread) => unreachable!(),
+    }
+}
+
+/// The same, written.
+fn write_parts<B: BlockStore, W: Sink>(
+    alloc: Global,
+    blocks: &B,
+    volume: &Volume,
+    nodes: &[Node],
+    form: ListForm,
+    sink: &mut W,
+) -> Result<(), PrintError>
+    ensures printed { B.tells → PrintsBy (W.stream sink.old) (W.stream sink.new)
+        (header_line form ++ bare_lines form (B.states blocks.now) (volume_now volume.now) nodes.now) result }
+    ensures fails { IsErrOf result PrintError.Unread → B.fails }
+{
+    let mut text = String::new(alloc);
+    put_parts(alloc, &mut text, sink, blocks, volume, nodes, form)?;
+    flush(&mut text, sink)?;
+    Ok(())
 }
 
 /// Writes a line for each node after the root of the report that a survey represents, in the report's order: its standing, its
@@ -303,7 +366,60 @@ pub fn write_list<W: Sink>(
     ensures { Prints (W.stream sink.old) (W.stream sink.new)
         (list_text form (state_of survey.now.table.now) (survey_now survey.now)) result }
 {
-    let mut text = String::new(alloc);
-    put_list(alloc, &mut text, sink, survey, form)?;
-    flush(&mut text, sink)
+    match write_list_by(alloc, survey, form, sink) {
+        Ok(()) => Ok(()),
+        Err(PrintError::Run(error)) => Err(error),
+        Err(PrintError::Unread) => unreachable!(),
+    }
+}
+
+/// The same as [`write_list`], by any store of blocks. For each node its entry is read again, and for a torn one its body's extents.
+///
+/// # Errors
+///
+/// `Run` with the error of [`write_list`], and `Unread` where the bytes of a known block could not be read. In each case a prefix of the lines, possibly
+/// empty, was written: what could not be read is never told as unknown.
+pub fn write_list_by<B: BlockStore, W: Sink>(
+    alloc: Global,
+    survey: &Survey<'_, B>,
+    form: ListForm,
+    sink: &mut W,
+) -> Result<(), PrintError>
+    ensures printed { B.tells → PrintsBy (W.stream sink.old) (W.stream sink.new)
+        (list_text form (B.states survey.now.table.now) (survey_by B.states survey.now)) result }
+    ensures fails { IsErrOf result PrintError.Unread → B.fails }
+{
+    write_parts(
+        alloc,
+        survey.table,
+        &survey.volume,
+        &survey.nodes,
+        form,
+        sink,
+    )
+}
+
+/// The same as [`write_list_by`], of a listing: so no entries are looked for that no name leads to.
+///
+/// # Errors
+///
+/// As those of [`write_list_by`].
+pub fn write_listing_by<B: BlockStore, W: Sink>(
+    alloc: Global,
+    listing: &Listing<'_, B>,
+    form: ListForm,
+    sink: &mut W,
+) -> Result<(), PrintError>
+    ensures printed { B.tells → PrintsBy (W.stream sink.old) (W.stream sink.new)
+        (list_text form (B.states listing.now.table.now) (listing_by B.states listing.now)) result }
+    ensures fails { IsErrOf result PrintError.Unread → B.fails }
+{
+    write_parts(
+        alloc,
+        listing.table,
+        &listing.volume,
+        &listing.nodes,
+        form,
+        sink,
+    )
 }

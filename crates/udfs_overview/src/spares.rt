@@ -151,13 +151,13 @@ fn any_disagrees(table: &BlockTable, partitions: &[Partition]) -> bool
     false
 }
 
-/// Whether those of a volume that opens disagree.
+/// Whether copies of a sparing table of a volume disagree by what this table knows, as [`spares_disagree`] says of a survey.
 #[tactic(auto, unfolding(crate::specs::Spares::spares_disagree))]
-fn volume_disagrees(survey: &Survey<'_>) -> bool
-    ensures { result ≡ spares_disagree (state_of survey.now.table.now) (volume_now survey.now.volume) }
+pub fn spares_disagree_in(table: &BlockTable, volume: &Volume) -> bool
+    ensures { result ≡ spares_disagree (state_of table.now) (volume_now volume.now) }
 {
-    match &survey.volume {
-        Volume::Open(opened) => any_disagrees(survey.table, &opened.parts.partitions),
+    match volume {
+        Volume::Open(opened) => any_disagrees(table, &opened.parts.partitions),
         _ => false,
     }
 }
@@ -172,7 +172,7 @@ pub fn spares_disagree(survey: &Survey<'_>) -> bool
     ensures not_lawful { (profile : Profile) (last : ℕ) → IsReportBy profile (state_of survey.now.table.now) last (survey_now survey.now)
         → IsTrue result → AgreesWithNoneBy profile (state_of survey.now.table.now) last }
 {
-    volume_disagrees(survey)
+    spares_disagree_in(survey.table, &survey.volume)
 }
 
 /// Appends the line that says so, where copies of a sparing table disagree.

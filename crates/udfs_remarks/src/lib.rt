@@ -5,3 +5,4 @@
 pub mod looking;
 pub mod no_reports;
 pub mod remarks;
+mod structures;

@@ -6,6 +6,7 @@ mod list;
 mod pages;
 mod safe_names;
 mod spares;
+mod stores;
 mod streams;
 mod summary;
 mod whole_summary;

@@ -14,7 +14,7 @@ use udfs_samples::{Disc, LAST};
 use udfs_volume::Profile;
 
 /// All nodes, their columns, a line feed after each.
-const ALL: ListForm = ListForm {
+pub(super) const ALL: ListForm = ListForm {
     torn: false,
     null: false,
     paths: false,
@@ -37,7 +37,7 @@ fn assert_listed(rt: &impl Abort, alloc: Global, disc: &Disc, expected: &str) ->
 }
 
 /// The blocks that are not known of the volume with one map, and its list.
-static UNREAD: [(&[u32], &str); 6] = [
+pub(super) static UNREAD: [(&[u32], &str); 6] = [
     (
         &[],
         "whole\tfile\t0\t5000\t2001-07-04T09:30:00Z\t/A\nwhole\tfile\t0\t2\t2001-07-04T09:30:00Z\t/B\n",

@@ -1,0 +1,156 @@
+//! Lists over a store that copies a block each time it is asked for, as one of files does, and whose reads may fail.
+
+ghost use Rattle.udfs_lattice.specs.Tables.{state_of};
+
+use super::list::{ALL, UNREAD};
+use crate::tests::{assert_case, assert_text};
+use std::alloc::Global;
+use std::test::Fail;
+use udfs_lattice::{BlockStore, BlockTable, Fact, ReadFault};
+use udfs_overview::{PrintError, write_list_by, write_listing_by};
+use udfs_reading::Writer;
+use udfs_salvage::{Listing, Survey, list_volume_by, survey_volume};
+use udfs_samples::{Disc, LAST};
+use udfs_volume::Profile;
+
+/// A table that lends no block from its own memory, and of which one block can not be read.
+#[derive(Drop)]
+struct Copied<'a> {
+    table: &'a BlockTable,
+    broken: u32,
+}
+
+impl<'a> BlockStore for Copied<'a> {
+    ghost tells = { Unit {0} };
+
+    ghost states = { λ s n. state_of s.table.now n };
+
+    ghost fails = { Unit {0} };
+
+    fn knowledge(&self, n: u32) -> Fact<()> {
+        self.table.knowledge(n)
+    }
+
+    fn unknown_ahead(&self, n: u32) -> u32 {
+        self.table.unknown_ahead(n)
+    }
+
+    fn read(&self, n: u32) -> Result<Fact<[u8; 2048]>, ReadFault> {
+        if n == self.broken {
+            return Err(ReadFault);
+        }
+        Ok(self.table.state(n).copied())
+    }
+
+    fn lend<'s>(
+        &'s self,
+        n: u32,
+        room: &'s mut [u8; 2048],
+    ) -> Result<Fact<&'s [u8; 2048]>, ReadFault> {
+        if n == self.broken {
+            return Err(ReadFault);
+        }
+        match self.table.state(n) {
+            Fact::Unknown => Ok(Fact::Unknown),
+            Fact::Conflict => Ok(Fact::Conflict),
+            Fact::Known(bytes) => {
+                *room = *bytes;
+                Ok(Fact::Known(room))
+            }
+        }
+    }
+}
+
+/// The list of a table's listing, where one block can not be read any more, and what came of it.
+fn listed(
+    alloc: Global,
+    table: &BlockTable,
+    broken: u32,
+) -> Result<(String, Result<(), PrintError>), Fail> {
+    let Listing {
+        last,
+        profile,
+        volume,
+        nodes,
+        ..
+    } = list_volume_by(alloc, table, LAST, Profile::Strict)?;
+    let blocks = Copied { table, broken };
+    let listing = Listing {
+        table: &blocks,
+        last,
+        profile,
+        volume,
+        nodes,
+    };
+    let mut text = Writer::new(Vec::new(alloc));
+    let outcome = write_listing_by(alloc, &listing, ALL, &mut text);
+    Ok((String::from_utf8(text.into_inner())?, outcome))
+}
+
+/// The list is the same by blocks that are copied as by blocks that are lent.
+#[test]
+fn copies_are_listed_the_same(rt: HostRuntime) -> Result<(), Fail> {
+    let alloc = rt.alloc();
+    for &(unread, expected) in &UNREAD {
+        let table = Disc::type1(alloc)?.known_but(alloc, unread)?;
+        let (text, outcome) = listed(alloc, &table, u32::MAX)?;
+        assert_case(&rt, outcome == Ok(()), expected);
+        assert_text(&rt, text, expected);
+    }
+    Ok(())
+}
+
+/// An entry that can not be read any more, of the file A or B, ends the list, and is told as such: it is not one that is not known. The bytes of the files
+/// are not read.
+#[test]
+fn a_failed_read_ends_the_list(rt: HostRuntime) -> Result<(), Fail> {
+    let alloc = rt.alloc();
+    let (unread, expected) = UNREAD[1];
+    let table = Disc::type1(alloc)?.known_but(alloc, unread)?;
+    for broken in [275, 276] {
+        let (text, outcome) = listed(alloc, &table, broken)?;
+        assert_case(&rt, outcome == Err(PrintError::Unread), broken);
+        assert_case(&rt, expected.starts_with(text.as_str()), broken);
+    }
+    for broken in [274, 277, 279] {
+        let (text, outcome) = listed(alloc, &table, broken)?;
+        assert_case(&rt, outcome == Ok(()), broken);
+        assert_text(&rt, text, expected);
+    }
+    Ok(())
+}
+
+/// A survey of any store is listed as one of a table.
+#[test]
+fn surveys_of_stores_are_listed(rt: HostRuntime) -> Result<(), Fail> {
+    let alloc = rt.alloc();
+    for &(unread, expected) in &UNREAD {
+        let table = Disc::type1(alloc)?.known_but(alloc, unread)?;
+        let Survey {
+            last,
+            profile,
+            volume,
+            nodes,
+            unnamed,
+            reread,
+            ..
+        } = survey_volume(alloc, &table, LAST)?;
+        let blocks = Copied {
+            table: &table,
+            broken: u32::MAX,
+        };
+        let survey = Survey {
+            table: &blocks,
+            last,
+            profile,
+            volume,
+            nodes,
+            unnamed,
+            reread,
+        };
+        let mut text = Writer::new(Vec::new(alloc));
+        write_list_by(alloc, &survey, ALL, &mut text)?;
+        assert_text(&rt, String::from_utf8(text.into_inner())?, expected);
+    }
+    Ok(())
+}
