@@ -101,6 +101,7 @@ pub fn unread_volume<F: Files>(
     requires { IsStoredDisc ⟦<F as Known>⟧.reach files.now volume.now ⟦<AnyStored<F::Stored> as Stored>⟧.content stored_reason disc.now.stored.items disc.now.last }
     ensures { IsVolumeUnread ⟦<F as Known>⟧.reach files.now volume.now result }
 {
-    let _ = (volume, files);
+    let _ = volume;
+    let _ = files;
     reread_of(disc.stored.as_slice(), unread)
 }

@@ -1,7 +1,8 @@
 -- The blocks of an index.
 --     bounded blocks            the same, and nothing is known of a block that no volume has
---     IsTakenTable told Took t  it is known what the inputs of an index hold, and it took this table
-use Rattle.std.specs.Prelude.{ℕ, cond, nat_lt}
+--     IsNothingBehind blocks last     nothing is known of a block after the last one that a volume may have
+--     IsTakenTable Told Took t  it is known what the inputs of an index hold, and it took this table
+use Rattle.std.specs.Prelude.{◌≡◌, ◌<◌, ℕ, cond, nat_lt}
 use Rattle.udfs_lattice.specs.Tables.{IsTable, Table}
 use Rattle.udfs_lattice.specs.Volumes.{Blocks}
 use Rattle.udfs_lattice.specs.declared.facts.Fact.TheVariants.{Unknown}
@@ -9,6 +10,10 @@ use Rattle.udfs_lattice.specs.declared.facts.Fact.TheVariants.{Unknown}
 -- nothing is known of a block above 4,194,303
 abbrev pub bounded : Blocks → Blocks
 bounded blocks n = cond (nat_lt n 4194304) (blocks n) Unknown
+
+-- up to block 4,194,303
+abbrev pub IsNothingBehind : Blocks → ℕ → Type 0
+IsNothingBehind blocks last = (n : ℕ) → last < n → n < 4194304 → blocks n ≡ Unknown
 
 -- where it is known what the inputs hold (`Told`)
 pub record IsTakenTable (Told : Type 0) (Took : Table → Type 0) (t : Table) : Type 0 where

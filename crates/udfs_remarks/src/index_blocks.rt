@@ -4,8 +4,8 @@ ghost use Rattle.std.specs.Prelude.{◌≡◌, ℕ, IfOk, MatchOption, OnErr};
 ghost use Rattle.udfs_index.specs.Copying.{AreAllTold};
 ghost use Rattle.udfs_lattice.specs.States.{fact_now};
 ghost use Rattle.udfs_lattice.specs.Tables.{IsTable, Table};
-ghost use Rattle.udfs_salvage.specs.Reports.{IsNothingPast, IsPastEnd};
-ghost use Rattle.udfs_remarks.specs.IndexBlocks.{IsTakenTable, bounded};
+ghost use Rattle.udfs_salvage.specs.Reports.{IsPastEnd};
+ghost use Rattle.udfs_remarks.specs.IndexBlocks.{IsNothingBehind, IsTakenTable, bounded};
 
 use std::cell::Cell;
 use udfs_index::{Cursor, Index, Stored, Unread};
@@ -125,12 +125,13 @@ impl<'i, 'a, S: Stored> ReportStore for IndexBlocks<'i, 'a, S> {
 }
 
 /// The least block after `last` of which something is known, if there is one.
-fn first_past<S: Stored>(blocks: &IndexBlocks<'_, '_, S>, last: u32) -> Option<u32>
-    ensures { AreAllTold S.content → MatchOption result (IsNothingPast (⟦<IndexBlocks<'_, '_, S> as BlockStore>⟧.states blocks.now) last) (λ n. IsPastEnd (⟦<IndexBlocks<'_, '_, S> as BlockStore>⟧.states blocks.now) last n) }
+fn first_past<B: BlockStore>(blocks: &B, last: u32) -> Option<u32>
+    ensures { B.tells → MatchOption result (IsNothingBehind (B.states blocks.now) last) (λ n. IsPastEnd (B.states blocks.now) last n) }
 {
     for block in last.saturating_add(1)..BLOCKS {
-        if !matches!(blocks.knowledge(block), Fact::Unknown) {
-            return Some(block);
+        match blocks.knowledge(block) {
+            Fact::Unknown => {}
+            Fact::Known(()) | Fact::Conflict => return Some(block),
         }
     }
     None

@@ -6,5 +6,6 @@ mod index_blocks;
 pub mod looking;
 pub mod no_reports;
 pub mod remarks;
+mod structures;
 
 pub use index_blocks::IndexBlocks;

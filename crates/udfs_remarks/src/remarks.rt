@@ -1,22 +1,27 @@
 //! Remarks to a person, beside what is printed.
 
+ghost use Rattle.std.specs.Prelude.{OnErr};
+
+use crate::structures::{greatest_in, structures_in};
 use std::alloc::{AllocError, Global};
 use udfs_common::files::Files;
-use udfs_lattice::BlockTable;
+use udfs_lattice::{BlockStore, BlockTable, GaveUp, ReadFault};
 use udfs_overview::{
     Widening, left_out_remark, push_anchors_text, push_volume, push_widening, spares_disagree,
     widening_by,
 };
-use udfs_salvage::{Listing, Survey, Volume};
+use udfs_salvage::{Listing, ReportStore, Survey, Volume};
 use udfs_volume::differences::{anchors_apart, copies_differ};
 use udfs_volume::sequences::sequence;
 use udfs_volume::{Profile, Seen, VolumeFault};
 use udfs_walk::Node;
 
-/// What remarks on a volume are made from: its table, its last block, by which rules, and what came of opening it.
+/// What remarks on a volume are made from: its table, or of another store those of its blocks by which it is opened; the greatest block of which something is
+/// known, where it is asked for; its last block, by which rules, and what came of opening it.
 #[derive(Clone, Copy)]
 struct Told<'a> {
     table: &'a BlockTable,
+    greatest: Option<u32>,
     last: u32,
     profile: Profile,
     volume: &'a Volume,
@@ -56,15 +61,6 @@ fn of_domain(alloc: Global, told: Told<'_>) -> Result<String, AllocError> {
     format!(in alloc; "volume: UDF {whole:x}.{part:02x}, which is not read")
 }
 
-/// The greatest block of which something is known, if there is one.
-fn last_known(table: &BlockTable) -> Option<u32> {
-    let mut greatest = None;
-    for (number, _) in table.entries() {
-        greatest = Some(number);
-    }
-    greatest
-}
-
 /// Why a volume does not open, as the first line of its summary says it.
 fn of_volume(alloc: Global, told: Told<'_>) -> Result<String, AllocError> {
     let mut line = String::from_str(alloc, "the volume ")?;
@@ -76,7 +72,7 @@ fn of_volume(alloc: Global, told: Told<'_>) -> Result<String, AllocError> {
 
 /// The greatest block of which something is known, where the last block may be too large: no anchor is known, and nothing from the one before the last on.
 fn known_end(told: Told<'_>, needed: &[u32]) -> Option<u32> {
-    match last_known(told.table) {
+    match told.greatest {
         Some(known) if known < told.last.saturating_sub(256) && needed.contains(&told.last) => {
             Some(known)
         }
@@ -155,6 +151,7 @@ fn remark_left_out<F: Files>(alloc: Global, nodes: &[Node], files: &F) {
 pub fn remark_on<F: Files>(alloc: Global, survey: &Survey<'_>, files: &F) {
     let told = Told {
         table: survey.table,
+        greatest: greatest_where(survey.table, &survey.volume),
         last: survey.last,
         profile: survey.profile,
         volume: &survey.volume,
@@ -169,27 +166,72 @@ pub fn remark_on<F: Files>(alloc: Global, survey: &Survey<'_>, files: &F) {
     }
 }
 
-/// What a listing is of.
-fn told_by<'a>(listing: &'a Listing<'_>) -> Told<'a> {
+/// The greatest block of which something is known, where a volume wants blocks before it opens.
+fn greatest_where<B: ReportStore>(blocks: &B, volume: &Volume) -> Option<u32> {
+    match volume {
+        Volume::Holes(_) => greatest_in(blocks),
+        _ => None,
+    }
+}
+
+/// What remarks on the volume of a listing are made from, where a table has the blocks by which it is opened.
+fn told_in<'a, B: ReportStore>(listing: &'a Listing<'_, B>, table: &'a BlockTable) -> Told<'a> {
     Told {
-        table: listing.table,
+        table,
+        greatest: greatest_where(listing.table, &listing.volume),
         last: listing.last,
         profile: listing.profile,
         volume: &listing.volume,
     }
 }
 
+/// The blocks of a store by which the volume of a listing is opened; `None` where memory runs out, so that nothing is said then.
+fn structures_of<B: BlockStore>(
+    alloc: Global,
+    listing: &Listing<'_, B>,
+) -> Result<Option<BlockTable>, ReadFault>
+    ensures { OnErr result B.fails }
+{
+    match structures_in(alloc, listing.table, listing.last, &listing.volume) {
+        Ok(table) => Ok(Some(table)),
+        Err(GaveUp::OutOfMemory) => Ok(None),
+        Err(GaveUp::Unread) => Err(ReadFault),
+    }
+}
+
 /// Says in remarks that known anchors differ, and that known copies of the volume's descriptors do, where it is so, and how many files of
 /// the volume of a listing are of a type that is not written, where some are.
 pub fn remark_on_left_out<F: Files>(alloc: Global, listing: &Listing<'_>, files: &F) {
-    remark_apart(alloc, told_by(listing), files);
+    remark_apart(alloc, told_in(listing, listing.table), files);
     remark_left_out(alloc, &listing.nodes, files);
+}
+
+/// What is said of a volume beside the blocks of it to read again.
+fn remark_volume<F: Files>(alloc: Global, told: Told<'_>, files: &F) {
+    remark_apart(alloc, told, files);
+    remark_closed(alloc, told, files);
 }
 
 /// Says in remarks that known anchors differ, and that known copies of the volume's descriptors do, where it is so, and why the volume of a
 /// listing does not open, where it does not.
 pub fn remark_on_listing<F: Files>(alloc: Global, listing: &Listing<'_>, files: &F) {
-    let told = told_by(listing);
-    remark_apart(alloc, told, files);
-    remark_closed(alloc, told, files);
+    remark_volume(alloc, told_in(listing, listing.table), files);
+}
+
+/// The same as [`remark_on_listing`], by any store of blocks. It reads the blocks by which the volume is opened once more.
+///
+/// # Errors
+///
+/// Where the bytes of one of them could not be read: nothing is said then.
+pub fn remark_on_listing_by<B: ReportStore, F: Files>(
+    alloc: Global,
+    listing: &Listing<'_, B>,
+    files: &F,
+) -> Result<(), ReadFault>
+    ensures { OnErr result B.fails }
+{
+    if let Some(table) = structures_of(alloc, listing)? {
+        remark_volume(alloc, told_in(listing, &table), files);
+    }
+    Ok(())
 }

@@ -5,8 +5,7 @@
 --     NamesNothing         a path is no node's, and is named
 --     IsNowhere            the same of the table's report
 --     IsUntoldFor          the table has no report, or a path is no node's, or memory ran out
---     IfRefused P why      this holds of what a command says, where a store of blocks has no listing
-use Rattle.std.specs.Prelude.{◌≡◌, ◌⊎◌, ⊤, ℕ, Bool, List, alloc_error}
+use Rattle.std.specs.Prelude.{◌≡◌, ◌⊎◌, ℕ, Bool, List, alloc_error}
 use Rattle.udfs_lattice.specs.Tables.{Table, state_of}
 use Rattle.udfs_volume.specs.declared.profiles.Profile.{Profile}
 use Rattle.udfs_salvage.specs.Headline.{HeadlineBy}
@@ -15,8 +14,6 @@ use Rattle.udfs_salvage.specs.Reports.{Report, IsReportBy, all_whole}
 use Rattle.udfs_common.specs.declared.refusal.Refusal.{Refusal}
 use Rattle.udfs_common.specs.declared.refusal.Refusal.TheVariants.{Memory, NoNode}
 use Rattle.udfs_remarks.specs.NoReports.{IsUntold}
-use Rattle.udfs_reports.specs.declared.paths.Unlisted.{Unlisted}
-use Rattle.udfs_reports.specs.declared.paths.Unlisted.TheVariants.{Refused, Unread}
 
 -- all that is promised of reports holds of it; each path is a node's, or a directory above it that is not whole may hide it; and the blocks to read again for the paths are needed, and enough
 pub record IsReportFor (only : List (List ℕ)) (profile : Profile) (last : ℕ) (table : Table) (report : Report) : Type 0 where
@@ -55,8 +52,3 @@ pub record IsNowhere (only : List (List ℕ)) (profile : Profile) (last : ℕ) (
 -- the table has no report, or memory ran out; or a path is no node's
 abbrev pub IsUntoldFor : List (List ℕ) → Profile → ℕ → Refusal → Table → Type 0
 IsUntoldFor only profile last refusal table = IsUntold profile last refusal table ⊎ IsNowhere only profile last refusal table
-
--- of a failed read nothing is said
-abbrev pub IfRefused : (Refusal → Type 0) → Unlisted → Type 0
-IfRefused P (Refused refusal) = P refusal
-IfRefused P Unread = ⊤

@@ -1,41 +1,28 @@
-//! The nodes at some paths, below them and above them, of the volume of a store of blocks.
+//! The nodes at some paths, below them and above them, of the volume of a table.
 
-ghost use Rattle.std.specs.Prelude.{◌≡◌, IfOk, IfErr, IsErrOf, OnOk};
-ghost use Rattle.udfs_lattice.specs.Tables.{Table};
+ghost use Rattle.std.specs.Prelude.{◌≡◌, IfOk, IfErr, OnOk};
 ghost use Rattle.udfs_salvage.specs.InLine.{AllMayBe};
-ghost use Rattle.udfs_salvage.specs.Listings.{listing_by, listing_now};
+ghost use Rattle.udfs_salvage.specs.Listings.{listing_now};
 ghost use Rattle.udfs_salvage.specs.Reports.{IsOutOfRange};
 ghost use Rattle.udfs_volume.specs.Seen.{IsRising};
 ghost use Rattle.udfs_words.specs.Requests.{texts};
-ghost use Rattle.udfs_reports.specs.Paths.{IfRefused, IsListingFor, IsUntoldFor, MayNotBeNode};
+ghost use Rattle.udfs_reports.specs.Paths.{IsListingFor, IsUntoldFor, MayNotBeNode};
 
 use std::alloc::{AllocError, Global};
 use udfs_common::refusal::Refusal;
-use udfs_lattice::{BlockStore, BlockTable};
+use udfs_lattice::BlockTable;
+use udfs_remarks::looking::listed;
 use udfs_remarks::no_reports::refused_report;
+use udfs_salvage::Listing;
 use udfs_salvage::in_line::{first_nowhere, keep_in_line};
-use udfs_salvage::{Listing, ReportStore, StoreError, list_store};
 use udfs_volume::Profile;
 use udfs_words::request::RereadRequest;
 
-/// Why a store of blocks has no listing.
-#[derive(Debug, Drop)]
-pub enum Unlisted {
-    /// What a command says.
-    Refused(Refusal),
-    /// The bytes of a known block could not be read.
-    Unread,
-}
-
 /// Checks that each of these paths is that of a node of a listing, or may be hidden by a directory that is not whole. Fails with `NoNode` and the number of the
 /// first that is not, counted from 1; or with `Memory` where memory runs out.
-fn judge_paths<B: BlockStore>(
-    alloc: Global,
-    only: &[&str],
-    listing: &Listing<'_, B>,
-) -> Result<(), Refusal>
-    ensures may_be { OnOk result (AllMayBe (texts only.now) (listing_by B.states listing.now).nodes) }
-    ensures refused { IfErr result (MayNotBeNode (texts only.now) (listing_by B.states listing.now)) }
+fn judge_paths(alloc: Global, only: &[&str], listing: &Listing<'_>) -> Result<(), Refusal>
+    ensures may_be { OnOk result (AllMayBe (texts only.now) (listing_now listing.now).nodes) }
+    ensures refused { IfErr result (MayNotBeNode (texts only.now) (listing_now listing.now)) }
 {
     match first_nowhere(alloc, only, listing) {
         Ok(None) => Ok(()),
@@ -44,34 +31,32 @@ fn judge_paths<B: BlockStore>(
     }
 }
 
-/// The listing of the nodes at these paths, below them and above them, of a store's volume by the rules of a profile, where `last` is its last block. Without
+/// The listing of the nodes at these paths, below them and above them, of a table's volume by the rules of a profile, where `last` is its last block. Without
 /// paths it has all nodes.
-pub fn listed_in<'a, B: ReportStore>(
+fn listed_at<'a>(
     alloc: Global,
-    blocks: &'a B,
+    table: &'a BlockTable,
     last: u32,
     profile: Profile,
     only: &[&str],
-) -> Result<Listing<'a, B>, Unlisted>
-    ensures listing { IfOk result (λ listing. B.tells → (t : Table) → B.holds blocks.now t → IsListingFor (texts only.now) profile last t (listing_by B.states listing)) }
-    ensures range { IfOk result (λ listing. B.tells → ¬ IsOutOfRange last) }
-    ensures rising { IfOk result (λ listing. B.tells → IsRising (listing_by B.states listing).reread) }
-    ensures of { IfOk result (λ listing. (listing.table.now ≡ blocks.now) × (listing.last ≡ last)) }
-    ensures refused { IfErr result (λ why. B.tells → (t : Table) → B.holds blocks.now t → IfRefused (λ refusal. IsUntoldFor (texts only.now) profile last refusal t) why) }
-    ensures fails { IsErrOf result Unlisted.Unread → B.fails }
+) -> Result<Listing<'a>, Refusal>
+    ensures listing { IfOk result (λ listing. IsListingFor (texts only.now) profile last table.now (listing_now listing)) }
+    ensures range { IfOk result (λ listing. ¬ IsOutOfRange last) }
+    ensures rising { IfOk result (λ listing. IsRising (listing_now listing).reread) }
+    ensures of { IfOk result (λ listing. (listing.table.now ≡ table.now) × (listing.last ≡ last)) }
+    ensures refused { IfErr result (λ refusal. IsUntoldFor (texts only.now) profile last refusal table.now) }
 {
-    let whole = match list_store(alloc, blocks, last, profile) {
+    let whole = match listed(alloc, table, last, profile) {
         Ok(whole) => whole,
-        Err(StoreError::Salvage(error)) => return Err(Unlisted::Refused(refused_report(error))),
-        Err(StoreError::Unread) => return Err(Unlisted::Unread),
+        Err(refusal) => return Err(refusal),
     };
     match judge_paths(alloc, only, &whole) {
         Ok(()) => {}
-        Err(refusal) => return Err(Unlisted::Refused(refusal)),
+        Err(refusal) => return Err(refusal),
     }
     match keep_in_line(alloc, whole, only) {
         Ok(kept) => Ok(kept),
-        Err(error) => Err(Unlisted::Refused(refused_report(error))),
+        Err(error) => Err(refused_report(error)),
     }
 }
 
@@ -95,9 +80,5 @@ pub fn listed_for<'a>(
     ensures refused { IfErr result (λ refusal. IsUntoldFor (texts request.now.only.items) request.now.volume.profile last refusal table.now) }
 {
     let only = request.only.as_slice();
-    match listed_in(alloc, table, last, request.volume.profile, only) {
-        Ok(listing) => Ok(listing),
-        Err(Unlisted::Refused(refusal)) => Err(refusal),
-        Err(Unlisted::Unread) => unreachable!(),
-    }
+    listed_at(alloc, table, last, request.volume.profile, only)
 }
