@@ -149,9 +149,9 @@ other_judged {R} content paths sources n one ts own r at pair are has named judg
 }
 
 -- ---- an input that was not taken
-pub fails_at : {R : Type 0} (content : R → Option (List ℕ)) (sources : List R) (n : ℕ) (one : R) (ts : List Table) (error : ReadingError) → slice_get sources n ≡ Some one → TablesAre content (take n sources) ts → GivesFault inputs (content one) (Err error) → RefusesFaulty inputs (content one) (Err error) →
+pub fails_at : {R : Type 0} (content : R → Option (List ℕ)) (sources : List R) (n : ℕ) (one it : R) (ts : List Table) (error : ReadingError) → slice_get sources n ≡ Some one → it ≡ one → TablesAre content (take n sources) ts → GivesFault inputs (content it) (Err error) → RefusesFaulty inputs (content it) (Err error) →
     OneFails content sources (record { input = n + 1; error = error })
-fails_at content sources n one ts error at are fault faulty = record {
+fails_at {R} content sources n one it ts error at same are fault faulty = record {
   earlier = take n sources;
   one = one;
   later = drop (n + 1) sources;
@@ -159,10 +159,10 @@ fails_at content sources n one ts error at are fault faulty = record {
   which = ap (λ (k : ℕ). k + 1) (sym (length_within sources n one at));
   tables = ts;
   have_tables = are;
-  fault = fault;
-  faulty = faulty;
+  fault = subst (λ (r : R). GivesFault inputs (content r) (Err error)) same fault;
+  faulty = subst (λ (r : R). RefusesFaulty inputs (content r) (Err error)) same faulty;
 }
 
 -- ---- an input that was
-pub taken_at : {R : Type 0} (content : R → Option (List ℕ)) (sources : List R) (n : ℕ) (one : R) (Old New : Table → Type 0) → slice_get sources n ≡ Some one → TakesInput (content one) Old New → Takes content one Old New ⊥
-taken_at content sources n one Old New at takes = record { own = takes.table; has = takes.has; took = takes.took; one = λ no t old. absurd no }
+pub taken_at : {R : Type 0} (content : R → Option (List ℕ)) (one it : R) (Old New : Table → Type 0) → it ≡ one → TakesInput (content it) Old New → Takes content one Old New ⊥
+taken_at {R} content one it Old New same takes = record { own = takes.table; has = subst (λ (r : R). IfSome (content r) (λ bytes. HasTable bytes takes.table)) same takes.has; took = takes.took; one = λ no t old. absurd no }

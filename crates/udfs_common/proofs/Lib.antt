@@ -9,3 +9,4 @@ pub mod CountingLemmas
 pub mod NamingLemmas
 pub mod StoredLemmas
 pub mod IndexingLemmas
+pub mod StoredVolumes

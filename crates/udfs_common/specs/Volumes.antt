@@ -3,7 +3,7 @@
 --     IsDisc reach at volume disc            the volume's last block, and the join of its inputs
 --     OfVolume reach at volume Holds         this holds of the last block and of the join
 --     IsNoVolume reach at volume refusal     no last block is known, or the inputs were not joined, and why
---     OfToldVolume reach at volume Holds     the same as OfVolume, of the join where it is known what files hold
+--     OfToldVolume reach at volume Holds     the same as OfVolume, of the join where it is known what each file holds that is read at positions
 --     IsStoredDisc reach at volume content reason stored last     inputs that are read at positions, and the volume's last block
 --     IsVolumeUnread reach at volume refusal     inputs that are read at positions were not taken, or not read again, and why
 use Rattle.std.specs.Prelude.{◌≡◌, ◌⊎◌, ◌<◌, ℕ, List, Option, true, false, length}
@@ -41,11 +41,11 @@ pub record OfVolume {F I M S W : Type 0} (reach : Reach F I M S W) (at : F) (vol
 abbrev pub IsNoVolume : {F I M S W : Type 0} → Reach F I M S W → F → VolumeSource → Refusal → Type 0
 IsNoVolume reach at volume refusal = (HasNoLast reach at volume.last volume.inputs.paths.items refusal ⊎ InputsRefused (found_at reach at) (reach.files.shut at) reach.remaining reach.faults volume.inputs.paths.items refusal) × (volume.force ≡ true → NamesNoOther refusal)
 
--- this holds of where the disc ends; and where it is known what files hold (`tells`), of the join of what the inputs hold, and no image is of another disc, but by force
+-- this holds of where the disc ends; and where it is known what each file holds that is read at positions, of the join of what the inputs hold, and no image is of another disc, but by force
 pub record OfToldVolume {F I M S W : Type 0} (reach : Reach F I M S W) (at : F) (volume : VolumeSource) (Holds : ℕ → Table → Type 0) : Type 0 where
   pub last : ℕ
   pub ends : IsEnd (found_at reach at) volume.last volume.inputs.paths.items last
-  pub told : reach.files.tells → IsOneDiscOf reach at volume × OfPaths (found_at reach at) reach.remaining volume.inputs.paths.items (Holds last)
+  pub told : reach.stored_told → IsOneDiscOf reach at volume × OfPaths (found_at reach at) reach.remaining volume.inputs.paths.items (Holds last)
 
 -- there are inputs, each of which has what its path leads to, and the last block is where the volume's disc ends; where one has no reading, the reason follows from what its path leads to
 pub record IsStoredDisc {F I M S W R : Type 0} (reach : Reach F I M S W) (at : F) (volume : VolumeSource) (content : R → Option (List ℕ)) (reason : R → Option PairFault) (stored : List R) (last : ℕ) : Type 0 where
@@ -57,4 +57,4 @@ pub record IsStoredDisc {F I M S W R : Type 0} (reach : Reach F I M S W) (at : F
 
 -- none of them is named as one of another disc where what is is to be joined
 abbrev pub IsVolumeUnread : {F I M S W : Type 0} → Reach F I M S W → F → VolumeSource → Refusal → Type 0
-IsVolumeUnread reach at volume refusal = IndexRefused reach.files.tells (found_at reach at) (reach.files.shut at) reach.remaining volume.inputs.paths.items refusal × (volume.force ≡ true → NamesNoOther refusal)
+IsVolumeUnread reach at volume refusal = IndexRefused reach.stored_told (found_at reach at) (reach.files.shut at) reach.remaining volume.inputs.paths.items refusal × (volume.force ≡ true → NamesNoOther refusal)

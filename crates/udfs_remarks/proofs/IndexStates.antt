@@ -31,6 +31,22 @@ held_by content inputs packets t n told fits took =
     let w = told_all content inputs told in
     within (state_of t n) (states_of (contents_of content inputs) packets) n (nat_lt n 4194304) refl (fits n) (took_states (contents_of content inputs) packets t w.0 w.1 took n)
 
+-- ---- what is known of one
+
+pub far_is : (blocks : Blocks) (n : ℕ) → 4194304 ≤ n → bounded blocks n ≡ Unknown
+far_is blocks n far = go (nat_lt n 4194304) refl
+  where
+    go : (b : Bool) → nat_lt n 4194304 ≡ b → bounded blocks n ≡ Unknown
+    go true e = let near = ltb-true n 4194304 e in absurd (omega (arith, far, near))
+    go false e = ap (λ (b : Bool). cond b (blocks n) Unknown) e
+
+pub near_is : (blocks : Blocks) (n : ℕ) → n < 4194304 → bounded blocks n ≡ blocks n
+near_is blocks n near = go (nat_lt n 4194304) refl
+  where
+    go : (b : Bool) → nat_lt n 4194304 ≡ b → bounded blocks n ≡ blocks n
+    go true e = ap (λ (b : Bool). cond b (blocks n) Unknown) e
+    go false e = let far = ltb-false n 4194304 e in absurd (omega (arith, far, near))
+
 -- ---- the least block of which something is known
 
 unknown_by : (s : State) → known_as s ≡ Unknown → s ≡ Unknown

@@ -65,6 +65,7 @@ impl<'i, 'a, S: Stored> BlockStore for IndexBlocks<'i, 'a, S> {
     // A device may fail, and a file that was changed may be shorter.
     ghost fails = { Unit {0} };
 
+    #[tactic(auto, using(crate::proofs::IndexStates::far_is, crate::proofs::IndexStates::near_is))]
     fn knowledge(&self, n: u32) -> Fact<()> {
         if n >= BLOCKS {
             return Fact::Unknown;
@@ -79,6 +80,7 @@ impl<'i, 'a, S: Stored> BlockStore for IndexBlocks<'i, 'a, S> {
         }
     }
 
+    #[tactic(auto, using(crate::proofs::IndexStates::far_is, crate::proofs::IndexStates::near_is))]
     fn read(&self, n: u32) -> Result<Fact<[u8; 2048]>, ReadFault> {
         if n >= BLOCKS {
             return Ok(Fact::Unknown);
@@ -89,6 +91,7 @@ impl<'i, 'a, S: Stored> BlockStore for IndexBlocks<'i, 'a, S> {
         }
     }
 
+    #[tactic(auto, using(crate::proofs::IndexStates::far_is, crate::proofs::IndexStates::near_is))]
     fn lend<'s>(
         &'s self,
         n: u32,
@@ -119,6 +122,7 @@ impl<'i, 'a, S: Stored> ReportStore for IndexBlocks<'i, 'a, S> {
         self.index.conflicts()
     }
 
+    #[tactic(auto, using(crate::proofs::IndexStates::nothing_past))]
     fn first_past(&self, last: u32) -> Option<u32> {
         first_past(self, last)
     }
@@ -131,7 +135,8 @@ fn first_past<B: BlockStore>(blocks: &B, last: u32) -> Option<u32>
     for block in last.saturating_add(1)..BLOCKS {
         match blocks.knowledge(block) {
             Fact::Unknown => {}
-            Fact::Known(()) | Fact::Conflict => return Some(block),
+            Fact::Known(()) => return Some(block),
+            Fact::Conflict => return Some(block),
         }
     }
     None

@@ -6,4 +6,4 @@ use Rattle.udfs_common.specs.Indexing.{Indexed}
 use Rattle.udfs_common.proofs.indexing.index_all.Given as goal
 
 abbrev pub invariant-loop-place : goal.invariant-loop-place
-invariant-loop-place g l = g.T.Taker.took l.args.taker.old empty_table → Indexed (stored_in g.S.Stored.content) l.paths (take l.place l.stored) l.force (g.T.Taker.took l.taker)
+invariant-loop-place g l = g.T.Taker.took l.fn.taker empty_table → Indexed (stored_in g.S.Stored.content) l.paths (take l.place l.stored) l.force (g.T.Taker.took l.taker)

@@ -13,7 +13,7 @@ pub returns-in-Err-Salvage-clause-refused : goal.returns-in-Err-Salvage-clause-r
 returns-in-Err-Salvage-clause-refused g c =
     let profile = c.args.request.now.volume.profile in
     inr (told_by _ c.in-Ok.ensures.index (λ tells last table is.
-    let told = any_told g.F.Stored.Stored.content (g.met.F.Files.stored_told tells) in
+    let told = any_told g.F.Stored.Stored.content tells in
     let refused = rw c.in-Err-Salvage.field-0-is at (c.in-Err-Salvage.ensures.refused told table (c.new-blocks.ensures table told is.1 is.2)) in
     subst (λ (n : ℕ). IsRefusedNumbers _ profile n _ _ _ table) (sym is.0) (inl (refl, inl (rw c.refused_report.ensures refused)))))
 
@@ -28,7 +28,7 @@ returns-in-Ok-print_numbers-clause-printed g c =
     let profile = c.args.request.now.volume.profile in
     let printed = c.in-Ok-print_numbers.ensures.printed in
     told_by _ c.in-Ok.ensures.index (λ tells last table is.
-    let told = any_told g.F.Stored.Stored.content (g.met.F.Files.stored_told tells) in
+    let told = any_told g.F.Stored.Stored.content tells in
     let found = c.in-Ok-numbers_in.ensures in
     subst (λ (only : List (List ℕ)). TellsNumbers only profile last _ _ _ table) (sym c.requires.only)
     (subst (λ (n : ℕ). TellsNumbers [] profile n _ _ _ table) (sym is.0)
@@ -39,7 +39,7 @@ returns-in-Err-print_numbers-clause-refused g c =
     let profile = c.args.request.now.volume.profile in
     let stopped = c.in-Err-print_numbers.ensures.stopped in
     inr (told_by _ c.in-Ok.ensures.index (λ tells last table is.
-    let told = any_told g.F.Stored.Stored.content (g.met.F.Files.stored_told tells) in
+    let told = any_told g.F.Stored.Stored.content tells in
     let found = c.in-Ok-numbers_in.ensures in
     subst (λ (only : List (List ℕ)). IsRefusedNumbers only profile last _ _ _ table) (sym c.requires.only)
     (subst (λ (n : ℕ). IsRefusedNumbers [] profile n _ _ _ table) (sym is.0)
