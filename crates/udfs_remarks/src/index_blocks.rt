@@ -45,6 +45,23 @@ impl<'i, 'a, S: Stored> IndexBlocks<'i, 'a, S> {
         }
     }
 
+    /// The least block after `last` of which something is known, if there is one.
+    fn least_behind(&self, last: u32) -> Option<u32>
+        ensures { AreAllTold S.content → MatchOption result (IsNothingBehind (⟦<IndexBlocks<'i, 'a, S> as BlockStore>⟧.states self.now) last) (λ n. IsPastEnd (⟦<IndexBlocks<'i, 'a, S> as BlockStore>⟧.states self.now) last n) }
+    {
+        if last >= BLOCKS {
+            return None;
+        }
+        for block in last + 1..BLOCKS {
+            match self.knowledge(block) {
+                Fact::Unknown => {}
+                Fact::Known(()) => return Some(block),
+                Fact::Conflict => return Some(block),
+            }
+        }
+        None
+    }
+
     /// The bytes of this block could not be read.
     fn miss(&self, n: u32) -> ReadFault {
         if let Fact::Known(place) = self.index.slot(n) {
@@ -108,11 +125,9 @@ impl<'i, 'a, S: Stored> BlockStore for IndexBlocks<'i, 'a, S> {
 }
 
 impl<'i, 'a, S: Stored> ReportStore for IndexBlocks<'i, 'a, S> {
-    ghost use Rattle.udfs_remarks.proofs.IndexStates.{held_by};
+    ghost holds = { λ x. IsTakenTable (AreAllTold S.content) (⟦<Index<'a, S> as Taker<Cursor<'a, S>>>⟧.took x.index.now) (bounded (⟦<Index<'a, S> as BlockStore>⟧.states x.index.now)) };
 
-    ghost holds = { λ x. IsTakenTable (AreAllTold S.content) (⟦<Index<'a, S> as Taker<Cursor<'a, S>>>⟧.took x.index.now) };
-
-    ghost held = { λ x t h n. held_by S.content _ _ t n h.told h.is_table h.took };
+    ghost held = { λ x t h n. h.same n };
 
     fn known(&self) -> u32 {
         self.index.known()
@@ -124,20 +139,6 @@ impl<'i, 'a, S: Stored> ReportStore for IndexBlocks<'i, 'a, S> {
 
     #[tactic(auto, using(crate::proofs::IndexStates::nothing_past))]
     fn first_past(&self, last: u32) -> Option<u32> {
-        first_past(self, last)
+        self.least_behind(last)
     }
-}
-
-/// The least block after `last` of which something is known, if there is one.
-fn first_past<B: BlockStore>(blocks: &B, last: u32) -> Option<u32>
-    ensures { B.tells → MatchOption result (IsNothingBehind (B.states blocks.now) last) (λ n. IsPastEnd (B.states blocks.now) last n) }
-{
-    for block in last.saturating_add(1)..BLOCKS {
-        match blocks.knowledge(block) {
-            Fact::Unknown => {}
-            Fact::Known(()) => return Some(block),
-            Fact::Conflict => return Some(block),
-        }
-    }
-    None
 }

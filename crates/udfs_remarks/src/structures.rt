@@ -128,12 +128,12 @@ pub(crate) fn structures_in<B: BlockStore>(
     Ok(table)
 }
 
-/// The greatest block of which something is known, where something after `from` is, and nothing after `to`.
-fn greatest_between<B: ReportStore>(blocks: &B, from: u32, to: u32) -> u32
-    requires { from ≤ to }
+/// The greatest block of which something is known, where something after `low` is, and nothing after `high`.
+fn greatest_between<B: ReportStore>(blocks: &B, low: u32, high: u32) -> u32
+    requires { low ≤ high }
 {
-    let mut from = from;
-    let mut to = to;
+    let mut from = low;
+    let mut to = high;
     while to - from > 1 {
         let middle = from + (to - from) / 2;
         match blocks.first_past(middle) {
