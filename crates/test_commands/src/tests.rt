@@ -29,6 +29,7 @@ mod sizes;
 mod sparing;
 mod stored;
 mod stored_images;
+mod stored_rereads;
 mod summing;
 mod times;
 mod unnamed;

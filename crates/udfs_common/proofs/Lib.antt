@@ -5,3 +5,8 @@ pub mod JobLemmas
 pub mod PutsLemmas
 pub mod TakingLemmas
 pub mod VolumeLemmas
+pub mod CountingLemmas
+pub mod NamingLemmas
+pub mod StoredLemmas
+pub mod IndexingLemmas
+pub mod StoredVolumes

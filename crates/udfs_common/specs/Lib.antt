@@ -11,3 +11,5 @@ pub mod Reach
 pub mod Puts
 pub mod Ends
 pub mod Volumes
+pub mod Indexing
+pub mod Refused

@@ -1,5 +1,6 @@
 //! What is known of the files that a command reaches, as one value.
 
+ghost use Rattle.udfs_index.specs.Copying.{AreAllTold};
 ghost use Rattle.udfs_common.specs.Reach.{Reach};
 
 use crate::files::Files;
@@ -13,5 +14,5 @@ pub trait Known: Files {
 }
 
 impl<F: Files> Known for F {
-    ghost reach = { record { files = F.Files; output = F.Output.stream; read_faults = F.Input.faults; remaining = ⟦<AnySource<F::Input, F::Image> as Source>⟧.remaining; faults = ⟦<AnySource<F::Input, F::Image> as Source>⟧.faults } };
+    ghost reach = { record { files = F.Files; output = F.Output.stream; read_faults = F.Input.faults; remaining = ⟦<AnySource<F::Input, F::Image> as Source>⟧.remaining; faults = ⟦<AnySource<F::Input, F::Image> as Source>⟧.faults; stored_told = AreAllTold F.Stored.content } };
 }

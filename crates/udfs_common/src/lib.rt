@@ -5,8 +5,11 @@
 pub mod ends;
 pub mod files;
 pub mod guard;
+pub mod index_taking;
+pub mod indexing;
 pub mod inputs;
 pub mod job_putting;
+mod judging;
 pub mod known;
 pub mod placing;
 pub mod putting;
@@ -14,5 +17,6 @@ pub mod refusal;
 pub mod shown;
 pub mod sources;
 pub mod stored_inputs;
+pub mod stored_volumes;
 pub mod taking;
 pub mod volumes;

@@ -1,1 +1,2 @@
 pub mod NoReports
+pub mod IndexBlocks

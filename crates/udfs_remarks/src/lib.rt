@@ -2,7 +2,10 @@
 //! What the commands that look into a volume share: what is found in a volume or why its table has no report, and the remarks beside a result.
 #![tactic(auto)]
 
+mod index_blocks;
 pub mod looking;
 pub mod no_reports;
 pub mod remarks;
 mod structures;
+
+pub use index_blocks::IndexBlocks;

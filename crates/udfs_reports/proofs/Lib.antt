@@ -1,3 +1,5 @@
 pub mod PagingLemmas
 pub mod RereadingLemmas
 pub mod TellingLemmas
+mod StoreListings
+mod ToldVolumes

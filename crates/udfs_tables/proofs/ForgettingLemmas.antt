@@ -7,7 +7,7 @@ use Rattle.udfs_words.specs.declared.request.ForgetRequest.{ForgetRequest}
 use Rattle.udfs_common.specs.Reach.{Reach, found_at}
 use Rattle.udfs_common.specs.declared.refusal.Refusal.{Refusal}
 use Rattle.udfs_common.specs.declared.refusal.Refusal.TheVariants.{ListLine, ListOpen, ListRead, Memory, Unkept}
-use Rattle.udfs_tables.proofs.NamingLemmas.{memory_early}
+use Rattle.udfs_common.proofs.NamingLemmas.{memory_early}
 use Rattle.udfs_tables.specs.Forgetting.{Forgets, HasList, IsForgottenJoin, IsListRefused, Lists, ListsRefused}
 use Rattle.udfs_tables.specs.Joining.{OfInputs}
 

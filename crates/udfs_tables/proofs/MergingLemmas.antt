@@ -15,8 +15,8 @@ use Rattle.udfs_common.specs.Refusing.{IsUnput}
 use Rattle.udfs_common.specs.Spelling.{table_file}
 use Rattle.udfs_common.specs.declared.refusal.Refusal.{Refusal}
 use Rattle.udfs_common.specs.declared.refusal.Refusal.TheVariants.{Memory, Output, Unkept}
-use Rattle.udfs_tables.proofs.StoredLemmas.{HaveSources, joined_by}
-use Rattle.udfs_tables.specs.Indexing.{Indexed}
+use Rattle.udfs_common.proofs.StoredLemmas.{HaveSources, joined_by}
+use Rattle.udfs_common.specs.Indexing.{Indexed}
 use Rattle.udfs_tables.specs.Merging.{IsMerged}
 
 -- what a crash shows of a file of these bytes

@@ -8,7 +8,7 @@ use Rattle.udfs_common.specs.Refusing.{NamesNoOther}
 use Rattle.udfs_common.specs.Spelling.{table_file}
 use Rattle.udfs_common.specs.declared.refusal.Refusal.{Refusal}
 use Rattle.udfs_common.specs.declared.refusal.Refusal.TheVariants.{Unkept}
-use Rattle.udfs_tables.proofs.NamingLemmas.{memory_names_none, output_names_none, spared_names_none}
+use Rattle.udfs_common.proofs.NamingLemmas.{memory_names_none, output_names_none, spared_names_none}
 use Rattle.udfs_tables.specs.Merging.{IsMerged, MergeFails}
 use Rattle.udfs_tables.specs.Outputs.{OutRefused}
 

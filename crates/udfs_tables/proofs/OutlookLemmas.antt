@@ -3,7 +3,7 @@ use Rattle.std.proofs.Common.{◌≡◌, ◌≢◌, ◌⊎◌, ◌∙◌, ℕ, L
 use Rattle.udfs_common.specs.Guarding.{MayNotBeSeen, SomeShut}
 use Rattle.udfs_common.specs.declared.refusal.Refusal.{Refusal}
 use Rattle.udfs_common.specs.declared.refusal.Refusal.TheVariants.{Memory, Output, Spared, Unkept}
-use Rattle.udfs_tables.proofs.NamingLemmas.{memory_early}
+use Rattle.udfs_common.proofs.NamingLemmas.{memory_early}
 
 -- why an output could not be looked at, in the order of its definition
 pub unseen : (shut : List ℕ → Type 0) (Failed : Type 0) (files parts : List (List ℕ)) (out : List ℕ) → shut out ⊎ SomeShut shut parts ⊎ SomeShut shut files ⊎ Failed → MayNotBeSeen shut Failed files parts out

@@ -11,7 +11,7 @@ use Rattle.udfs_common.specs.Spelling.{table_file}
 use Rattle.udfs_common.specs.declared.refusal.Refusal.{Refusal}
 use Rattle.udfs_tables.specs.Joining.{OfInputs}
 use Rattle.udfs_tables.specs.Outputs.{OutRefused}
-use Rattle.udfs_tables.specs.Refused.{MergeRefused}
+use Rattle.udfs_common.specs.Refused.{IndexRefused}
 
 module _ {F I M S W : Type 0} (reach : Reach F I M S W) (old : F) (request : MergeRequest) where
   -- in the version that is asked for
@@ -20,7 +20,7 @@ module _ {F I M S W : Type 0} (reach : Reach F I M S W) (old : F) (request : Mer
 
   -- by force no image is named as one of another disc
   abbrev pub IsUnmerged : Refusal → Type 0
-  IsUnmerged refusal = (MergeRefused reach.files.tells (found_at reach old) (reach.files.shut old) reach.remaining request.inputs.paths.items refusal ⊎ IsUnput (PutFails reach request.out.now old) refusal) × (request.force ≡ true → NamesNoOther refusal)
+  IsUnmerged refusal = (IndexRefused reach.files.tells (found_at reach old) (reach.files.shut old) reach.remaining request.inputs.paths.items refusal ⊎ IsUnput (PutFails reach request.out.now old) refusal) × (request.force ≡ true → NamesNoOther refusal)
 
   -- the output may not be written, or the file was not put
   abbrev pub MergeFails : Refusal → Type 0

@@ -7,9 +7,10 @@ ghost use Rattle.udfs_lattice.specs.Tables.{Table, IsTable, conflict_count, empt
 use crate::beside::{Beside, Totals};
 use crate::said::Disagreement;
 use std::alloc::{AllocError, Global};
+use udfs_common::index_taking::IndexTaker;
 use udfs_index::{Cursor, Index, RecordTaker, Stored, Unread, take_records};
 use udfs_lattice::Fact;
-use udfs_reading::{NotTaken, Taker};
+use udfs_reading::{NotTaken, ReadingError, Taker, take_inputs};
 
 /// The index of the inputs, which counts while it takes them.
 #[derive(Drop)]
@@ -40,11 +41,6 @@ impl<'a, S: Stored> IndexTally<'a, S> {
         &self.index
     }
 
-    /// What could not be looked into, where that is why something was not taken.
-    pub fn failed(&self) -> Option<Unread> {
-        self.index.failed()
-    }
-
     /// The input that was read is over.
     fn end_input(&mut self)
         ensures { self.new.index ≡ self.old.index }
@@ -68,13 +64,6 @@ impl<'a, S: Stored> IndexTally<'a, S> {
             }
         }
         count
-    }
-
-    /// How many blocks are in conflict in the join so far.
-    pub fn conflicts(&self) -> u32
-        ensures { (t : Table) → AreAllTold S.content → ⟦<IndexTally<'a, S> as Taker<Cursor<'a, S>>>⟧.took self.now t → result ≡ conflict_count t }
-    {
-        self.index.conflicts()
     }
 
     /// The last input is over: what is known and in conflict in the join.
@@ -182,5 +171,23 @@ impl<'a, S: Stored> Taker<Cursor<'a, S>> for IndexTally<'a, S> {
             }
             Err(_) => Err(NotTaken),
         }
+    }
+}
+
+/// All bytes of an input are read: it is told of each block whether it has the same bytes as before.
+impl<'a, S: Stored + 'a> IndexTaker<'a, S> for IndexTally<'a, S> {
+    fn take_input(&mut self, stored: &'a S) -> Result<(), ReadingError> {
+        match take_inputs(&mut [Cursor::new(stored)], self) {
+            Ok(()) => Ok(()),
+            Err(error) => Err(error.error),
+        }
+    }
+
+    fn unread(&self) -> Option<Unread> {
+        self.index.failed()
+    }
+
+    fn in_conflict(&self) -> u32 {
+        self.index.conflicts()
     }
 }

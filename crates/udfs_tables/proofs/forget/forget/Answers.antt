@@ -1,6 +1,6 @@
 use Rattle.std.proofs.Common.{inl, inr, refl}
 use Rattle.udfs_common.proofs.PutsLemmas.{wider}
-use Rattle.udfs_tables.proofs.NamingLemmas.{err_is}
+use Rattle.udfs_common.proofs.NamingLemmas.{err_is}
 use Rattle.udfs_tables.proofs.ForgettingLemmas.{unforgotten_early}
 use Rattle.udfs_tables.proofs.OutlookLemmas.{out_early}
 use Rattle.udfs_tables.proofs.forget.forget.Goals as goal

@@ -1,5 +1,5 @@
 use Rattle.std.proofs.Common.{inl, inr, refl}
-use Rattle.udfs_tables.proofs.NamingLemmas.{err_is}
+use Rattle.udfs_common.proofs.NamingLemmas.{err_is}
 use Rattle.udfs_tables.proofs.OutlookLemmas.{out_early}
 use Rattle.udfs_tables.proofs.merge.merge.Goals as goal
 

@@ -1,8 +1,8 @@
 use Rattle.std.proofs.Common.{◌∙◌, ap, inl, inr, refl}
 use Rattle.udfs_common.specs.Spelling.{table_file}
 use Rattle.udfs_common.proofs.PutsLemmas.{wider}
-use Rattle.udfs_tables.proofs.NamingLemmas.{err_is, unput_names_none}
-use Rattle.udfs_tables.proofs.StoredLemmas.{of_held}
+use Rattle.udfs_common.proofs.NamingLemmas.{err_is, unput_names_none}
+use Rattle.udfs_common.proofs.StoredLemmas.{of_held}
 use Rattle.udfs_tables.proofs.merge.merge_held.Goals as goal
 
 pub returns-in-Ok-put_file-clause-puts : goal.returns-in-Ok-put_file-clause-puts

@@ -1,6 +1,6 @@
 use Rattle.std.proofs.Common.{inl, refl}
-use Rattle.udfs_tables.proofs.NamingLemmas.{err_is, shut_early, shut_names_none}
-use Rattle.udfs_tables.proofs.StoredLemmas.{of_shut}
+use Rattle.udfs_common.proofs.NamingLemmas.{err_is, shut_early, shut_names_none}
+use Rattle.udfs_common.proofs.StoredLemmas.{of_shut}
 use Rattle.udfs_tables.proofs.merge.merge_inputs.Goals as goal
 
 pub merge_stored-requires-clause-opened : goal.merge_stored-requires-clause-opened

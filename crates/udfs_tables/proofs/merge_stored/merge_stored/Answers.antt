@@ -3,8 +3,8 @@ use Rattle.udfs_lattice.specs.Records.{join_all}
 use Rattle.udfs_common.specs.Spelling.{table_file}
 use Rattle.udfs_pairs.specs.AnyStored.{stored_in}
 use Rattle.udfs_tables.proofs.MergingLemmas.{job_broken, job_put, job_unput, merged}
-use Rattle.udfs_tables.proofs.NamingLemmas.{err_is, reread_early, reread_names_none, unput_names_none}
-use Rattle.udfs_tables.proofs.StoredLemmas.{any_told, any_told_or_silent, of_other, of_stored, of_unread, reasons_for_any, sources_for_any, taken_by}
+use Rattle.udfs_common.proofs.NamingLemmas.{err_is, reread_early, reread_names_none, unput_names_none}
+use Rattle.udfs_common.proofs.StoredLemmas.{any_told, any_told_or_silent, of_other, of_stored, of_unread, reasons_for_any, sources_for_any, taken_by}
 use Rattle.udfs_tables.proofs.merge_stored.merge_stored.Goals as goal
 
 pub returns-in-Ok-Ok-clause-puts : goal.returns-in-Ok-Ok-clause-puts
