@@ -30,6 +30,7 @@ mod sparing;
 mod stored;
 mod stored_images;
 mod summing;
+mod summing_json;
 mod times;
 mod unnamed;
 mod versions;
