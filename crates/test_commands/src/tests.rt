@@ -31,6 +31,7 @@ mod stored;
 mod stored_images;
 mod stored_rereads;
 mod summing;
+mod summing_json;
 mod times;
 mod unnamed;
 mod versions;

@@ -6,7 +6,6 @@
 --     MayFail            what may be where a file has changed and the request was refused
 use Rattle.std.specs.Prelude.{◌≡◌, ⊤, Bool, true, MatchOption, Result, Ok, Err}
 use Rattle.udfs_reading.specs.Device.{Stream}
-use Rattle.udfs_overview.specs.Summaries.{summary_text}
 use Rattle.udfs_overview.specs.declared.node_list.ListForm.{ListForm}
 use Rattle.udfs_words.specs.declared.request.ListRequest.{ListRequest}
 use Rattle.udfs_words.specs.declared.request.Request.{Request}
@@ -22,6 +21,7 @@ use Rattle.udfs_reports.specs.Giving.{given_by}
 use Rattle.udfs_reports.specs.LostListing.{PrintsList}
 use Rattle.udfs_reports.specs.Paging.{IsPage, IsPageFree}
 use Rattle.udfs_reports.specs.Reporting.{form_text}
+use Rattle.udfs_reports.specs.Summarizing.{summary_of}
 use Rattle.udfs_reports.specs.Rereading.{IsMap, IsMapFree, IsSomeMap, PrintsNumbers}
 use Rattle.udfs_reports.specs.Telling.{PrintsText}
 use Rattle.udfs_extraction.specs.ByRequest.{IsExtracted}
@@ -46,7 +46,7 @@ module _ {F I M S W : Type 0} (reach : Reach F I M S W) (old : F) where
   Does stream (request.Reread r) new before after whole = MatchOption r.mapfile (PrintsNumbers reach old r (stream before) (stream after) whole)
       (λ path. IsPut reach (IsMap reach old r (stream before) (stream after) whole) path.now old new × IsMapFree reach old r path.now)
   Does stream (request.List r) new before after whole = PrintsList reach old (form_of r) r (stream before) (stream after) whole
-  Does stream (request.Summary r) new before after whole = PrintsText reach old (summary_text (given_by r.volume r.size)) r.volume (stream before) (stream after) whole
+  Does stream (request.Summary r) new before after whole = PrintsText reach old (summary_of r.form (given_by r.volume r.size)) r.volume (stream before) (stream after) whole
   Does stream (request.Page r) new before after whole = IsPut reach (IsPage reach old r whole) r.out.now old new × IsPageFree reach old r
   Does stream (request.Extract r) new before after whole = IsExtracted reach stream r old new before after whole
 

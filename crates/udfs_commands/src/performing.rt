@@ -78,6 +78,7 @@ pub fn perform<F: Files, O: Sink>(
         Request::Summary(summary) => {
             let telling = Summary {
                 given: given_by(&summary.volume, summary.size),
+                form: summary.form,
             };
             tell(alloc, &summary.volume, &telling, files, out)
         }

@@ -22,3 +22,5 @@ mod Streaming
 mod TornOrder
 mod TornSorted
 mod UnreadNodes
+mod SummaryObjects
+mod Wider

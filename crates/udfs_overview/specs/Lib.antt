@@ -23,4 +23,7 @@ pub mod Disagreements
 pub mod Repeating
 pub mod NextCommands
 pub mod Widenings
+pub mod NodeWidenings
 pub mod Summaries
+pub mod SummaryJson
+pub mod SummaryPieces

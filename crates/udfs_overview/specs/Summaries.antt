@@ -17,6 +17,7 @@ use Rattle.udfs_overview.specs.LeftOut.{left_out_line, left_out_types}
 use Rattle.udfs_overview.specs.MovedTags.{moved_count, moved_line}
 use Rattle.udfs_overview.specs.Narrow.{narrow}
 use Rattle.udfs_overview.specs.NextCommands.{extract_command, needed_steps, summary_command}
+use Rattle.udfs_overview.specs.NodeWidenings.{wider_count, wider_line}
 use Rattle.udfs_overview.specs.Repeating.{GivenWords, pass_number}
 use Rattle.udfs_overview.specs.Sentences.{counted, part, sentence}
 use Rattle.udfs_overview.specs.Spares.{spares_disagree, spares_line}
@@ -126,6 +127,6 @@ next_lines g rules table last r = next_by g rules table last r r.reread
 -- all lines of a report by the rules of a profile, of a disc that is read with these arguments
 unfoldable pub summary_text : GivenWords → Profile → Table → ℕ → Report → List ℕ
 summary_text g rules table last r =
-    volume_line r.volume last ++ apart_lines rules (state_of table) last ++ found_lines table r.volume r ++ disc_line (disc_of table last r.reread) ++ unread_text (unread_paths r.nodes)
+    volume_line r.volume last ++ apart_lines rules (state_of table) last ++ found_lines table r.volume r ++ wider_line (wider_count rules (state_of table) last r.nodes) ++ disc_line (disc_of table last r.reread) ++ unread_text (unread_paths r.nodes)
     ++ torn_text (torn_rows (state_of table) r.nodes)
     ++ next_lines g rules table last r

@@ -16,12 +16,15 @@ mod next_commands;
 mod node_columns;
 mod node_list;
 mod node_objects;
+mod node_widenings;
 mod repeating;
 mod safe_names;
 mod sentences;
 mod spares;
 mod streams;
 mod summary;
+mod summary_figures;
+mod summary_json;
 mod summary_lines;
 mod tallies;
 mod torn_lines;
@@ -44,6 +47,7 @@ pub use next_commands::{
 };
 pub use node_columns::lost_of;
 pub use node_list::{ListForm, write_list, write_list_by, write_listing_by};
+pub use node_widenings::{count_wider, push_wider};
 pub use repeating::{
     Given, pass_number, push_disc_words, push_inputs, push_shell_path, push_shell_word,
 };
@@ -52,6 +56,7 @@ pub use sentences::push_sentence;
 pub use spares::{push_spares, spares_disagree, spares_disagree_in};
 pub use streams::{count_streams, push_streams};
 pub use summary::{first_torn_folder, is_all_whole, write_summary};
+pub use summary_json::write_summary_json;
 pub use summary_lines::{push_disc, push_files, push_others, push_unnamed};
 pub use tallies::{Tally, count_nodes};
 pub use torn_rows::{TornFiles, TornRow, push_shown_path, torn_files, torn_files_are_by_loss};

@@ -13,6 +13,7 @@ ghost use Rattle.udfs_overview.specs.Summaries.{again_lines, counts_lines, extra
 ghost use Rattle.udfs_overview.specs.LeftOut.{left_out_line};
 ghost use Rattle.udfs_overview.specs.Spares.{spares_disagree, spares_line};
 ghost use Rattle.udfs_overview.specs.MovedTags.{moved_count, moved_line};
+ghost use Rattle.udfs_overview.specs.NodeWidenings.{wider_count, wider_line};
 ghost use Rattle.udfs_overview.specs.Streams.{stream_count, streams_line};
 ghost use Rattle.udfs_overview.specs.SummaryTexts.{files_line, others_line, unnamed_line};
 ghost use Rattle.udfs_overview.specs.UnreadLists.{unread_paths, unread_text};
@@ -23,6 +24,7 @@ use crate::disc_tallies::{DiscTally, UnnamedTally, count_disc, count_unnamed};
 use crate::left_out::{left_out_types, push_left_out};
 use crate::moved_tags::{count_moved, push_moved};
 use crate::next_commands::{Margins, Pass, push_extract, push_needed_steps, push_summary_by};
+use crate::node_widenings::{count_wider, push_wider};
 use crate::repeating::{Given, pass_number};
 use crate::sentences::{push_counted, push_part, push_sentence};
 use crate::spares::{push_spares, spares_disagree};
@@ -228,6 +230,19 @@ fn push_found_if_open(
     }
 }
 
+/// The line of the nodes with a fault that the wide rules read.
+fn push_wider_nodes(
+    alloc: Global,
+    text: &mut String,
+    survey: &Survey<'_>,
+) -> Result<(), OutOfMemory>
+    ensures { OnOk result (string_bytes text.new ≡ string_bytes text.old
+        ++ wider_line (wider_count survey.now.profile (state_of survey.now.table.now) survey.now.last (survey_now survey.now).nodes)) }
+{
+    let count = count_wider(alloc, survey)?;
+    push_wider(text, count)
+}
+
 /// The lines of the entries that were not read.
 fn push_all_unread(alloc: Global, text: &mut String, survey: &Survey<'_>) -> Result<(), OutOfMemory>
     ensures { OnOk result (string_bytes text.new ≡ string_bytes text.old ++ unread_text (unread_paths (survey_now survey.now).nodes)) }
@@ -386,6 +401,7 @@ fn push_summary(
     push_volume(text, &survey.volume, survey.last)?;
     push_apart(alloc, text, survey)?;
     push_found_if_open(alloc, text, survey)?;
+    push_wider_nodes(alloc, text, survey)?;
     let disc = count_disc(survey);
     push_disc(text, &disc)?;
     push_all_unread(alloc, text, survey)?;

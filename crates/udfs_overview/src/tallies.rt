@@ -63,7 +63,7 @@ fn is_loop(standing: &Standing) -> bool
 }
 
 /// Whether a node has a fault.
-fn is_faulty(standing: &Standing) -> bool
+pub(crate) fn is_faulty(standing: &Standing) -> bool
     ensures { result ≡ is_faulty standing.now }
 {
     match standing {

@@ -13,6 +13,7 @@ use Rattle.udfs_overview.specs.DiscTallies.{disc_of, unnamed_of}
 use Rattle.udfs_overview.specs.Figures.{grouped}
 use Rattle.udfs_overview.specs.LeftOut.{left_out_line, left_out_types}
 use Rattle.udfs_overview.specs.MovedTags.{moved_count, moved_line}
+use Rattle.udfs_overview.specs.NodeWidenings.{wider_count, wider_line}
 use Rattle.udfs_overview.specs.Sentences.{sentence}
 use Rattle.udfs_overview.specs.Summaries.{torn_folder}
 use Rattle.udfs_overview.specs.SummaryTexts.{disc_line, files_line, others_line, unnamed_line}
@@ -84,4 +85,4 @@ volume_html blocks (faulty f) last r = html_lines (volume_line (faulty f) last)
 -- all lines
 unfoldable pub overview_html : Profile → Table → ℕ → Report → List ℕ
 overview_html rules table last r =
-    markup (codes "<div class=s>\n<div>") ++ volume_html (state_of table) r.volume last r ++ html_lines (apart_lines rules (state_of table) last) ++ html_lines (moved_line (moved_count (state_of table) r)) ++ html_lines (disc_line (disc_of table last r.reread)) ++ markup (codes "</div>\n</div>\n")
+    markup (codes "<div class=s>\n<div>") ++ volume_html (state_of table) r.volume last r ++ html_lines (apart_lines rules (state_of table) last) ++ html_lines (moved_line (moved_count (state_of table) r) ++ wider_line (wider_count rules (state_of table) last r.nodes)) ++ html_lines (disc_line (disc_of table last r.reread)) ++ markup (codes "</div>\n</div>\n")

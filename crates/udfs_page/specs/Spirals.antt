@@ -63,17 +63,24 @@ curve_text r h = curve_from (r - bow r h) h (2 * bow r h)
 abbrev pub placed_text : ℕ → ℕ → List ℕ
 placed_text count r = curve_text (r / 100) (half_length count) ++ markup (codes " transform='rotate(") ++ hundredths (degrees r) ++ markup (codes ")'>")
 
--- the first and the last block of an arc, for who points at it
-abbrev pub title_text : ℕ → ℕ → List ℕ
-title_text first last = markup (codes "<title>blocks ") ++ figure first ++ markup (codes " to ") ++ figure last ++ markup (codes "</title></path>\n")
+-- what a mark means, and the end of the title that says so
+abbrev pub title_end : Mark → List ℕ
+title_end Known = codes ": known</title></path>\n"
+title_end NotKnown = codes ": not known, and not needed</title></path>\n"
+title_end Needed = codes ": needed</title></path>\n"
+title_end InConflict = codes ": in conflict</title></path>\n"
 
--- the blocks of an arc
-abbrev pub blocks_text : ℕ → ℕ → ℕ → List ℕ
-blocks_text count blocks i = title_text (first_block count blocks i) (first_block count blocks (i + 1) - 1)
+-- the first and the last block of an arc, and what its mark means, for who points at it
+abbrev pub title_text : Mark → ℕ → ℕ → List ℕ
+title_text mark first last = markup (codes "<title>blocks ") ++ figure first ++ markup (codes " to ") ++ figure last ++ markup (title_end mark)
+
+-- the blocks of an arc with this mark
+abbrev pub blocks_text : ℕ → ℕ → ℕ → Mark → List ℕ
+blocks_text count blocks i mark = title_text mark (first_block count blocks i) (first_block count blocks (i + 1) - 1)
 
 -- the picture of arc i
 unfoldable pub arc_text : ℕ → ℕ → ℕ → Mark → List ℕ
-arc_text count blocks i mark = markup (codes "<path class=") ++ markup (mark_class mark) ++ placed_text count (radius count i) ++ blocks_text count blocks i
+arc_text count blocks i mark = markup (codes "<path class=") ++ markup (mark_class mark) ++ placed_text count (radius count i) ++ blocks_text count blocks i mark
 
 -- the picture of all arcs of a disc with `blocks` blocks
 abbrev pub spiral_text : List Mark → ℕ → List ℕ

@@ -10,6 +10,7 @@ ghost use Rattle.udfs_overview.specs.Disagreements.{apart_lines};
 ghost use Rattle.udfs_overview.specs.DiscTallies.{disc_of};
 ghost use Rattle.udfs_overview.specs.LeftOut.{left_out_line};
 ghost use Rattle.udfs_overview.specs.MovedTags.{moved_count, moved_line};
+ghost use Rattle.udfs_overview.specs.NodeWidenings.{wider_count, wider_line};
 ghost use Rattle.udfs_overview.specs.Sentences.{sentence};
 ghost use Rattle.udfs_overview.specs.SummaryTexts.{disc_line, files_line, others_line, unnamed_line};
 ghost use Rattle.udfs_overview.specs.Tallies.{tally_of};
@@ -24,10 +25,10 @@ use crate::markups::{push_markup, push_shown};
 use std::alloc::Global;
 use udfs_osta::{Label, OutOfMemory};
 use udfs_overview::{
-    Tally, UnnamedTally, count_disc, count_moved, count_nodes, count_unnamed, first_torn_folder,
-    left_out_types, push_apart, push_disc, push_disc_size, push_files, push_grouped, push_label,
-    push_left_out, push_moved, push_others, push_revision, push_sentence, push_shown_path,
-    push_unnamed, push_volume,
+    Tally, UnnamedTally, count_disc, count_moved, count_nodes, count_unnamed, count_wider,
+    first_torn_folder, left_out_types, push_apart, push_disc, push_disc_size, push_files,
+    push_grouped, push_label, push_left_out, push_moved, push_others, push_revision, push_sentence,
+    push_shown_path, push_unnamed, push_volume, push_wider,
 };
 use udfs_salvage::{OpenVolume, Survey, Volume};
 use udfs_walk::Path;
@@ -249,16 +250,18 @@ fn push_apart_lines(
     push_lines(text, &lines)
 }
 
-/// The line of the folders with tags of another place.
+/// The line of the folders with tags of another place, and that of what has a fault and is read by the wide rules.
 fn push_moved_lines(
     alloc: Global,
     text: &mut String,
     survey: &Survey<'_>,
 ) -> Result<(), OutOfMemory>
-    ensures { OnOk result (string_bytes text.new ≡ string_bytes text.old ++ html_lines (moved_line (moved_count (state_of survey.now.table.now) (survey_now survey.now)))) }
+    ensures { OnOk result (string_bytes text.new ≡ string_bytes text.old ++ html_lines (moved_line (moved_count (state_of survey.now.table.now) (survey_now survey.now))
+        ++ wider_line (wider_count survey.now.profile (state_of survey.now.table.now) survey.now.last (survey_now survey.now).nodes))) }
 {
     let mut lines = String::new(alloc);
     push_moved(&mut lines, count_moved(alloc, survey)?)?;
+    push_wider(&mut lines, count_wider(alloc, survey)?)?;
     push_lines(text, &lines)
 }
 

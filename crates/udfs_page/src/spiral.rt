@@ -5,7 +5,7 @@ ghost use Rattle.std.specs.List.{range_with_len};
 ghost use Rattle.std.specs.String.{string_bytes};
 ghost use Rattle.udfs_page.specs.Arcs.{first_block};
 ghost use Rattle.udfs_page.specs.Markups.{figure, markup};
-ghost use Rattle.udfs_page.specs.Spirals.{IsInArc, IsRoot, arc_text, blocks_text, bow, curve_from, curve_text, degrees, half_length, hundredths, inner_square, mark_class, placed_text, radius, root, spiral_text, title_text};
+ghost use Rattle.udfs_page.specs.Spirals.{IsInArc, IsRoot, arc_text, blocks_text, bow, curve_from, curve_text, degrees, half_length, hundredths, inner_square, mark_class, placed_text, radius, root, spiral_text, title_end, title_text};
 
 use crate::disc_arcs::{Mark, first_block};
 use crate::markups::{push_figure, push_markup};
@@ -92,33 +92,46 @@ fn push_placed(text: &mut String, count: u64, radius: u64) -> Result<(), OutOfMe
     push_markup(text, ")'>")
 }
 
-/// The first and the last block of an arc.
-fn push_title(text: &mut String, first: u64, last: u64) -> Result<(), OutOfMemory>
-    ensures { OnOk result (string_bytes text.new ≡ string_bytes text.old ++ title_text first last) }
+/// What a mark means, and the end of the title that says so.
+fn push_title_end(text: &mut String, mark: Mark) -> Result<(), OutOfMemory>
+    ensures { OnOk result (string_bytes text.new ≡ string_bytes text.old ++ markup (title_end mark)) }
+{
+    match mark {
+        Mark::Known => push_markup(text, ": known</title></path>\n"),
+        Mark::NotKnown => push_markup(text, ": not known, and not needed</title></path>\n"),
+        Mark::Needed => push_markup(text, ": needed</title></path>\n"),
+        Mark::InConflict => push_markup(text, ": in conflict</title></path>\n"),
+    }
+}
+
+/// The first and the last block of an arc, and what its mark means.
+fn push_title(text: &mut String, mark: Mark, first: u64, last: u64) -> Result<(), OutOfMemory>
+    ensures { OnOk result (string_bytes text.new ≡ string_bytes text.old ++ title_text mark first last) }
 {
     push_markup(text, "<title>blocks ")?;
     push_figure(text, first as u128)?;
     push_markup(text, " to ")?;
     push_figure(text, last as u128)?;
-    push_markup(text, "</title></path>\n")
+    push_title_end(text, mark)
 }
 
-/// The blocks of an arc.
+/// The blocks of an arc with this mark.
 fn push_blocks(
     text: &mut String,
     count: usize,
     blocks: u64,
     index: usize,
+    mark: Mark,
 ) -> Result<(), OutOfMemory>
     requires some { 0 < count }
     requires few { count ≤ 2000 }
     requires index { index < count }
     requires blocks { blocks ≤ 2 ^ 32 }
-    ensures { OnOk result (string_bytes text.new ≡ string_bytes text.old ++ blocks_text count blocks index) }
+    ensures { OnOk result (string_bytes text.new ≡ string_bytes text.old ++ blocks_text count blocks index mark) }
 {
     let first = first_block(count, blocks, index);
     let next = first_block(count, blocks, index + 1);
-    push_title(text, first, next.saturating_sub(1))
+    push_title(text, mark, first, next.saturating_sub(1))
 }
 
 /// The class of a mark.
@@ -161,7 +174,7 @@ fn push_arc(
     push_markup(text, "<path class=")?;
     push_class(text, mark)?;
     push_turned(text, count as u64, index as u64)?;
-    push_blocks(text, count, blocks, index)
+    push_blocks(text, count, blocks, index, mark)
 }
 
 /// The picture of all arcs of a disc with `blocks` blocks.

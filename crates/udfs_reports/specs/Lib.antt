@@ -7,3 +7,4 @@ pub mod Listing
 pub mod Reporting
 pub mod Paging
 pub mod LostListing
+pub mod Summarizing

@@ -121,9 +121,9 @@ null_rule = letter_rule (codes "null") 48
 abbrev pub list_app : Given → App
 list_app given = with_inputs (with_rule (with_rule (with_rule (with_rule (with_rule (with_rule (with_rule (with_rule (with_profile (codes "list") given.needs_last) (flag_rule (codes "torn"))) null_rule) (flag_rule (codes "paths"))) (flag_rule (codes "header"))) (flag_rule (codes "json"))) (flag_rule (codes "lost"))) (flag_rule (codes "deleted"))) (flag_rule (codes "force"))) given.pairs
 
--- `summary (--last N | --size BYTES | --size-of MAPFILE) [--profile PROFILE] [--force] IN...`
+-- `summary (--last N | --size BYTES | --size-of MAPFILE) [--profile PROFILE] [--json] [--force] IN...`
 abbrev pub summary_app : Given → App
-summary_app given = with_inputs (with_rule (with_profile (codes "summary") given.needs_last) (flag_rule (codes "force"))) given.pairs
+summary_app given = with_inputs (with_rule (with_rule (with_profile (codes "summary") given.needs_last) (flag_rule (codes "json"))) (flag_rule (codes "force"))) given.pairs
 
 -- `image --out IMAGE --mapfile MAPFILE [--force] (--last N | --size BYTES | --size-of MAPFILE) IN...`
 abbrev pub image_app : Given → App

@@ -87,13 +87,13 @@ abbrev pub IsSomeList : Request → Type 0
 IsSomeList (request.List r) = Reads r.volume (codes "/dev/stdin") (Block 1000) Strict × (r.torn ≡ true) × (r.null ≡ true) × (r.paths ≡ true) × (r.header ≡ true) × (r.json ≡ false)
 IsSomeList _ = ⊥
 
--- `udfsalvage summary --last 1000 --profile wide all.tab`
+-- `udfsalvage summary --last 1000 --profile wide --json all.tab`
 abbrev pub summary_line : List Text
-summary_line = codes "udfsalvage" ∷ codes "summary" ∷ codes "--last" ∷ codes "1000" ∷ codes "--profile" ∷ codes "wide" ∷ codes "all.tab" ∷ []
+summary_line = codes "udfsalvage" ∷ codes "summary" ∷ codes "--last" ∷ codes "1000" ∷ codes "--profile" ∷ codes "wide" ∷ codes "--json" ∷ codes "all.tab" ∷ []
 
--- by the wide rules
+-- by the wide rules, as JSON
 abbrev pub IsSomeSummary : Request → Type 0
-IsSomeSummary (request.Summary r) = Reads r.volume (codes "all.tab") (Block 1000) Wide
+IsSomeSummary (request.Summary r) = Reads r.volume (codes "all.tab") (Block 1000) Wide × (r.form ≡ Json)
 IsSomeSummary _ = ⊥
 
 -- `udfsalvage page --last 1000 --out - --title Box all.tab`

@@ -136,6 +136,7 @@ pub record IsList (words : Found) (request : ListRequest) : Type 0 where
 pub record IsSummary (words : Found) (request : SummaryRequest) : Type 0 where
   pub volume : IsVolumeSource (streamed_texts words) words request.volume
   pub size : option_map (λ text. text.now) request.size ≡ optional_text words (codes "size")
+  pub form : IsPicked words (codes "json") Json Text request.form
 
 -- the arguments of `page`
 pub record IsPage (words : Found) (request : PageRequest) : Type 0 where

@@ -296,6 +296,7 @@ fn read_summary<'a>(alloc: Global, words: &ArgMatches<'a>) -> Result<Request<'a>
     Ok(Request::Summary(SummaryRequest {
         volume,
         size: read_optional(words, SIZE),
+        form: asked_form(words),
     }))
 }
 

@@ -128,6 +128,8 @@ pub struct SummaryRequest<'a> {
     pub volume: VolumeSource<'a>,
     /// The size of the disc as it was given, if it was.
     pub size: Option<&'a str>,
+    /// As lines for a person, or as JSON.
+    pub form: Form,
 }
 
 /// The page of a volume is to be written.

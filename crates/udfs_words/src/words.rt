@@ -385,7 +385,7 @@ fn with_inputs<'a>(
         .arg(inputs(alloc, pairs))
 }
 
-/// `summary (--last N | --size BYTES | --size-of MAPFILE) [--profile PROFILE] [--force] IN...`
+/// `summary (--last N | --size BYTES | --size-of MAPFILE) [--profile PROFILE] [--json] [--force] IN...`
 fn summary<'a>(alloc: Global, given: Given) -> Result<Command<'a>, AllocError>
     ensures { IfOk result (λ command. app_of command ≡ summary_app given) }
 {
@@ -395,6 +395,7 @@ fn summary<'a>(alloc: Global, given: Given) -> Result<Command<'a>, AllocError>
         .override_usage("udfsalvage summary [OPTIONS] [--last <N> | --size <BYTES>] <IN>...");
     let command = with_end(alloc, command, given.needs_last)?
         .arg(profile(alloc))?
+        .arg(flag(alloc, JSON, "Print the figures as one JSON object"))?
         .arg(joining(alloc))?;
     with_inputs(alloc, command, given.pairs)
 }

@@ -16,7 +16,8 @@ then file-has p.html <title>TEST</title>
 then file-has p.html <div><bdi>TEST</bdi>   UDF 1.50, type 1   601 blocks, 1.2 MB</div>\n
 then file-has p.html <div>1 file is complete, 1 damaged;</div>\n<div>1 block is worth reading again</div>\n<div>Files      1 whole (2 B)</div>\n<div>           1 torn (2.0 kB of 5.0 kB lost)</div>\n
 then file-has p.html <div>Disc       600 known   1 not known   0 in conflict</div>\n<div>           1 of these is needed, in 1 place</div>\n
-then file-has p.html <title>blocks 278 to 278</title></path>\n
+then file-has p.html <title>blocks 278 to 278: needed</title></path>
+then file-has p.html <title>blocks 277 to 277: known</title></path>\n
 then file-has p.html --mapfile want.map disc.tab\nddrescue -d -r3 -b2048 -m want.map /dev/sr0 p600.img p600.map\nudfsalvage merge --out disc.tab disc.tab --ddrescue p600.img p600.map\n</pre>\n
 then file-has p.html <tr><td><bdi>/A</bdi><td>41.0 %<td>2.0 kB<td>5.0 kB\n
 then file-has p.html <details open class=w><summary><bdi>/</bdi><small>folder</small></summary>\n<div class=t><bdi>A</bdi><small>5.0 kB, torn: 2.0 kB lost, bytes 2048&ndash;4095</small></div>\n

@@ -21,11 +21,11 @@ unfolding clap_on_literals
 named = refl
 
 -- all that is read of the line
-abbrev read : Text → List Row → Text × Option (List Text) × Option (List Text) × Option Text × Option Text × Option (List Text) × Option Text × Option (List Text) × Option Text × Option (List Text)
-read name rows = (name, all_of (codes "input") rows, all_of (codes "ddrescue") rows, first_of (codes "size") rows, first_of (codes "profile") rows, all_of (codes "blocks") rows, one_of (codes "last") rows, all_of (codes "last") rows, first_of (codes "group") rows, all_of (codes "size-of") rows)
+abbrev read : Text → List Row → Text × Option (List Text) × Option (List Text) × Option Text × Option Text × Option (List Text) × Option Text × Option (List Text) × Option Text × Option (List Text) × Option Text
+read name rows = (name, all_of (codes "input") rows, all_of (codes "ddrescue") rows, first_of (codes "size") rows, first_of (codes "profile") rows, all_of (codes "blocks") rows, one_of (codes "last") rows, all_of (codes "last") rows, first_of (codes "group") rows, all_of (codes "size-of") rows, one_of (codes "json") rows)
 
-abbrev said : Text × Option (List Text) × Option (List Text) × Option Text × Option Text × Option (List Text) × Option Text × Option (List Text) × Option Text × Option (List Text)
-said = (codes "summary", Some (codes "all.tab" ∷ []), None, None, Some (codes "wide"), None, Some (codes "1000"), Some (codes "1000" ∷ []), None, None)
+abbrev said : Text × Option (List Text) × Option (List Text) × Option Text × Option Text × Option (List Text) × Option Text × Option (List Text) × Option Text × Option (List Text) × Option Text
+said = (codes "summary", Some (codes "all.tab" ∷ []), None, None, Some (codes "wide"), None, Some (codes "1000"), Some (codes "1000" ∷ []), None, None, Some (codes "true"))
 
 says : (name : Text) (words : Found) → IsAsked summary_line name words → read name (rows_of words) ≡ said
 unfolding clap_on_literals
@@ -33,9 +33,12 @@ says name words asked = rows_say read summary_line name words said asked refl
 
 by : (name : Text) (words : Found) (r : Request) → read name (rows_of words) ≡ said → IsRequest name words r → IsSomeSummary r
 by name words (request.Summary r) e is = (
-  (is.1.volume.inputs.files ∙ ap (map stream_path) (all_are words (codes "input") _ _ _ (ap (λ t. t.1) e) refl), is.1.volume.inputs.parts ∙ (all_are words (codes "ddrescue") _ _ _ (ap (λ t. t.2) e) refl)),
-  last_is words _ _ 1000 is.1.volume.last (one_is words (codes "last") _ (ap (λ t. t.6) e)) (given_is words (codes "last") _ _ (ap (λ t. t.7) e) refl) thousand.0 thousand.1 (lit< tt),
-  is.1.volume.profile.wide (first_is words (codes "profile") _ (ap (λ t. t.4) e)),
+  (
+    (is.1.volume.inputs.files ∙ ap (map stream_path) (all_are words (codes "input") _ _ _ (ap (λ t. t.1) e) refl), is.1.volume.inputs.parts ∙ (all_are words (codes "ddrescue") _ _ _ (ap (λ t. t.2) e) refl)),
+    last_is words _ _ 1000 is.1.volume.last (one_is words (codes "last") _ (ap (λ t. t.6) e)) (given_is words (codes "last") _ _ (ap (λ t. t.7) e) refl) thousand.0 thousand.1 (lit< tt),
+    is.1.volume.profile.wide (first_is words (codes "profile") _ (ap (λ t. t.4) e)),
+  ),
+  is.1.form.with_flag (one_is words (codes "json") _ (ap (λ t. t.10) e)),
 )
 by name words _ e is = absurd (differ (ap (λ t. t.0) e) is.0 refl refl)
 

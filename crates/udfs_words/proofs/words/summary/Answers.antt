@@ -9,5 +9,6 @@ returns c =
     let start : app_of c.override_usage-command.result ≡ new_app (codes "summary") = search rules in
     let two = c.in_ok-with_end.ensures ∙ ap₂ with_end start refl in
     let three = c.in_ok-arg.ensures.shape c.profile.ensures.1 ∙ ap₂ with_rule two c.profile.ensures.0 in
-    let four = c.in_ok-command.ensures.shape c.joining.ensures.1 ∙ ap₂ with_rule three c.joining.ensures.0 in
-    IfOk-weaker c.with_inputs.result _ _ (λ m h. h ∙ ap₂ with_inputs four refl) c.with_inputs.ensures
+    let four = c.in_ok-arg-2.ensures.shape c.flag.ensures.1 ∙ ap₂ with_rule three c.flag.ensures.0 in
+    let five = c.in_ok-command.ensures.shape c.joining.ensures.1 ∙ ap₂ with_rule four c.joining.ensures.0 in
+    IfOk-weaker c.with_inputs.result _ _ (λ m h. h ∙ ap₂ with_inputs five refl) c.with_inputs.ensures

@@ -8,7 +8,7 @@ returns-clause-refused g c =
     inr (record {
       report = survey_now c.in-Ok.survey;
       is_report = c.in-Ok.ensures.report;
-      error = c.in-Err-write_summary.error;
-      stopped = rw (← c.in-Ok.ensures.rules) (rw (← of.0) (rw (← of.1) c.in-Err-write_summary.ensures));
+      error = c.in-Err-write_as.error;
+      stopped = rw (← c.in-Ok.ensures.rules) (rw (← of.0) (rw (← of.1) c.in-Err-write_as.ensures));
       told = search rules;
     })

@@ -1,0 +1,10 @@
+use Rattle.std.proofs.Common.{◌≡◌, ◌++◌, subst}
+use Rattle.std.specs.Prelude.{OnOk}
+use Rattle.std.specs.String.{string_bytes}
+use Rattle.udfs_overview.proofs.SummaryObjects.{two_behind, unnamed_pieces}
+use Rattle.udfs_overview.proofs.summary_json.push_unnamed.Goals as goal
+
+pub returns : goal.returns
+returns c =
+    subst (λ x. OnOk c.push_last.result (string_bytes c.push_last.new.text ≡ string_bytes c.args.text.now ++ x)) (unnamed_pieces c.args.tally.now)
+    (two_behind c.push_last.result _ _ _ _ _ c.in_ok-push_number.ensures c.push_last.ensures)

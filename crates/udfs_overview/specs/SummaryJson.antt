@@ -1,0 +1,150 @@
+-- The figures of a summary as a JSON object. Keys are in byte order.
+--     figures_of rules table last report      all that a summary counts, by the definitions of its lines
+--     summary_json rules table last report    the object of a report, and a line feed
+use Rattle.std.specs.Prelude.{ℕ, ◌+◌, ◌*◌, ◌==◌, ◌&&◌, Bool, not, List, ◌++◌, codes}
+use Rattle.serde_json.specs.Data.{Data, null, boolean, string, object, Members, member, no_members}
+use Rattle.serde_json.specs.Written.{compact_text}
+use Rattle.udfs_lattice.specs.Tables.{Table, state_of}
+use Rattle.udfs_osta.specs.declared.labels.Label.{Label}
+use Rattle.udfs_osta.specs.declared.labels.Label.TheVariants as label
+use Rattle.udfs_volume.specs.Answers.{Answer, found, holes, faulty}
+use Rattle.udfs_volume.specs.FaultNames.{volume_fault_name}
+use Rattle.udfs_volume.specs.Layout.{Layout}
+use Rattle.udfs_volume.specs.declared.profiles.Profile.{Profile}
+use Rattle.udfs_volume.specs.declared.profiles.Profile.TheVariants.{Strict, Wide}
+use Rattle.udfs_salvage.specs.Found.{Found}
+use Rattle.udfs_salvage.specs.JsonNodes.{count}
+use Rattle.udfs_salvage.specs.Reports.{Report}
+use Rattle.udfs_salvage.specs.Texts.{revision_text}
+use Rattle.udfs_overview.specs.DiscTallies.{disc_of, unnamed_of}
+use Rattle.udfs_overview.specs.MovedTags.{moved_count}
+use Rattle.udfs_overview.specs.SafeNames.{safe_name}
+use Rattle.udfs_overview.specs.Spares.{spares_disagree}
+use Rattle.udfs_overview.specs.Streams.{stream_count}
+use Rattle.udfs_overview.specs.Summaries.{is_all_whole}
+use Rattle.udfs_overview.specs.Tallies.{tally_of}
+use Rattle.udfs_overview.specs.declared.disc_tallies.DiscTally.{DiscTally}
+use Rattle.udfs_overview.specs.declared.disc_tallies.UnnamedTally.{UnnamedTally}
+use Rattle.udfs_overview.specs.declared.summary_figures.Figures.{Figures}
+use Rattle.udfs_overview.specs.declared.tallies.Tally.{Tally}
+
+-- all that a summary counts
+unfoldable pub figures_of : Profile → Table → ℕ → Report → Figures
+figures_of rules table last r = record {
+  profile = rules;
+  last = last;
+  all_whole = is_all_whole r;
+  tally = tally_of (state_of table) r.nodes;
+  disc = disc_of table last r.reread;
+  unnamed = unnamed_of r.unnamed;
+  moved = moved_count (state_of table) r;
+  streams = stream_count (state_of table) r;
+  spares_disagree = spares_disagree (state_of table) r.volume;
+}
+
+-- what is not read may be a whole folder, and a torn folder may lack names: the figures of files and folders are the least that they can be
+abbrev pub is_at_least : Tally → Bool
+is_at_least t = not (t.unread == 0 && t.torn_folders == 0)
+
+-- the blocks of a disc with this last block
+unfoldable pub disc_data : ℕ → DiscTally → Data
+disc_data last t = object (
+    member (codes "blocks") (count (last + 1))
+    (member (codes "conflicts") (count t.conflicts)
+    (member (codes "known") (count t.known)
+    (member (codes "needed") (count t.needed)
+    (member (codes "not_known") (count t.not_known)
+    (member (codes "places") (count t.runs)
+    no_members))))))
+
+-- the files, and their bytes
+unfoldable pub files_data : Tally → Data
+files_data t = object (
+    member (codes "disputed") (count t.disputed)
+    (member (codes "left_out") (count t.left_out)
+    (member (codes "lost_bytes") (count t.lost_bytes)
+    (member (codes "torn") (count t.torn_files)
+    (member (codes "torn_bytes") (count t.torn_bytes)
+    (member (codes "whole") (count t.whole_files)
+    (member (codes "whole_bytes") (count t.whole_bytes)
+    no_members)))))))
+
+-- the folders
+unfoldable pub folders_data : Tally → Data
+folders_data t = object (member (codes "torn") (count t.torn_folders) (member (codes "whole") (count t.whole_folders) no_members))
+
+-- what has a fault, is a link or a device, is a folder inside itself, or was not read
+unfoldable pub others_data : Tally → Data
+others_data t = object (
+    member (codes "faulty") (count t.faulty)
+    (member (codes "links_and_devices") (count t.others)
+    (member (codes "loops") (count t.loops)
+    (member (codes "unread") (count t.unread)
+    no_members))))
+
+-- the whole files that no name leads to
+unfoldable pub unnamed_data : UnnamedTally → Data
+unnamed_data t = object (member (codes "empty") (count t.empty) (member (codes "with_data") (count t.with_data) no_members))
+
+-- folders with tags of another place, whether sparing copies disagree, and files with named streams
+unfoldable pub remarks_data : Figures → Data
+remarks_data f = object (
+    member (codes "moved_folders") (count f.moved)
+    (member (codes "spares_disagree") (boolean f.spares_disagree)
+    (member (codes "with_streams") (count f.streams)
+    no_members)))
+
+-- the label as a person is shown it; null if it is empty or malformed
+abbrev pub label_data : Label → Data
+label_data label.Empty = null
+label_data (label.Name units) = string (safe_name units)
+label_data label.Invalid = null
+
+-- the name of a profile
+abbrev pub profile_name : Profile → List ℕ
+profile_name Strict = codes "strict"
+profile_name Wide = codes "wide"
+
+-- of a volume that opens
+unfoldable pub open_data : Figures → Layout → Data
+open_data f l = object (
+    member (codes "all_whole") (boolean f.all_whole)
+    (member (codes "at_least") (boolean (is_at_least f.tally))
+    (member (codes "disc") (disc_data f.last f.disc)
+    (member (codes "files") (files_data f.tally)
+    (member (codes "folders") (folders_data f.tally)
+    (member (codes "label") (label_data l.label)
+    (member (codes "others") (others_data f.tally)
+    (member (codes "profile") (string (profile_name f.profile))
+    (member (codes "remarks") (remarks_data f)
+    (member (codes "revision") (string (revision_text l.revision))
+    (member (codes "state") (string (codes "ok"))
+    (member (codes "unnamed") (unnamed_data f.unnamed)
+    no_members))))))))))))
+
+-- of a volume that lacks blocks before it opens
+unfoldable pub holes_data : Figures → Data
+holes_data f = object (
+    member (codes "disc") (disc_data f.last f.disc)
+    (member (codes "profile") (string (profile_name f.profile))
+    (member (codes "state") (string (codes "holes"))
+    no_members)))
+
+-- of a volume with this fault
+unfoldable pub fault_data : Figures → List ℕ → Data
+fault_data f name = object (
+    member (codes "disc") (disc_data f.last f.disc)
+    (member (codes "fault") (string name)
+    (member (codes "profile") (string (profile_name f.profile))
+    (member (codes "state") (string (codes "fault"))
+    no_members))))
+
+-- by what the volume is: of one that does not open, its files are not counted
+abbrev pub summary_data : Answer Found → Figures → Data
+summary_data (found o) f = open_data f o.layout
+summary_data (holes blocks) f = holes_data f
+summary_data (faulty fault) f = fault_data f (volume_fault_name fault)
+
+-- the object of a report, and a line feed
+unfoldable pub summary_json : Profile → Table → ℕ → Report → List ℕ
+summary_json rules table last r = compact_text (summary_data r.volume (figures_of rules table last r)) ++ codes "\n"
