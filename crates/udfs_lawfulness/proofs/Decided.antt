@@ -137,8 +137,17 @@ twice_refutes P T N f v nodes at taken opens is are x q = record { reason = why;
       opens = opens;
       nodes = map (full_node v) nodes;
       nodes_are = subst (λ z. AreNodes z f.root (map (full_node v) nodes)) is are;
-      holds = (x.first, at, full_node v x.one, full_node v x.other, x.before, get_map (full_node v) nodes x.first x.one x.one_is, get_map (full_node v) nodes at x.other x.other_is,
-        x.same ∙ ap (λ (z : NodeFields). z.path) (sym same), ap (λ (z : NodeFields). z.path) (sym same));
+      holds = (
+        x.first,
+        at,
+        full_node v x.one,
+        full_node v x.other,
+        x.before,
+        get_map (full_node v) nodes x.first x.one x.one_is,
+        get_map (full_node v) nodes at x.other x.other_is,
+        x.same ∙ ap (λ (z : NodeFields). z.path) (sym same),
+        ap (λ (z : NodeFields). z.path) (sym same),
+      );
     }
 
 pub many_refute : (P : Profile) (T : Blocks) (N : ℕ) (f : Found) → volume_by P T N ≡ found f → HasMoreRoutes (view T f.space) f.root 65536 → IsRefuted P T N TooManyPaths

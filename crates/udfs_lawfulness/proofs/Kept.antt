@@ -163,11 +163,13 @@ from_kept s w size bs bw rest same c (d ∷ xs) cs k e = go (from_kept s w size 
     go ih (inl h) = ([], from-done w size bw c (d ∷ xs ++ rest) h)
     go ih (inr h) = let t : Taken s size bs c d xs cs = taken-inv s size bs c d xs cs h e in
         let q : (whole : List Cell) × (from w size bw (c + covers d) (xs ++ rest) ≡ cells whole) =
-            ih t.then.rest (λ n b. missing_behind (X s) t.then.rest (ap missing_blocks t.then.joins ∙ k n b)) t.then.is in
-        (X w ++ q.0, from-on w size bw c d (xs ++ rest) h
-            ∙ ap (λ x. cond x (body_unless (extent_fault w size (c, d)) (onto (X w) (from w size bw (c + covers d) (xs ++ rest)))) (faulty_body Short)) t.is_long
-            ∙ ap (λ x. body_unless x (onto (X w) (from w size bw (c + covers d) (xs ++ rest)))) (sym (same (c, d)) ∙ t.no_fault)
-            ∙ ap (onto (X w)) q.1)
+        ih t.then.rest (λ n b. missing_behind (X s) t.then.rest (ap missing_blocks t.then.joins ∙ k n b)) t.then.is in (
+          X w ++ q.0,
+          from-on w size bw c d (xs ++ rest) h
+              ∙ ap (λ x. cond x (body_unless (extent_fault w size (c, d)) (onto (X w) (from w size bw (c + covers d) (xs ++ rest)))) (faulty_body Short)) t.is_long
+              ∙ ap (λ x. body_unless x (onto (X w) (from w size bw (c + covers d) (xs ++ rest)))) (sym (same (c, d)) ∙ t.no_fault)
+              ∙ ap (onto (X w)) q.1,
+        )
 
 -- the body of a list that begins another one
 listed_kept : (s w : View) (r b : ℕ) (e : EntryFields) (cs : List Cell) → ((f : ℕ × LongAd) → extent_fault s e.size f ≡ extent_fault w e.size f)
@@ -180,8 +182,8 @@ listed_kept s w r b e cs same rest begins k q = go (nat_eq e.form 3) q
         → (whole : List Cell) × (cond x (embedded_body b e) (extents_body_by w e.form r e.size e.area) ≡ cells whole)
     go true h = (cs, h)
     go false h = let t : (whole : List Cell) × (from w e.size (allocation_descriptors w r e).behind 0 ((allocation_descriptors s r e).all ++ rest) ≡ cells whole) =
-            from_kept s w e.size (allocation_descriptors s r e).behind (allocation_descriptors w r e).behind rest same 0 (allocation_descriptors s r e).all cs k
-            (sym (body-from s e.size (allocation_descriptors s r e)) ∙ counted_body s r e cs h) in
+        from_kept s w e.size (allocation_descriptors s r e).behind (allocation_descriptors w r e).behind rest same 0 (allocation_descriptors s r e).all cs k
+        (sym (body-from s e.size (allocation_descriptors s r e)) ∙ counted_body s r e cs h) in
         (t.0, body_counted w r e t.0 (body-from w e.size (allocation_descriptors w r e) ∙ ap (from w e.size (allocation_descriptors w r e).behind 0) begins ∙ t.1))
 
 -- what has a body with zeros in place of what is not known has one in each complete view

@@ -80,7 +80,6 @@ set_some v a e = go (address_fault v a) (v.place a.reference a.block) e
             valid : (b : Bool) → cond b (found (long_ad_at bytes 400)) (faulty FileSet) ≡ holes [] → ⊥
             valid true z = cc
             valid false z = cc
-
         state Conflict r = cc
 
 -- ---- the layout and the places
@@ -178,7 +177,10 @@ none_to_read P T N sound e V hv a = absurd (by_layout (layout_of_lawful_by P T V
     some_table : (g : List ℕ) → IsSparingGroup l.partitions g → g ≡ [] → ⊥
     some_table g (p, c, t) z = some_copies N 0 p.kind g ((layout_is_bounded_by P C N l h.finds).of_each p c).bounded_map t z
 
-    by_root : (s : Space) → (x : Answer LongAd) → file_set (view T s) l.file_set ≡ x → and_then x (λ root. found (record { layout = l; space = s; root = root })) ≡ holes [] → ⊥
+    rooted_at : Space → LongAd → Answer Found
+    rooted_at s root = found (record { layout = l; space = s; root = root })
+
+    by_root : (s : Space) → (x : Answer LongAd) → file_set (view T s) l.file_set ≡ x → and_then x (rooted_at s) ≡ holes [] → ⊥
     by_root s (found root) q z = cc
     by_root s (holes ns) q z = set_some (view T s) l.file_set (q ∙ ap holes (nothing ns z))
     by_root s (faulty f) q z = cc

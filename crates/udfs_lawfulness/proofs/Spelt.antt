@@ -48,7 +48,7 @@ one_path [] (n ∷ ns) e = absurd (let z : [] ≡ length n ∷ n ++ spelled ns =
 one_path (m ∷ ms) [] e = absurd (let z : [] ≡ length m ∷ m ++ spelled ms = sym e ∙ flat_map-cons spelled_name m ms in let no : ⊥ = cc in no)
 one_path (m ∷ ms) (n ∷ ns) e =
     let heads : (length m ≡ length n) × (m ++ spelled ms ≡ n ++ spelled ns) = cons_front (length m) (length n) (m ++ spelled ms) (n ++ spelled ns)
-        (sym (flat_map-cons spelled_name m ms) ∙ e ∙ flat_map-cons spelled_name n ns) in
+    (sym (flat_map-cons spelled_name m ms) ∙ e ∙ flat_map-cons spelled_name n ns) in
     let r : (m ≡ n) × (spelled ms ≡ spelled ns) = same_front m n (spelled ms) (spelled ns) heads.0 heads.1 in
     (λ i. r.0 i ∷ one_path ms ns r.1 i)
 

@@ -41,14 +41,14 @@ fn by_list(unread: Vec<u32>, more: &[u32]) -> Result<Lawfulness, AllocError>
 /// What is decided by the nodes of a volume.
 fn by_nodes(
     alloc: Global,
-    view: View<'_>,
+    known: View<'_>,
     nodes: Vec<Node>,
     unread: Vec<u32>,
 ) -> Result<Lawfulness, AllocError>
     requires { IsRising unread.items }
-    ensures { (profile : Profile) (last : ℕ) (f : Found) → AreLeft profile (state_of view.entry.table.now) last unread.items → volume_by profile (state_of view.entry.table.now) last ≡ found f
-        → view_now view.entry ≡ view (state_of view.entry.table.now) f.space → AreNodes (view_now view.entry) f.root (map (full_node (view_now view.entry)) nodes.items)
-        → IfOk result (IsDecided profile (state_of view.entry.table.now) last) }
+    ensures { (profile : Profile) (last : ℕ) (f : Found) → AreLeft profile (state_of known.entry.table.now) last unread.items → volume_by profile (state_of known.entry.table.now) last ≡ found f
+        → view_now known.entry ≡ view (state_of known.entry.table.now) f.space → AreNodes (view_now known.entry) f.root (map (full_node (view_now known.entry)) nodes.items)
+        → IfOk result (IsDecided profile (state_of known.entry.table.now) last) }
 {
     let mut nodes = nodes;
     if let Some(at) = first_faulty(&nodes) {
@@ -59,13 +59,12 @@ fn by_nodes(
         let Node { path, .. } = nodes.swap_remove(at);
         return Ok(Lawfulness::Unlawful(Why::SameName(path)));
     }
-    let asking = asking(alloc, view, nodes)?;
-    let more = bare_reread(alloc, view, &asking)?;
+    let asking = asking(alloc, known, nodes)?;
+    let more = bare_reread(alloc, known, &asking)?;
     by_list(unread, &more)
 }
 
 /// What is decided by the tree of a volume that opens.
-#[tactic(auto, using(crate::proofs::Decided::many_refute))]
 fn by_tree(
     alloc: Global,
     table: &BlockTable,

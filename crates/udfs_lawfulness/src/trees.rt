@@ -81,7 +81,11 @@ fn asks(alloc: Global, view: View<'_>, node: &Node) -> Result<bool, AllocError>
 }
 
 /// Those of these nodes.
-pub(crate) fn asking(alloc: Global, view: View<'_>, nodes: Vec<Node>) -> Result<Vec<Node>, AllocError>
+pub(crate) fn asking(
+    alloc: Global,
+    view: View<'_>,
+    nodes: Vec<Node>,
+) -> Result<Vec<Node>, AllocError>
     ensures { IfOk result (λ kept. kept.items ≡ filter (asks (view_now view.entry)) nodes.items) }
 {
     let mut kept = Vec::new(alloc);

@@ -118,7 +118,12 @@ fn lawful_two_maps(rt: HostRuntime) -> Result<(), Fail> {
     let disc = Disc::two_maps(alloc)?;
     let found = lawfulness(alloc, &disc.known_but(alloc, &[])?, LAST, Profile::Strict)?;
     assert_text(&rt, told(alloc, found)?, "lawful");
-    let found = lawfulness(alloc, &disc.known_but(alloc, &[520, 200])?, LAST, Profile::Wide)?;
+    let found = lawfulness(
+        alloc,
+        &disc.known_but(alloc, &[520, 200])?,
+        LAST,
+        Profile::Wide,
+    )?;
     assert_text(&rt, told(alloc, found)?, "open [200, 520]");
     let found = lawfulness(alloc, &disc.known_at(alloc, &[])?, LAST, Profile::Wide)?;
     assert_text(&rt, told(alloc, found)?, "open [256, 344, 600]");

@@ -13,7 +13,7 @@ by_list-requires c = left_rises c.args.profile (state_of c.args.table.now) c.arg
 pub returns-in-Holes : goal.returns-in-Holes
 returns-in-Holes c = over c.by_list.result _ _
     (λ x. holes_decide c.args.profile (state_of c.args.table.now) c.args.last c.deref.result.now c.args.unread.items x c.requires.left
-        ((rw c.in-Holes.is at (c.in-Ok.ensures.value tt)) ∙ ap holes (sym c.deref.ensures.value)))
+    ((rw c.in-Holes.is at (c.in-Ok.ensures.value tt)) ∙ ap holes (sym c.deref.ensures.value)))
     c.by_list.ensures
 
 pub returns-in-Fault : goal.returns-in-Fault

@@ -1,4 +1,6 @@
 use Rattle.std.proofs.Common.{◌≡◌, ◌≤◌, ◌∙◌, sym, ap, subst, arith, cond, false, true, length, take, Some, slice_get}
+use Rattle.std.specs.Cmp.Lexicographic.{slice_cmp}
+use Rattle.std.specs.Ordering.{is_eq, nat_cmp}
 use Rattle.std.specs.Str.{bytes_eq}
 use Rattle.std.proofs.lemmas.Map.Text.{is_eq-slice_cmp}
 use Rattle.udfs_walk.specs.NodeFields.{NodeFields}
@@ -27,8 +29,8 @@ loop-at-preserved c =
     record {
       apart = more_apart nodes at n c.loop-at.invariant.apart is (subst (λ key. is_met (take at nodes) key ≡ false) key_is none);
       has = λ q. c.in_ok-insert.ensures.updates.0 q
-          ∙ ap (λ b. cond b true _) (is_eq-slice_cmp c.in_ok-key.key.items q.items ∙ ap (λ k. bytes_eq k q.items) key_is)
-          ∙ ap (cond (bytes_eq (spelled n.path) q.items) true) (c.loop-at.invariant.has q)
+          ∙ ap (cond (is_eq (slice_cmp nat_cmp c.in_ok-key.key.items q.items)) true) (c.loop-at.invariant.has q)
+          ∙ ap (λ b. cond b true (is_met (take at nodes) q.items)) (is_eq-slice_cmp c.in_ok-key.key.items q.items ∙ ap (λ k. bytes_eq k q.items) key_is)
           ∙ sym (met_more nodes at n q.items is);
     }
 
