@@ -1,5 +1,5 @@
 -- What is decided of a volume.
-use Rattle.std.proofs.Common.{◌≡◌, ◌≢◌, refl, sym, ◌∙◌, ap, subst, ℕ, ◌<◌, ◌≤◌, Bool, true, false, List, [], ◌∷◌, ◌++◌, cond, ◌&&◌, arith, length, map, Some, slice_get}
+use Rattle.std.proofs.Common.{◌≡◌, ◌≢◌, refl, sym, ◌∙◌, ap, subst, ℕ, ◌<◌, Bool, true, false, List, [], ◌∷◌, ◌++◌, cond, ◌&&◌, arith, map, Some, slice_get}
 use Rattle.std.specs.Prelude.{filter, not, slice_index_or, suc, zero, IfOk, Result, Ok, Err}
 use Rattle.udfs_lattice.specs.Volumes.{Blocks, ascending, not_known}
 use Rattle.udfs_tag.specs.declared.layouts.LongAd.{LongAd}
@@ -23,11 +23,10 @@ use Rattle.udfs_walk.proofs.PublicLaws.{no_more_routes, only_walk}
 use Rattle.udfs_tree.specs.Cells.{HasNoFault}
 use Rattle.udfs_tree.proofs.Listed.{get_map, map_get}
 use Rattle.udfs_salvage.specs.Found.{Found, volume_by}
-use Rattle.udfs_salvage.specs.Reports.{HasTooManyPathsBy}
 use Rattle.udfs_salvage.proofs.Founds.{found_same}
 use Rattle.udfs_lawfulness.specs.Asking.{asks, is_data, is_torn, tree_asked}
 use Rattle.udfs_lawfulness.specs.Filled.{is_mapped}
-use Rattle.udfs_lawfulness.specs.Lawfulness.{AreTwoAt, AskedBelow, HasNodes, HasStanding, IsDecided, IsLeftOpen, IsRefuted, IsWhy, of_tree, to_open}
+use Rattle.udfs_lawfulness.specs.Lawfulness.{HasNodes, HasStanding, IsDecided, IsRefuted, IsWhy, of_tree, to_open}
 use Rattle.udfs_lawfulness.specs.Left.{AreLeft, GivesListed}
 use Rattle.udfs_lawfulness.specs.Spelling.{AreFaultless, ArePathsApart, IsFaultyAt, IsFaultyFor, IsTwice, is_faulty}
 use Rattle.udfs_lawfulness.specs.Structures.{IsContradicted, asked}

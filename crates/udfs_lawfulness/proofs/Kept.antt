@@ -1,5 +1,5 @@
 -- A body without a fault has none in any complete view, where no block that is not known holds a part of its list of allocation descriptors.
-use Rattle.std.proofs.Common.{◌≡◌, refl, sym, ◌∙◌, ap, subst, inl, inr, ◌⊎◌, ℕ, ◌+◌, ◌-◌, ◌%◌, ◌<◌, ◌≤◌, ◌==◌, Bool, true, false, List, [], ◌∷◌, ◌++◌, cond, ◌&&◌, arith, Option, Some, None, nat_eq, nat_le, nat_lt, replicate}
+use Rattle.std.proofs.Common.{◌≡◌, refl, sym, ◌∙◌, ap, subst, inl, inr, ◌⊎◌, ℕ, ◌+◌, ◌-◌, ◌%◌, ◌<◌, ◌≤◌, ◌==◌, Bool, true, false, List, [], ◌∷◌, ◌++◌, cond, ◌&&◌, arith, Option, Some, None, nat_eq, nat_le, replicate}
 use Rattle.std.specs.Prelude.{zero, suc, option_map}
 use Rattle.std.specs.List.{AllZip}
 use Rattle.std.proofs.lemmas.List.{append_assoc, append-nil}
@@ -12,7 +12,7 @@ use Rattle.udfs_volume.specs.Sequence.{Bytes}
 use Rattle.udfs_volume.specs.Profiles.{takes_tail}
 use Rattle.udfs_space.specs.Places.{View, IsPartOf}
 use Rattle.udfs_file.specs.Entries.{EntryFields, descriptor_size}
-use Rattle.udfs_file.specs.Bodies.{Next, no_more, area_at, unread_at, broken, Descriptors, covers, extent_fault, extent_cells, continuation_fault, is_extent, next_of, next_if, next_area, next_descriptor, up_to_next, descriptors_in, joined, no_descriptors, chain, allocation_descriptors, Body, cells, faulty_body, ended_body, body_unless, extents_body, extents_body_by, embedded_body, body}
+use Rattle.udfs_file.specs.Bodies.{Next, no_more, area_at, unread_at, broken, Descriptors, covers, extent_fault, extent_cells, continuation_fault, is_extent, next_of, next_if, next_area, next_descriptor, up_to_next, descriptors_in, joined, no_descriptors, chain, allocation_descriptors, cells, faulty_body, ended_body, body_unless, extents_body_by, embedded_body, body}
 use Rattle.udfs_file.specs.Laws.{IsCellOf}
 use Rattle.udfs_file.specs.declared.cells.Cell.{Cell}
 use Rattle.udfs_file.specs.declared.cells.Cell.TheVariants.{Byte, Gap}

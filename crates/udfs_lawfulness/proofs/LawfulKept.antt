@@ -1,5 +1,5 @@
 -- Each volume that agrees is lawful, where its structures are and what is known of its tree decides it.
-use Rattle.std.proofs.Common.{◌≡◌, ◌≢◌, refl, sym, ◌∙◌, ap, subst, inl, inr, ◌⊎◌, ℕ, ◌+◌, ◌≤◌, Bool, true, false, cond, List, [], ◌∷◌, arith, length, Option, Some, None}
+use Rattle.std.proofs.Common.{◌≡◌, refl, sym, ◌∙◌, ap, subst, inl, inr, ℕ, ◌+◌, ◌≤◌, Bool, true, false, cond, List, [], ◌∷◌, arith, Option, Some, None}
 use Rattle.std.specs.Prelude.{option_map, Contains}
 use Rattle.udfs_lattice.specs.States.{State}
 use Rattle.udfs_lattice.specs.Volumes.{Agrees, Blocks, IsVolume, Volume, complete}
@@ -26,7 +26,6 @@ use Rattle.udfs_walk.specs.Routes.{HasMoreRoutes, Route, Walked, walked}
 use Rattle.udfs_tree.specs.Lawful.{AreDistinct}
 use Rattle.udfs_salvage.specs.Found.{Found, placed, rooted, volume_by}
 use Rattle.udfs_salvage.specs.Laws.{IsLawfulVolumeBy}
-use Rattle.udfs_salvage.specs.VolumeTrees.{IsLawfulBy}
 use Rattle.udfs_salvage.proofs.Founds.{found_same}
 use Rattle.udfs_salvage.proofs.Openings.{ReadAs, lawful_by, open_as}
 use Rattle.udfs_salvage.proofs.Opens.{FoundBy, found_by}

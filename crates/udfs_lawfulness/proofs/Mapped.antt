@@ -1,5 +1,5 @@
 -- Whether an address leads to an entry with a body.
-use Rattle.std.proofs.Common.{◌≡◌, refl, sym, ◌∙◌, ap, Bool, true, false, List}
+use Rattle.std.proofs.Common.{◌≡◌, refl, sym, ◌∙◌, ap, true, false, List}
 use Rattle.udfs_tag.specs.declared.layouts.LongAd.{LongAd}
 use Rattle.udfs_space.specs.Places.{View}
 use Rattle.udfs_file.specs.Bodies.{Body, body, cells, faulty_body}

@@ -1,7 +1,6 @@
 -- What is known contradicts a lawful volume: no volume that agrees is lawful.
-use Rattle.std.proofs.Common.{◌≡◌, refl, sym, ◌∙◌, ap, subst, inl, inr, ℕ, ◌<◌, ◌≤◌, ◌⊎◌, arith, List, Some, slice_get}
-use Rattle.udfs_lattice.specs.Volumes.{Agrees, Blocks, IsVolume, Volume}
-use Rattle.udfs_lattice.specs.declared.facts.Fact.TheVariants.{Unknown}
+use Rattle.std.proofs.Common.{◌≡◌, refl, sym, ◌∙◌, ap, inl, inr, ℕ, ◌<◌, ◌≤◌, arith, List, slice_get}
+use Rattle.udfs_lattice.specs.Volumes.{Agrees, Blocks, Volume}
 use Rattle.udfs_volume.specs.Answers.{found, faulty}
 use Rattle.udfs_volume.specs.declared.faults.VolumeFault.{VolumeFault}
 use Rattle.udfs_volume.specs.declared.profiles.Profile.{Profile}
@@ -10,10 +9,9 @@ use Rattle.udfs_file.specs.declared.faults.NodeFault.{NodeFault}
 use Rattle.udfs_walk.specs.NodeFields.{NodeFields}
 use Rattle.udfs_walk.specs.Rereads.{reread}
 use Rattle.udfs_walk.specs.UnnamedEntries.{unnamed}
-use Rattle.udfs_walk.specs.Walks.{AreNodes}
 use Rattle.udfs_walk.specs.declared.standings.Standing.TheVariants as standing
-use Rattle.udfs_salvage.specs.Found.{Found, volume_by}
-use Rattle.udfs_salvage.specs.Reports.{HasTooManyPathsBy, IsOutOfRange, IsReportBy, Report}
+use Rattle.udfs_salvage.specs.Found.{volume_by}
+use Rattle.udfs_salvage.specs.Reports.{IsOutOfRange, IsReportBy, Report}
 use Rattle.udfs_salvage.specs.TreeReports.{AgreesWithNoneBy, IsReportOf}
 use Rattle.udfs_salvage.specs.VolumeTrees.{IsLawfulBy}
 use Rattle.udfs_salvage.proofs.TreeReports.{tells_tree, too_many}

@@ -1,7 +1,6 @@
 -- A tree is lawful in each complete view, where what is known of it is lawful and decides it.
 use Rattle.std.proofs.Common.{◌≡◌, ◌≢◌, refl, sym, ◌∙◌, ap, subst, ℕ, Bool, true, false, List, [], ◌∷◌, cond, ◌||◌, Option, Some, None, slice_get}
-use Rattle.std.specs.Prelude.{AllPairs, IsSome, Contains}
-use Rattle.udfs_lattice.specs.States.{State}
+use Rattle.std.specs.Prelude.{AllPairs, IsSome}
 use Rattle.udfs_lattice.specs.Volumes.{ascending}
 use Rattle.udfs_lattice.specs.declared.facts.Fact.TheVariants.{Known}
 use Rattle.udfs_tag.specs.declared.layouts.LongAd.{LongAd}
@@ -22,16 +21,15 @@ use Rattle.udfs_file.proofs.PublicLaws.{body_is_read}
 use Rattle.udfs_walk.specs.Nodes.{node, node_at}
 use Rattle.udfs_walk.specs.Routes.{Route, Walked, at_root, below, entries_below, HasMoreRoutes, is_deep, is_loop, kind_entries, target_entries, walk_from, walked}
 use Rattle.udfs_walk.specs.Standings.{body_standing, cells_standing, depth_or, kind_standing, missing_blocks, runs_from, standing_or_fault, torn_or_whole}
-use Rattle.udfs_walk.specs.Targets.{Target, bad, unread, entry, target}
-use Rattle.udfs_walk.specs.declared.standings.Standing.{Standing}
-use Rattle.udfs_walk.specs.declared.standings.Standing.TheVariants.{Whole, Torn, Loop, Fault}
+use Rattle.udfs_walk.specs.Targets.{unread, entry, target}
+use Rattle.udfs_walk.specs.declared.standings.Standing.TheVariants.{Whole, Loop}
 use Rattle.udfs_tree.specs.Lawful.{AreDistinct, IsLawfulTree}
 use Rattle.udfs_tree.specs.Trees.{PartitionBlocks}
 use Rattle.udfs_tree.proofs.PartRoutes.{TargetPart, target_same, target_unread, target_part}
 use Rattle.udfs_tree.proofs.Runs.{none_missing}
 use Rattle.udfs_tree.proofs.WholeRoutes.{WholeAt, step_on, whole_at}
 use Rattle.udfs_lawfulness.specs.Asking.{is_data}
-use Rattle.udfs_lawfulness.specs.Filled.{bytes_or_zeros, filled, filled_view, is_mapped, target_has_cells}
+use Rattle.udfs_lawfulness.specs.Filled.{bytes_or_zeros, filled_view, is_mapped, target_has_cells}
 use Rattle.udfs_lawfulness.proofs.Kept.{mapped_kept, whole_kept}
 
 -- what is known of a node decides it: it is whole, or is no directory, and all allocation descriptors that it needs are known

@@ -1,6 +1,6 @@
 -- What the list of nodes says of each end of a route.
-use Rattle.std.proofs.Common.{◌≡◌, ◌≢◌, refl, sym, ◌∙◌, ap, subst, ℕ, ◌<◌, ◌≤◌, Bool, true, false, not, List, [], ◌∷◌, ◌++◌, cond, ◌&&◌, arith, Option, Some, None, slice_get, length}
-use Rattle.std.specs.Prelude.{AllPairs, filter, flat_map, slice_index_or, suc, zero, IsSome}
+use Rattle.std.proofs.Common.{◌≡◌, refl, sym, ◌∙◌, ap, subst, ℕ, ◌<◌, Bool, true, false, not, List, [], ◌∷◌, ◌++◌, cond, ◌&&◌, arith, Option, Some, None, slice_get, length}
+use Rattle.std.specs.Prelude.{filter, flat_map, slice_index_or, suc, zero, IsSome}
 use Rattle.std.proofs.lemmas.List.Concat.{flat_map-cons}
 use Rattle.udfs_lattice.specs.Volumes.{ascending}
 use Rattle.udfs_lattice.proofs.Inclusion.{included}
@@ -17,7 +17,7 @@ use Rattle.udfs_file.specs.declared.faults.Kind.TheVariants.{Directory, File, Li
 use Rattle.udfs_file.specs.declared.faults.NodeFault.{NodeFault}
 use Rattle.udfs_walk.specs.Kinds.{kind_by}
 use Rattle.udfs_walk.specs.NodeFields.{NodeFields}
-use Rattle.udfs_walk.specs.Nodes.{entry_standing, node, node_at}
+use Rattle.udfs_walk.specs.Nodes.{node, node_at}
 use Rattle.udfs_walk.specs.Rereads.{missing_of}
 use Rattle.udfs_walk.specs.Routes.{Route, Walked, at_root, below, entries_below, is_deep, is_loop, walk_from, walked}
 use Rattle.udfs_walk.specs.Standings.{body_standing, cells_standing, depth_or, kind_standing, missing_blocks, runs_from, standing_or_fault, torn_or_whole}

@@ -2,7 +2,7 @@
 -- block that is not known is broken there, and one that is all known gives a body.
 --     filled blocks            the table, with zeros in place of what is not known
 --     is_mapped view a         all allocation descriptors that the entry at an address needs are known
-use Rattle.std.specs.Prelude.{ℕ, Bool, false, replicate}
+use Rattle.std.specs.Prelude.{Bool, false, replicate}
 use Rattle.udfs_lattice.specs.States.{State}
 use Rattle.udfs_lattice.specs.Volumes.{Blocks}
 use Rattle.udfs_lattice.specs.declared.facts.Fact.TheVariants.{Unknown, Known, Conflict}

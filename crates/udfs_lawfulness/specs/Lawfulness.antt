@@ -4,7 +4,7 @@
 --     IsDecided profile blocks last answer   what an answer says
 use Rattle.std.specs.Prelude.{◌≡◌, ◌≢◌, ℕ, ◌<◌, List, [], ◌++◌, Some, slice_get}
 use Rattle.udfs_lattice.specs.Volumes.{Agrees, Blocks, IsVolume, Volume, ascending, not_known}
-use Rattle.udfs_volume.specs.Answers.{Answer, found, holes, faulty}
+use Rattle.udfs_volume.specs.Answers.{found, holes, faulty}
 use Rattle.udfs_volume.specs.declared.profiles.Profile.{Profile}
 use Rattle.udfs_space.specs.Places.{View, view}
 use Rattle.udfs_walk.specs.NodeFields.{NodeFields}
