@@ -21,7 +21,7 @@ use Rattle.udfs_space.specs.Laws.{IsLawfulSparing}
 use Rattle.udfs_lawfulness.specs.Clear.{EndInside, IsClear}
 use Rattle.udfs_lawfulness.specs.Searching.{apart_from, apart_in, copies_apart, map_reason, partitions_reason, tables_reason}
 use Rattle.udfs_lawfulness.specs.Sequences.{pairs_in}
-use Rattle.udfs_lawfulness.specs.Structures.{AreAllLawful, IsReason, IsUndecided, asked, of_layout, of_space, sequence_blocks, sparing_blocks}
+use Rattle.udfs_lawfulness.specs.Structures.{AreAllLawful, AreSettled, IsReason, IsUndecided, asked, of_layout, of_space, sequence_blocks, sparing_blocks}
 use Rattle.udfs_lawfulness.specs.Tables.{AreCopiesApart, IsMapApart, IsMapUntagged, differs_from, is_untagged, table_blocks}
 use Rattle.udfs_lawfulness.specs.declared.answers.Reason.{Reason}
 use Rattle.udfs_lawfulness.specs.declared.answers.Reason.TheVariants.{Anchors, Descriptors, Tables, NoTable, Fault}
@@ -172,8 +172,11 @@ all_lawful P T N clear none V hv agrees = record { layout_is = h.layout_is; find
         (λ f q. clear.no_fault f (of_space l h.known q))
 
 -- where all is known that is asked
-pub sound : (P : Profile) (T : Blocks) (N : ℕ) (listed : List ℕ) → IsClear P T N → listed ≡ ascending (not_known T (asked P T N)) → listed ≡ [] → AreAllLawful P T N
-sound P T N listed clear is none = all_lawful P T N clear (ascending_none (not_known T (asked P T N)) (sym is ∙ none))
+pub sound : (P : Profile) (T : Blocks) (N : ℕ) (listed : List ℕ) → IsClear P T N → listed ≡ ascending (not_known T (asked P T N)) → listed ≡ [] → AreSettled P T N
+sound P T N listed clear is none = record { lawful = all_lawful P T N clear known; known = known; no_reason = no_reason P T N clear }
+  where
+    known : not_known T (asked P T N) ≡ []
+    known = ascending_none (not_known T (asked P T N)) (sym is ∙ none)
 
 -- and where it is not
 pub undecided : (P : Profile) (T : Blocks) (N : ℕ) (listed : List ℕ) → IsClear P T N → listed ≡ ascending (not_known T (asked P T N)) → listed ≢ [] → IsUndecided P T N listed

@@ -10,3 +10,11 @@ pub mod Contradicted
 pub mod Judged
 pub mod Steps
 pub mod LawfulVolumes
+pub mod Kept
+pub mod TreeKept
+pub mod TreeNodes
+pub mod Refuted
+pub mod LawfulKept
+pub mod Decided
+pub mod Spelt
+pub mod Mapped

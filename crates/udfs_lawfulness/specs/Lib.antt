@@ -4,3 +4,8 @@ pub mod Searching
 pub mod Structures
 pub mod Clear
 pub mod Lawful
+pub mod Filled
+pub mod Asking
+pub mod Spelling
+pub mod Lawfulness
+pub mod Left

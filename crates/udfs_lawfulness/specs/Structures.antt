@@ -83,6 +83,12 @@ AreAllLawful profile blocks last = (volume : Volume) → IsVolume volume last �
 abbrev pub AgreesWithNoLawful : Profile → Blocks → ℕ → Type 0
 AgreesWithNoLawful profile blocks last = (volume : Volume) → IsVolume volume last → HasLawfulStructures profile volume last → ¬ Agrees blocks volume last
 
+-- the structures of each volume that agrees are lawful, each block that decides it is known, and nothing that is known contradicts it
+pub record AreSettled (profile : Profile) (blocks : Blocks) (last : ℕ) : Type 0 where
+  pub lawful : AreAllLawful profile blocks last
+  pub known : not_known blocks (asked profile blocks last) ≡ []
+  pub no_reason : (why : Reason) → ¬ IsReason profile blocks last why
+
 -- there is this reason, so that no volume with lawful structures agrees
 pub record IsContradicted (profile : Profile) (blocks : Blocks) (last : ℕ) (why : Reason) : Type 0 where
   pub reason : IsReason profile blocks last why
@@ -96,6 +102,6 @@ pub record IsUndecided (profile : Profile) (blocks : Blocks) (last : ℕ) (liste
 
 -- an answer is true of each volume that agrees; where each block that decides it is known, it is one of the first two
 abbrev pub IsJudged : Profile → Blocks → ℕ → Structures → Type 0
-IsJudged profile blocks last Sound = AreAllLawful profile blocks last
+IsJudged profile blocks last Sound = AreSettled profile blocks last
 IsJudged profile blocks last (Unsound why) = IsContradicted profile blocks last why
 IsJudged profile blocks last (Open listed) = IsUndecided profile blocks last listed.items

@@ -1,6 +1,8 @@
 //! What is found of the structures of a volume.
 
+use udfs_file::NodeFault;
 use udfs_volume::VolumeFault;
+use udfs_walk::Path;
 
 /// Why the structures of a volume are not lawful.
 #[derive(Clone, Copy, Debug, PartialEq, Eq)]
@@ -40,6 +42,34 @@ pub enum Structures {
     Sound,
     /// No lawful volume has these blocks.
     Unsound(Reason),
+    /// Nothing that is known contradicts the standard; these blocks, which are not known, could: ascending, each once, and at least one.
+    Open(Vec<u32>),
+}
+
+/// Why a volume is not lawful.
+#[derive(Debug, Drop)]
+pub enum Why {
+    /// The structures by which it is opened are not lawful.
+    Structures(Reason),
+    /// It does not open, whatever the blocks hold that are not known: its file set has this fault (ECMA-167 4/14.1).
+    Volume(VolumeFault),
+    /// More than 65,536 paths lead from the root to a file or directory.
+    TooManyPaths,
+    /// The file or directory at this path has this fault.
+    Fault(Path, NodeFault),
+    /// The directory at this path is on its own path.
+    Loop(Path),
+    /// Two files or directories are at this path: a directory has two equal names (ECMA-167 4/8.6).
+    SameName(Path),
+}
+
+/// Whether a volume is lawful.
+#[derive(Debug, Drop)]
+pub enum Lawfulness {
+    /// It is, whatever the blocks hold that are not known.
+    Lawful,
+    /// It is not, whatever they hold.
+    Unlawful(Why),
     /// Nothing that is known contradicts the standard; these blocks, which are not known, could: ascending, each once, and at least one.
     Open(Vec<u32>),
 }

@@ -3,10 +3,15 @@
 #![tactic(auto)]
 
 pub mod answers;
+pub mod deciding;
+mod filled;
 pub mod laws;
+mod names;
 mod sequences;
 pub mod structures;
 mod tables;
+mod trees;
 
-pub use answers::{Reason, Structures};
+pub use answers::{Lawfulness, Reason, Structures, Why};
+pub use deciding::lawfulness;
 pub use structures::structures_of;

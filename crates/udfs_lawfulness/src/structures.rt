@@ -107,7 +107,7 @@ fn unread(
 }
 
 /// Whether there is no block.
-fn is_none(numbers: &[u32]) -> bool
+pub(crate) fn is_none(numbers: &[u32]) -> bool
     ensures { result ≡ (length numbers.now == 0) }
 {
     numbers.is_empty()
