@@ -41,6 +41,14 @@ but
 $ summary --last 600 disc.tab
 out-ends Disc       601 known   0 not known   0 in conflict\nNext       UDF 2.00 (a camcorder or recorder disc): add --profile wide\n           udfsalvage summary --last 600 --profile wide disc.tab\n
 
+= what_the_wide_rules_read_of_the_rest
+# The file A has 5,010 bytes and one extent of 5,000, which ends in its third block: a fault by the strict rules alone.
+
+write 275 56 \x92\x13
+but
+$ summary --last 600 disc.tab
+done 1 TEST   UDF 1.50, type 1   601 blocks, 1.2 MB\n1 file is complete,\n1 with faults\nFiles      1 whole (2 B)\nFolders    1 whole\nFaults     1 with faults\nWide       1 with a fault is read by the wide rules: add --profile wide\nDisc       601 known   0 not known   0 in conflict\nNext       No block is worth reading again. Write out what is whole:\n           udfsalvage extract --last 600 --to files disc.tab\n
+
 = what_refuses_a_summary
 file empty.rd reading
 
