@@ -29,7 +29,6 @@ mod sizes;
 mod sparing;
 mod stored;
 mod stored_images;
-mod stored_rereads;
 mod summing;
 mod summing_json;
 mod times;

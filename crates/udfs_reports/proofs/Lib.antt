@@ -1,5 +1,3 @@
 pub mod PagingLemmas
 pub mod RereadingLemmas
 pub mod TellingLemmas
-mod StoreListings
-mod ToldVolumes

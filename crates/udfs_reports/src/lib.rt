@@ -11,6 +11,5 @@ mod paths;
 pub mod report;
 pub mod reread;
 pub mod reread_map;
-mod stored_reread;
 pub mod summary;
 pub mod telling;
