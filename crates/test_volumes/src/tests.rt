@@ -2,6 +2,7 @@
 
 mod fields;
 mod files;
+mod lawful_volumes;
 mod lawfulness;
 mod lost;
 mod samples;

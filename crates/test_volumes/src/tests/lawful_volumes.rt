@@ -68,8 +68,8 @@ static TYPE1: [(&[Bytes], &[u32], &str); 15] = [
     // the tag of the entry of A is wrong
     (&[(275, 0, &[2])], &[276], "Tag /A"),
     // the file set has no valid tag
-    (&[(272, 0, &[0])], &[], "volume FileSet"),
-    (&[(272, 0, &[0])], &[272], "open [272]"),
+    (&[(272, 1, &[0])], &[], "volume FileSet"),
+    (&[(272, 1, &[0])], &[272], "open [272]"),
     (
         &[(600, 16, &[0, 0x78]), (274, 64, &[1])],
         &[],
