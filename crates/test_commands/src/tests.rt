@@ -12,6 +12,7 @@ mod imaging;
 mod json;
 mod keeping;
 mod listing;
+mod lost;
 mod manifests;
 mod merging;
 mod only;

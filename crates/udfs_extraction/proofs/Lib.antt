@@ -3,6 +3,8 @@ mod ExtractLemmas
 mod DigestLemmas
 mod ManifestLemmas
 pub mod LostLemmas
+mod TreeLemmas
+mod FoundLemmas
 mod ShortNameLemmas
 mod ShortNameSizes
 mod PlaceLemmas

@@ -25,13 +25,13 @@ unput Failed refusal i is (inl memory) = let bad : NoNode i ≡ Memory alloc_err
 unput Failed refusal i is (inr (inl output, failed)) = let bad : NoNode i ≡ Output = sym is ∙ output in cc
 unput Failed refusal i is (inr (inr unkept, failed)) = let bad : NoNode i ≡ Unkept = sym is ∙ unkept in cc
 
-nodes : {F : Type 0} (volume v : Answer Found) (Failed : Type 0) (only : List (List ℕ)) (own : NodeFields → Option (List ℕ)) (P : ℕ → NodeFields → Fate → Type 0) (ns : List NodeFields) (before after : F) (old new : Stream) (refusal : Refusal) (i : ℕ) → refusal ≡ NoNode i
-    → PutsBy volume (StopsBefore Failed only ns before after old new refusal ⊎ StopsNodes own P ns old new refusal) (StopsLine before after v old new refusal) → after ≡ before
-nodes (found f) v Failed only own P ns before after old new refusal i is (inl (kept, inl (same, why))) = same
-nodes (found f) v Failed only own P ns before after old new refusal i is (inl (kept, inr (folder, failed))) = let bad : NoNode i ≡ Folder = sym is ∙ folder in absurd (let no : ⊥ = cc in no)
-nodes (found f) v Failed only own P ns before after old new refusal i is (inr stops) = absurd (behind _ _ _ refusal i is stops.why)
-nodes (holes listed) v Failed only own P ns before after old new refusal i is line = line.untouched
-nodes (faulty fault) v Failed only own P ns before after old new refusal i is line = line.untouched
+nodes : {F : Type 0} (volume v : Answer Found) (Failed : Type 0) (only : List (List ℕ)) (lined : Fate → NodeFields → List ℕ) (P : ℕ → NodeFields → Fate → Type 0) (ns : List NodeFields) (before after : F) (old new : Stream) (refusal : Refusal) (i : ℕ) → refusal ≡ NoNode i
+    → PutsBy volume (StopsBefore Failed only ns before after old new refusal ⊎ StopsNodes lined P ns old new refusal) (StopsLine before after v old new refusal) → after ≡ before
+nodes (found f) v Failed only lined P ns before after old new refusal i is (inl (kept, inl (same, why))) = same
+nodes (found f) v Failed only lined P ns before after old new refusal i is (inl (kept, inr (folder, failed))) = let bad : NoNode i ≡ Folder = sym is ∙ folder in absurd (let no : ⊥ = cc in no)
+nodes (found f) v Failed only lined P ns before after old new refusal i is (inr stops) = absurd (behind _ _ _ refusal i is stops.why)
+nodes (holes listed) v Failed only lined P ns before after old new refusal i is line = line.untouched
+nodes (faulty fault) v Failed only lined P ns before after old new refusal i is line = line.untouched
 
 manifest : {F I M S W : Type 0} (reach : Reach F I M S W) (r : ExtractRequest) (place : Option (List ℕ)) (old new : F) (before after : Stream) (table : Table) (report : Report) (refusal : Refusal) (i : ℕ) → refusal ≡ NoNode i
     → MatchOption place ⊥ (λ there. Unlisted reach r there old new before after table report refusal) → ⊥

@@ -4,6 +4,7 @@ pub mod Digests
 pub mod SumLines
 pub mod Manifests
 pub mod LostFiles
+pub mod LostTrees
 pub mod ShortNames
 pub mod Sparing
 pub mod Refused

@@ -6,6 +6,8 @@ mod choosing;
 mod digesting;
 pub mod extract;
 mod fate_remarks;
+mod lost_found;
+mod lost_trees;
 mod manifest;
 mod manifest_place;
 mod manifest_put;
