@@ -1,5 +1,6 @@
 -- What is lost of a volume that opens, by the entries as its table lends them and as its report has them.
-use Rattle.std.proofs.Common.{◌≡◌, ◌⊎◌, inl, inr, ⊎_elim, refl, sym, ◌∙◌, ap, subst, Bool, true, false, List, [], ◌∷◌, ◌++◌, map, cond}
+use Rattle.std.proofs.Common.{◌≡◌, ◌<◌, ◌≤◌, ◌+◌, ℕ, inl, inr, refl, sym, ◌∙◌, ap, append_assoc, subst, Bool, true, false, List, [], ◌∷◌, ◌++◌, Bor, get_or, length, map, take, cond}
+use Rattle.std.proofs.lemmas.List.{append-nil, map-append}
 use Rattle.std.specs.Prelude.{filter}
 use Rattle.std.specs.List.{AllZip}
 use Rattle.udfs_lattice.specs.Volumes.{Blocks}
@@ -13,38 +14,63 @@ use Rattle.udfs_lost.specs.Folders.{AreLostRoots, icb_of_entry, lost_folders}
 use Rattle.udfs_lost.specs.LostFiles.{lost_files}
 use Rattle.udfs_lost.specs.LostTrees.{IsLostTree}
 use Rattle.udfs_lost.specs.declared.trees.LostTree.{LostTree}
+use Rattle.udfs_lost.proofs.Members.{take_next, take_whole}
 use Rattle.udfs_lost.proofs.PublicLaws.{bare_entries_will_do}
 use Rattle.udfs_salvage.specs.Found.{Found}
 use Rattle.udfs_salvage.specs.Listings.{full_entry_in}
 use Rattle.udfs_salvage.specs.UnnamedExtraction.{is_lost_file}
 use Rattle.udfs_overview.specs.LostTrees.{AreLost, IsUnfound}
-use Rattle.udfs_extraction.specs.LostTrees.{AreLostIn, AreLostOf, IsUnfoundIn, IsUnfoundOf}
+use Rattle.udfs_extraction.specs.LostTrees.{AddsFiles, AreLostIn, AreLostOf, IsUnfoundIn, IsUnfoundOf}
 use Rattle.udfs_extraction.proofs.ListedLemmas.{same_lost}
 
--- ---- one tree more
+-- ---- one file more
 
-pub zip_more : {A B : Type 0} (R : A → B → Type 0) (xs : List A) (ys : List B) (x : A) (y : B) → AllZip R xs ys → R x y → AllZip R (xs ++ x ∷ []) (ys ++ y ∷ [])
-zip_more R [] [] x y h r = (r, tt)
-zip_more R [] (z ∷ ys) x y h r = absurd h
-zip_more R (w ∷ xs) [] x y h r = absurd h
-zip_more R (w ∷ xs) (z ∷ ys) x y h r = (h.0, zip_more R xs ys x y h.1 r)
+zip_append : {A B : Type 0} (R : A → B → Type 0) (xs more : List A) (ys others : List B) → AllZip R xs ys → AllZip R more others → AllZip R (xs ++ more) (ys ++ others)
+zip_append R [] more [] others h k = k
+zip_append R [] more (z ∷ ys) others h k = absurd h
+zip_append R (w ∷ xs) more [] others h k = absurd h
+zip_append R (w ∷ xs) more (z ∷ ys) others h k = (h.0, zip_append R xs more ys others h.1 k)
 
--- the files so far, and one more that is lost, or is not
-pub files_more : (us : List Unnamed) (u : Unnamed) → is_lost_file u ≡ true → map icb_of_entry (filter is_lost_file (us ++ u ∷ [])) ≡ map icb_of_entry (filter is_lost_file us) ++ icb_of_entry u ∷ []
-files_more [] u is = ap (λ b. map icb_of_entry (cond b (u ∷ []) [])) is
-files_more (w ∷ us) u is = one (is_lost_file w) (filter is_lost_file (us ++ u ∷ [])) (filter is_lost_file us) (files_more us u is)
+files_append : (us more : List Unnamed) → map icb_of_entry (filter is_lost_file us) ++ map icb_of_entry (filter is_lost_file more) ≡ map icb_of_entry (filter is_lost_file (us ++ more))
+files_append [] more = refl
+files_append (w ∷ us) more = one (is_lost_file w) (filter is_lost_file us) (filter is_lost_file (us ++ more)) (files_append us more)
   where
-    one : (b : Bool) (more some : List Unnamed) → map icb_of_entry more ≡ map icb_of_entry some ++ icb_of_entry u ∷ [] → map icb_of_entry (cond b (w ∷ more) more) ≡ map icb_of_entry (cond b (w ∷ some) some) ++ icb_of_entry u ∷ []
-    one true more some e = ap (λ l. icb_of_entry w ∷ l) e
-    one false more some e = e
+    one : (b : Bool) (some all : List Unnamed) → map icb_of_entry some ++ map icb_of_entry (filter is_lost_file more) ≡ map icb_of_entry all
+        → map icb_of_entry (cond b (w ∷ some) some) ++ map icb_of_entry (filter is_lost_file more) ≡ map icb_of_entry (cond b (w ∷ all) all)
+    one true some all e = ap (λ l. icb_of_entry w ∷ l) e
+    one false some all e = e
 
-pub files_same : (us : List Unnamed) (u : Unnamed) → is_lost_file u ≡ false → map icb_of_entry (filter is_lost_file (us ++ u ∷ [])) ≡ map icb_of_entry (filter is_lost_file us)
-files_same [] u is = ap (λ b. map icb_of_entry (cond b (u ∷ []) [])) is
-files_same (w ∷ us) u is = one (is_lost_file w) (filter is_lost_file (us ++ u ∷ [])) (filter is_lost_file us) (files_same us u is)
-  where
-    one : (b : Bool) (more some : List Unnamed) → map icb_of_entry more ≡ map icb_of_entry some → map icb_of_entry (cond b (w ∷ more) more) ≡ map icb_of_entry (cond b (w ∷ some) some)
-    one true more some e = ap (λ l. icb_of_entry w ∷ l) e
-    one false more some e = e
+pub adds_none : (v : View) (trees : List LostTree) → AddsFiles v [] trees trees
+adds_none v trees = record { more = []; are = sym (append-nil trees); each = tt }
+
+-- a file that is none with data, whole
+pub adds_same : (v : View) (u : Unnamed) (trees : List LostTree) → is_lost_file u ≡ false → AddsFiles v (u ∷ []) trees trees
+adds_same v u trees is = record {
+  more = [];
+  are = sym (append-nil trees);
+  each = subst (λ b. AllZip (IsLostTree v) (map icb_of_entry (cond b (u ∷ []) [])) []) (sym is) tt;
+}
+
+-- one that is
+pub adds_one : (v : View) (u : Unnamed) (old new : List LostTree) (tree : LostTree) → is_lost_file u ≡ true → IsLostTree v (icb_of_entry u) tree → new ≡ old ++ tree ∷ [] → AddsFiles v (u ∷ []) old new
+adds_one v u old new tree is one are = record {
+  more = tree ∷ [];
+  are = are;
+  each = subst (λ b. AllZip (IsLostTree v) (map icb_of_entry (cond b (u ∷ []) [])) (tree ∷ [])) (sym is) (one, tt);
+}
+
+-- one more of the files
+pub adds_next : (v : View) (files : List (Bor Unnamed)) (i : ℕ) (file : Bor Unnamed) (start old new : List LostTree) → i < length files → file ≡ get_or files i file
+    → AddsFiles v (map (λ (f : Bor Unnamed). f.now) (take i files)) start old → AddsFiles v (file.now ∷ []) old new → AddsFiles v (map (λ (f : Bor Unnamed). f.now) (take (i + 1) files)) start new
+adds_next v files i file start old new below at so_far one = subst (λ (l : List (Bor Unnamed)). AddsFiles v (map (λ (f : Bor Unnamed). f.now) l) start new) (sym (take_next files i file below at)) (record {
+  more = so_far.more ++ one.more;
+  are = one.are ∙ ap (λ l. l ++ one.more) so_far.are ∙ append_assoc start so_far.more one.more;
+  each = subst (λ (icbs : List Icb). AllZip (IsLostTree v) icbs (so_far.more ++ one.more)) (files_append (map (λ (f : Bor Unnamed). f.now) (take i files)) (file.now ∷ []) ∙ ap (λ us. map icb_of_entry (filter is_lost_file us)) (sym (map-append (λ (f : Bor Unnamed). f.now) (take i files) (file ∷ []))))
+      (zip_append (IsLostTree v) _ _ so_far.more one.more so_far.each one.each);
+})
+
+pub adds_all : (v : View) (files : List (Bor Unnamed)) (i : ℕ) (start new : List LostTree) → length files ≤ i → AddsFiles v (map (λ (f : Bor Unnamed). f.now) (take i files)) start new → AddsFiles v (map (λ (f : Bor Unnamed). f.now) files) start new
+adds_all v files i start new past so_far = subst (λ (l : List (Bor Unnamed)). AddsFiles v (map (λ (f : Bor Unnamed). f.now) l) start new) (take_whole files i past) so_far
 
 -- ---- entries with what they lack
 
@@ -68,10 +94,12 @@ are_full M f deleted es trees a =
         are_roots = subst (λ folders. AreLostRoots v folders a.are_folders.roots) (sym law.folders) a.are_folders.are_roots;
         are_trees = a.are_folders.are_trees;
       };
-      files = a.files;
-      are_files = subst (λ (icbs : List Icb). AllZip (IsLostTree v) icbs a.files)
-          (sym (full_icbs M f (lost_files v deleted a.folders es)) ∙ ap (λ (us : List Unnamed). map icb_of_entry (filter is_lost_file us)) (sym law.files)) a.are_files;
-      are = a.are;
+      are_files = record {
+        more = a.are_files.more;
+        are = a.are_files.are;
+        each = subst (λ (icbs : List Icb). AllZip (IsLostTree v) icbs a.are_files.more)
+            (sym (full_icbs M f (lost_files v deleted a.folders es)) ∙ ap (λ (us : List Unnamed). map icb_of_entry (filter is_lost_file us)) (sym law.files)) a.are_files.each;
+      };
     }
 
 unfound_full : (M : Blocks) (f : Found) (deleted : Bool) (es : List Unnamed) (error : NodesError) → IsUnfoundIn (view M f.space) deleted es error → IsUnfoundIn (view M f.space) deleted (map (full_entry (view M f.space)) es) error

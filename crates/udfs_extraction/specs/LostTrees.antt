@@ -22,6 +22,7 @@ use Rattle.udfs_walk.specs.Targets.{Icb}
 use Rattle.udfs_walk.specs.UnnamedEntries.{address_of}
 use Rattle.udfs_walk.specs.Walks.{IsNodesRefused}
 use Rattle.udfs_walk.specs.declared.answers.NodesError.{NodesError}
+use Rattle.udfs_walk.specs.declared.answers.NodesError.TheVariants.{OutOfMemory}
 use Rattle.udfs_walk.specs.declared.answers.Unnamed.{Unnamed}
 use Rattle.udfs_lost.specs.Folders.{icb_of_entry, lost_folders}
 use Rattle.udfs_lost.specs.LostFiles.{lost_files}
@@ -42,13 +43,17 @@ use Rattle.udfs_extraction.specs.declared.nodes.Fate.{Fate}
 
 -- ---- what is lost
 
--- the trees of lost folders, and behind them one of a single node for each lost file that has data and is whole
+-- behind the others there is a tree for each of these files that has data and is whole
+pub record AddsFiles (view : View) (files : List Unnamed) (old new : List LostTree) : Type 0 where
+  pub more : List LostTree
+  pub are : new ≡ old ++ more
+  pub each : AllZip (IsLostTree view) (map icb_of_entry (filter is_lost_file files)) more
+
+-- the trees of lost folders, and behind them those of the lost files
 pub record AreLostIn (view : View) (deleted : Bool) (entries : List Unnamed) (trees : List LostTree) : Type 0 where
   pub folders : List LostTree
   pub are_folders : AreLost view deleted entries folders
-  pub files : List LostTree
-  pub are_files : AllZip (IsLostTree view) (map icb_of_entry (filter is_lost_file (lost_files view deleted folders entries))) files
-  pub are : trees ≡ folders ++ files
+  pub are_files : AddsFiles view (lost_files view deleted folders entries) folders trees
 
 -- by what a volume is: what does not open has none
 abbrev pub AreLostOf : Bool → Blocks → Answer Found → List Unnamed → List LostTree → Type 0
@@ -56,9 +61,13 @@ AreLostOf deleted blocks (found f) entries trees = AreLostIn (view blocks f.spac
 AreLostOf deleted blocks (holes listed) entries trees = trees ≡ []
 AreLostOf deleted blocks (faulty fault) entries trees = trees ≡ []
 
+-- the nodes of an entry were not found, or memory ran out
+abbrev pub IsFileRefused : View → NodesError → Type 0
+IsFileRefused view error = ((u : Unnamed) × IsNodesRefused view (address_of (icb_of_entry u)) error) ⊎ (error ≡ OutOfMemory)
+
 -- the lost folders were not found, or the nodes of a lost file were not
 abbrev pub IsUnfoundIn : View → Bool → List Unnamed → NodesError → Type 0
-IsUnfoundIn view deleted entries error = IsUnfound view (lost_folders view deleted entries) error ⊎ ((u : Unnamed) × IsNodesRefused view (address_of (icb_of_entry u)) error)
+IsUnfoundIn view deleted entries error = IsUnfound view (lost_folders view deleted entries) error ⊎ IsFileRefused view error
 
 -- by what a volume is: of what does not open nothing is looked for
 abbrev pub IsUnfoundOf : Bool → Blocks → Answer Found → List Unnamed → NodesError → Type 0

@@ -1,21 +1,16 @@
 //! What is lost of a volume: the trees of lost folders, and lost files, each as a tree of its own. They are looked for before anything is made.
 
-ghost use Rattle.std.specs.Prelude.{◌≡◌, ◌++◌, ◌∷◌, [], ⊤, List, IfErr, IfOk, OnOk, MatchOption, MatchResult, filter, map};
-ghost use Rattle.std.specs.List.{AllZip};
+ghost use Rattle.std.specs.Prelude.{◌≡◌, ◌++◌, ◌∷◌, [], ⊤, IfErr, IfOk, OnOk, MatchOption, map};
 ghost use Rattle.udfs_lattice.specs.Tables.{state_of};
 ghost use Rattle.udfs_space.specs.Views.{view_now};
 ghost use Rattle.udfs_walk.specs.UnnamedEntries.{address_of};
 ghost use Rattle.udfs_walk.specs.Walks.{IsNodesRefused};
-ghost use Rattle.udfs_walk.specs.declared.answers.Unnamed.{Unnamed};
 ghost use Rattle.udfs_lost.specs.Folders.{icb_of_entry, lost_folders};
-ghost use Rattle.udfs_lost.specs.LostFiles.{lost_files};
 ghost use Rattle.udfs_lost.specs.LostTrees.{IsLostTree};
-ghost use Rattle.udfs_lost.specs.declared.trees.LostTree.{LostTree};
 ghost use Rattle.udfs_salvage.specs.Found.{volume_now};
 ghost use Rattle.udfs_salvage.specs.Listings.{AreUnnamed, listing_now};
-ghost use Rattle.udfs_salvage.specs.UnnamedExtraction.{is_lost_file};
 ghost use Rattle.udfs_overview.specs.LostTrees.{AreLost, IsUnfound};
-ghost use Rattle.udfs_extraction.specs.LostTrees.{AreLostIn, AreLostOf, IsUnfoundIn, IsUnfoundOf};
+ghost use Rattle.udfs_extraction.specs.LostTrees.{AddsFiles, AreLostIn, AreLostOf, IsFileRefused, IsUnfoundIn, IsUnfoundOf};
 ghost use Rattle.udfs_extraction.specs.Refused.{IsUnsearched, lost_refusal_of};
 
 use std::alloc::{AllocError, Global};
@@ -42,13 +37,16 @@ fn folder_trees(
 
 /// A lost file as a tree.
 fn file_tree(alloc: Global, view: View<'_>, file: &Unnamed) -> Result<LostTree, NodesError>
-    ensures { MatchResult result (IsLostTree (view_now view.entry) (icb_of_entry file.now)) (IsNodesRefused (view_now view.entry) (address_of (icb_of_entry file.now))) }
+    ensures tree { IfOk result (IsLostTree (view_now view.entry) (icb_of_entry file.now)) }
+    ensures refused { IfErr result (IsNodesRefused (view_now view.entry) (address_of (icb_of_entry file.now))) }
 {
-    let nodes = bare_nodes(alloc, view, file.icb())?;
-    Ok(LostTree {
-        folder: file.address(),
-        nodes,
-    })
+    match bare_nodes(alloc, view, file.icb()) {
+        Ok(nodes) => Ok(LostTree {
+            folder: file.address(),
+            nodes,
+        }),
+        Err(error) => Err(error),
+    }
 }
 
 /// Adds a tree.
@@ -59,6 +57,29 @@ fn push_tree(trees: &mut Vec<LostTree>, tree: LostTree) -> Result<(), AllocError
     Ok(())
 }
 
+/// Adds the tree of a file, if it has data and is whole.
+fn add_file(
+    alloc: Global,
+    view: View<'_>,
+    file: &Unnamed,
+    trees: &mut Vec<LostTree>,
+) -> Result<(), NodesError>
+    ensures added { OnOk result (AddsFiles (view_now view.entry) (file.now ∷ []) trees.old.items trees.new.items) }
+    ensures refused { IfErr result (IsFileRefused (view_now view.entry)) }
+{
+    if !is_lost_file(file) {
+        return Ok(());
+    }
+    let tree = match file_tree(alloc, view, file) {
+        Ok(tree) => tree,
+        Err(error) => return Err(error),
+    };
+    match push_tree(trees, tree) {
+        Ok(()) => Ok(()),
+        Err(AllocError) => Err(NodesError::OutOfMemory),
+    }
+}
+
 /// Adds the trees of those of these files that have data and are whole.
 fn add_files(
     alloc: Global,
@@ -66,13 +87,13 @@ fn add_files(
     files: &[&Unnamed],
     trees: &mut Vec<LostTree>,
 ) -> Result<(), NodesError>
-    ensures added { IfOk result (λ done. (more : List LostTree) × (trees.new.items ≡ trees.old.items ++ more) × AllZip (IsLostTree (view_now view.entry)) (map icb_of_entry (filter is_lost_file (map (λ file. file.now) files.now))) more) }
-    ensures refused { IfErr result (λ error. (u : Unnamed) × IsNodesRefused (view_now view.entry) (address_of (icb_of_entry u)) error) }
+    ensures added { OnOk result (AddsFiles (view_now view.entry) (map (λ file. file.now) files.now) trees.old.items trees.new.items) }
+    ensures refused { IfErr result (IsFileRefused (view_now view.entry)) }
 {
     for file in files {
-        if is_lost_file(file) {
-            let tree = file_tree(alloc, view, file)?;
-            push_tree(trees, tree)?;
+        match add_file(alloc, view, file, trees) {
+            Ok(()) => {}
+            Err(error) => return Err(error),
         }
     }
     Ok(())
@@ -88,10 +109,18 @@ fn lost_in(
     ensures trees { IfOk result (λ trees. AreLostIn (view_now view.entry) deleted entries.now trees.items) }
     ensures refused { IfErr result (IsUnfoundIn (view_now view.entry) deleted entries.now) }
 {
-    let mut trees = folder_trees(alloc, view, deleted, entries)?;
-    let files = lost_files(alloc, view, deleted, &trees, entries)?;
-    add_files(alloc, view, &files, &mut trees)?;
-    Ok(trees)
+    let mut trees = match folder_trees(alloc, view, deleted, entries) {
+        Ok(trees) => trees,
+        Err(error) => return Err(error),
+    };
+    let files = match lost_files(alloc, view, deleted, &trees, entries) {
+        Ok(files) => files,
+        Err(AllocError) => return Err(NodesError::OutOfMemory),
+    };
+    match add_files(alloc, view, &files, &mut trees) {
+        Ok(()) => Ok(trees),
+        Err(error) => Err(error),
+    }
 }
 
 /// What is lost of the volume of a listing. A volume that does not open has none.

@@ -14,7 +14,7 @@ ghost use Rattle.udfs_extraction.specs.Refused.{TreesStop};
 
 use crate::fate_remarks::{Totals, remark_on_fate};
 use crate::node_files::{node_at, put_node};
-use crate::nodes::{Fate, put_nodes, still_good};
+use crate::nodes::{Fate, is_all_good, put_nodes, still_good};
 use crate::places::first_place;
 use crate::short_names::push_icb_number;
 use crate::spare::Spare;
@@ -30,7 +30,6 @@ use udfs_reading::Sink;
 use udfs_salvage::{Fill, Listing, has_two_partitions};
 use udfs_tag::LbAddr;
 use udfs_times::Times;
-use udfs_walk::Node;
 use udfs_words::request::ExtractRequest;
 
 /// What stands before the paths of a tree in what is printed: `lost:`, and the number of its folder's information control block.
@@ -154,48 +153,28 @@ fn put_tree<F: Files, O: Sink>(
     Ok(still_good(told.good, first.fate))
 }
 
-/// A listing of the same volume with these nodes.
-fn with_nodes<'a>(listing: Listing<'a>, nodes: Vec<Node>) -> Listing<'a>
-    ensures { (result.nodes.items ≡ nodes.items) × (result.volume ≡ listing.volume) × (result.table ≡ listing.table) }
-{
-    let Listing {
-        table,
-        last,
-        profile,
-        volume,
-        nodes: _,
-    } = listing;
-    Listing {
-        table,
-        last,
-        profile,
-        volume,
-        nodes,
-    }
-}
-
 /// Makes a tree in the folder for lost folders.
 fn put_lost_tree<F: Files, O: Sink>(
     alloc: Global,
     listing: &Listing<'_>,
-    tree: LbAddr,
+    icb: LbAddr,
     short: bool,
     folder: &str,
     times: &Times,
     files: &mut F,
     out: &mut O,
 ) -> Result<bool, Refusal>
-    ensures put { (heard : Bool) × (fates : List Fate) × IsTreePut F.Files F.Output.stream files.new listing.now.table.now (volume_now listing.now.volume) short folder.now (record { folder = tree; nodes = listing.now.nodes }) fates ×
-        TellsLines heard (O.stream out.old) (O.stream out.new) (tree_lines listing.now.table.now (volume_now listing.now.volume) short (record { folder = tree; nodes = listing.now.nodes }) fates) ×
+    ensures put { (heard : Bool) × (fates : List Fate) × IsTreePut F.Files F.Output.stream files.new listing.now.table.now (volume_now listing.now.volume) short folder.now (record { folder = icb; nodes = listing.now.nodes }) fates ×
+        TellsLines heard (O.stream out.old) (O.stream out.new) (tree_lines listing.now.table.now (volume_now listing.now.volume) short (record { folder = icb; nodes = listing.now.nodes }) fates) ×
         IfOk result (λ good. (length fates ≡ length listing.now.nodes.items) × (heard ≡ true) × (good ≡ all_good fates)) ×
         IfErr result (λ refusal. (refusal ≡ Refusal.Memory alloc_error) ⊎ ((refusal ≡ Refusal.Output) × (heard ≡ false))) }
     ensures spares { SparesLost F.Files folder.now files.old files.new }
 {
     let two = has_two_partitions(&listing.volume);
-    let Ok(word) = tree_word(alloc, two, tree) else {
+    let Ok(word) = tree_word(alloc, two, icb) else {
         return Err(Refusal::Memory(AllocError));
     };
-    let Ok(path) = tree_path(alloc, folder, two, tree) else {
+    let Ok(path) = tree_path(alloc, folder, two, icb) else {
         return Err(Refusal::Memory(AllocError));
     };
     match put_tree(
@@ -208,6 +187,32 @@ fn put_lost_tree<F: Files, O: Sink>(
         files,
         out,
     ) {
+        Ok(good) => Ok(good),
+        Err(refusal) => Err(refusal),
+    }
+}
+
+/// Makes a tree in the folder for lost folders; then the listing has its nodes.
+fn put_next<F: Files, O: Sink>(
+    alloc: Global,
+    listing: &mut Listing<'_>,
+    tree: LostTree,
+    short: bool,
+    folder: &str,
+    times: &Times,
+    files: &mut F,
+    out: &mut O,
+) -> Result<bool, Refusal>
+    ensures put { (heard : Bool) × (fates : List Fate) × IsTreePut F.Files F.Output.stream files.new listing.old.table.now (volume_now listing.old.volume) short folder.now tree fates ×
+        TellsLines heard (O.stream out.old) (O.stream out.new) (tree_lines listing.old.table.now (volume_now listing.old.volume) short tree fates) ×
+        IfOk result (λ good. (length fates ≡ length tree.nodes.items) × (heard ≡ true) × (good ≡ all_good fates)) ×
+        IfErr result (λ refusal. (refusal ≡ Refusal.Memory alloc_error) ⊎ ((refusal ≡ Refusal.Output) × (heard ≡ false))) }
+    ensures same { (listing.new.volume ≡ listing.old.volume) × (listing.new.table ≡ listing.old.table) }
+    ensures spares { SparesLost F.Files folder.now files.old files.new }
+{
+    let LostTree { folder: icb, nodes } = tree;
+    listing.nodes = nodes;
+    match put_lost_tree(alloc, listing, icb, short, folder, times, files, out) {
         Ok(good) => Ok(good),
         Err(refusal) => Err(refusal),
     }
@@ -230,13 +235,11 @@ fn put_trees<F: Files, O: Sink>(
         (tree_lines listing.table.now (volume_now listing.volume) short) trees.items (O.stream out.old) (O.stream out.new)) }
     ensures spares { SparesLost F.Files folder.now files.old files.new }
 {
-    let mut listing = listing;
+    let mut current = listing;
     let mut good = true;
-    for (_, tree) in trees.into_iter().enumerate() {
-        let LostTree { folder: icb, nodes } = tree;
-        listing = with_nodes(listing, nodes);
-        match put_lost_tree(alloc, &listing, icb, short, folder, times, files, out) {
-            Ok(put) => good = good && put,
+    for (_place, tree) in trees.into_iter().enumerate() {
+        match put_next(alloc, &mut current, tree, short, folder, times, files, out) {
+            Ok(put) => good = is_all_good(good, put),
             Err(refusal) => return Err(refusal),
         }
     }
