@@ -171,11 +171,13 @@ fn put_lost_tree<F: Files, O: Sink>(
     ensures spares { SparesLost F.Files folder.now files.old files.new }
 {
     let two = has_two_partitions(&listing.volume);
-    let Ok(word) = tree_word(alloc, two, icb) else {
-        return Err(Refusal::Memory(AllocError));
+    let word = match tree_word(alloc, two, icb) {
+        Ok(word) => word,
+        Err(AllocError) => return Err(Refusal::Memory(AllocError)),
     };
-    let Ok(path) = tree_path(alloc, folder, two, icb) else {
-        return Err(Refusal::Memory(AllocError));
+    let path = match tree_path(alloc, folder, two, icb) {
+        Ok(path) => path,
+        Err(AllocError) => return Err(Refusal::Memory(AllocError)),
     };
     match put_tree(
         alloc,
@@ -237,7 +239,7 @@ fn put_trees<F: Files, O: Sink>(
 {
     let mut current = listing;
     let mut good = true;
-    for (_place, tree) in trees.into_iter().enumerate() {
+    for tree in trees {
         match put_next(alloc, &mut current, tree, short, folder, times, files, out) {
             Ok(put) => good = is_all_good(good, put),
             Err(refusal) => return Err(refusal),

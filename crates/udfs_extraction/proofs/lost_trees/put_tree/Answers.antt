@@ -56,13 +56,13 @@ returns-in-Err-put_nodes-clause-put g c =
     let fate = c.in-Ok.first.fate in
     let P : ℕ → NodeFields → Fate → Type 0 = IsPut F.tells (Fails F.faults ⊎ SinkFails g.F.Output.Sink.stream) l.table.now report Refuse c.args.short c.args.folder.now (F.holds c.put_nodes.new.files) (F.moment c.put_nodes.new.files) (F.left_since c.put_nodes.new.files) in
     let still : P 0 n fate = put_still F.moment F.may_leave F.left_since F.tells (Fails F.faults ⊎ SinkFails g.F.Output.Sink.stream) l.table.now report Refuse c.args.short c.args.folder.now
-        c.put_first.new.files c.put_nodes.new.files (F.holds c.put_first.new.files) (F.holds c.put_nodes.new.files) (g.met.F.Files.counts_now c.put_first.new.files) c.put_nodes.ensures.stays c.put_nodes.ensures.crash 0 n fate first.0 in
+    c.put_first.new.files c.put_nodes.new.files (F.holds c.put_first.new.files) (F.holds c.put_nodes.new.files) (g.met.F.Files.counts_now c.put_first.new.files) c.put_nodes.ensures.stays c.put_nodes.ensures.crash 0 n fate first.0 in
     let put = c.put_nodes.ensures.put in
     let took : c.in-Ok.first.heard ≡ true = search rules in
     let begun : TellsLines true (S.stream c.args.out.now) (S.stream c.put_first.new.out) (lined fate n) = subst (λ b. TellsLines b (S.stream c.args.out.now) (S.stream c.put_first.new.out) (lined fate n)) took first.1 in
     let each = each_first P nodes n fate put.1 one.1 still (all_asked P 1 (drop 1 nodes) put.1 put.2.each) in
     let lines = subst (λ t. TellsLines put.0 (S.stream c.args.out.now) (S.stream c.put_nodes.new.out) t) (lines_first lined nodes n fate put.1 one.1)
-        (tells_more put.0 (S.stream c.args.out.now) (S.stream c.put_first.new.out) (S.stream c.put_nodes.new.out) (lined fate n) (fate_lines lined (drop 1 nodes) put.1) begun put.2.lines) in
+    (tells_more put.0 (S.stream c.args.out.now) (S.stream c.put_first.new.out) (S.stream c.put_nodes.new.out) (lined fate n) (fate_lines lined (drop 1 nodes) put.1) begun put.2.lines) in
     (put.0, fate ∷ put.1, each, lines, tt, inl refl)
 
 pub returns-in-Err-put_nodes-clause-spares : goal.returns-in-Err-put_nodes-clause-spares
@@ -85,13 +85,13 @@ returns-then-not-told-clause-put g c =
     let fate = c.in-Ok.first.fate in
     let P : ℕ → NodeFields → Fate → Type 0 = IsPut F.tells (Fails F.faults ⊎ SinkFails g.F.Output.Sink.stream) l.table.now report Refuse c.args.short c.args.folder.now (F.holds c.put_nodes.new.files) (F.moment c.put_nodes.new.files) (F.left_since c.put_nodes.new.files) in
     let still : P 0 n fate = put_still F.moment F.may_leave F.left_since F.tells (Fails F.faults ⊎ SinkFails g.F.Output.Sink.stream) l.table.now report Refuse c.args.short c.args.folder.now
-        c.put_first.new.files c.put_nodes.new.files (F.holds c.put_first.new.files) (F.holds c.put_nodes.new.files) (g.met.F.Files.counts_now c.put_first.new.files) c.put_nodes.ensures.stays c.put_nodes.ensures.crash 0 n fate first.0 in
+    c.put_first.new.files c.put_nodes.new.files (F.holds c.put_first.new.files) (F.holds c.put_nodes.new.files) (g.met.F.Files.counts_now c.put_first.new.files) c.put_nodes.ensures.stays c.put_nodes.ensures.crash 0 n fate first.0 in
     let put = c.in-Ok-put_nodes.ensures.put in
     let took : c.in-Ok.first.heard ≡ true = search rules in
     let begun : TellsLines true (S.stream c.args.out.now) (S.stream c.put_first.new.out) (lined fate n) = subst (λ b. TellsLines b (S.stream c.args.out.now) (S.stream c.put_first.new.out) (lined fate n)) took first.1 in
     let each = each_first P nodes n fate put.1 one.1 still (all_asked P 1 (drop 1 nodes) put.1 put.2.each) in
     let lines = subst (λ t. TellsLines put.0 (S.stream c.args.out.now) (S.stream c.put_nodes.new.out) t) (lines_first lined nodes n fate put.1 one.1)
-        (tells_more put.0 (S.stream c.args.out.now) (S.stream c.put_first.new.out) (S.stream c.put_nodes.new.out) (lined fate n) (fate_lines lined (drop 1 nodes) put.1) begun put.2.lines) in
+    (tells_more put.0 (S.stream c.args.out.now) (S.stream c.put_first.new.out) (S.stream c.put_nodes.new.out) (lined fate n) (fate_lines lined (drop 1 nodes) put.1) begun put.2.lines) in
     let unheard : put.0 ≡ false = search rules in
     (put.0, fate ∷ put.1, each, lines, tt, inr (refl, unheard))
 
@@ -115,13 +115,13 @@ returns-clause-put g c =
     let fate = c.in-Ok.first.fate in
     let P : ℕ → NodeFields → Fate → Type 0 = IsPut F.tells (Fails F.faults ⊎ SinkFails g.F.Output.Sink.stream) l.table.now report Refuse c.args.short c.args.folder.now (F.holds c.put_nodes.new.files) (F.moment c.put_nodes.new.files) (F.left_since c.put_nodes.new.files) in
     let still : P 0 n fate = put_still F.moment F.may_leave F.left_since F.tells (Fails F.faults ⊎ SinkFails g.F.Output.Sink.stream) l.table.now report Refuse c.args.short c.args.folder.now
-        c.put_first.new.files c.put_nodes.new.files (F.holds c.put_first.new.files) (F.holds c.put_nodes.new.files) (g.met.F.Files.counts_now c.put_first.new.files) c.put_nodes.ensures.stays c.put_nodes.ensures.crash 0 n fate first.0 in
+    c.put_first.new.files c.put_nodes.new.files (F.holds c.put_first.new.files) (F.holds c.put_nodes.new.files) (g.met.F.Files.counts_now c.put_first.new.files) c.put_nodes.ensures.stays c.put_nodes.ensures.crash 0 n fate first.0 in
     let put = c.in-Ok-put_nodes.ensures.put in
     let took : c.in-Ok.first.heard ≡ true = search rules in
     let begun : TellsLines true (S.stream c.args.out.now) (S.stream c.put_first.new.out) (lined fate n) = subst (λ b. TellsLines b (S.stream c.args.out.now) (S.stream c.put_first.new.out) (lined fate n)) took first.1 in
     let each = each_first P nodes n fate put.1 one.1 still (all_asked P 1 (drop 1 nodes) put.1 put.2.each) in
     let lines = subst (λ t. TellsLines put.0 (S.stream c.args.out.now) (S.stream c.put_nodes.new.out) t) (lines_first lined nodes n fate put.1 one.1)
-        (tells_more put.0 (S.stream c.args.out.now) (S.stream c.put_first.new.out) (S.stream c.put_nodes.new.out) (lined fate n) (fate_lines lined (drop 1 nodes) put.1) begun put.2.lines) in
+    (tells_more put.0 (S.stream c.args.out.now) (S.stream c.put_first.new.out) (S.stream c.put_nodes.new.out) (lined fate n) (fate_lines lined (drop 1 nodes) put.1) begun put.2.lines) in
     let heard : put.0 ≡ true = search rules in
     let long : suc (length put.1) ≡ length nodes = behind_one nodes n put.1 one.1 put.3.0 in
     let same : length nodes ≡ length l.nodes.items = length-map l.nodes.items (full_in (state_of l.table.now) (volume_now l.volume)) in

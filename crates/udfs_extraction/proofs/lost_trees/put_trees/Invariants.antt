@@ -13,11 +13,9 @@ invariant-loop-tree g l =
     let F = g.F.Files in
     let S = g.O.Sink in
     record {
-      many : l.tree-iterator.count + l.tree-iterator.iter.rest.len ≡ length l.fn.trees.items;
-      left : l.tree-iterator.iter.rest.items ≡ drop l.tree-iterator.count l.fn.trees.items;
       same : (l.current.volume ≡ l.fn.listing.volume) × (l.current.table ≡ l.fn.listing.table);
       put : (all : List (List Fate)) × EachTree (IsAllOf (IsTreePut F g.F.Output.Sink.stream l.files l.fn.listing.table.now (volume_now l.fn.listing.volume) l.short l.folder)) l.fn.trees.items all ×
           TellsLines true (S.stream l.initial.out) (S.stream l.out) (trees_lines (tree_lines l.fn.listing.table.now (volume_now l.fn.listing.volume) l.short) l.fn.trees.items all) ×
-          (length all ≡ l.tree-iterator.count) × (l.good ≡ list_all all_good all);
+          (length all + l.tree-iterator.rest.len ≡ length l.fn.trees.items) × (l.tree-iterator.rest.items ≡ drop (length all) l.fn.trees.items) × (l.good ≡ list_all all_good all);
       spares : SparesLost F l.folder l.initial.files l.files;
     }
