@@ -10,7 +10,7 @@ use Rattle.udfs_walk.specs.Bare.{full_entry}
 use Rattle.udfs_walk.specs.Targets.{Icb}
 use Rattle.udfs_walk.specs.declared.answers.NodesError.{NodesError}
 use Rattle.udfs_walk.specs.declared.answers.Unnamed.{Unnamed}
-use Rattle.udfs_lost.specs.Folders.{AreLostRoots, icb_of_entry, lost_folders}
+use Rattle.udfs_lost.specs.Folders.{AreLostRoots, icb_of_entry}
 use Rattle.udfs_lost.specs.LostFiles.{lost_files}
 use Rattle.udfs_lost.specs.LostTrees.{IsLostTree}
 use Rattle.udfs_lost.specs.declared.trees.LostTree.{LostTree}
@@ -19,7 +19,7 @@ use Rattle.udfs_lost.proofs.PublicLaws.{bare_entries_will_do}
 use Rattle.udfs_salvage.specs.Found.{Found}
 use Rattle.udfs_salvage.specs.Listings.{full_entry_in}
 use Rattle.udfs_salvage.specs.UnnamedExtraction.{is_lost_file}
-use Rattle.udfs_overview.specs.LostTrees.{AreLost, IsUnfound}
+use Rattle.udfs_overview.specs.LostTrees.{IsUnfound}
 use Rattle.udfs_extraction.specs.LostTrees.{AddsFiles, AreLostIn, AreLostOf, IsUnfoundIn, IsUnfoundOf}
 use Rattle.udfs_extraction.proofs.ListedLemmas.{same_lost}
 

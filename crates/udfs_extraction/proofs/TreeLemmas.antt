@@ -1,5 +1,5 @@
 -- How lost trees are gone through, and what was written stays.
-use Rattle.std.proofs.Common.{◌≡◌, ◌⊎◌, ⊎_elim, inl, inr, refl, sym, ◌∙◌, ap, subst, arith, ℕ, zero, suc, ◌+◌, ◌≤◌, Bool, true, false, List, [], ◌∷◌, ◌++◌, Option, Some, None, append_assoc, codes, drop, length, length-append, slice_get, if◌then◌else◌, alloc_error}
+use Rattle.std.proofs.Common.{◌≡◌, ◌⊎◌, refl, sym, ◌∙◌, ap, subst, ℕ, zero, suc, ◌+◌, ◌≤◌, Bool, true, false, List, [], ◌∷◌, ◌++◌, Some, None, append_assoc, codes, drop, length, slice_get, alloc_error}
 use Rattle.std.specs.Prelude.{◌&&◌}
 use Rattle.std.specs.List.{list_all}
 use Rattle.std.proofs.lemmas.List.{append-nil}
@@ -18,7 +18,7 @@ use Rattle.udfs_salvage.specs.declared.extraction.Fill.{Fill}
 use Rattle.udfs_salvage.specs.declared.extraction.Fill.TheVariants.{Refuse}
 use Rattle.udfs_common.specs.declared.refusal.Refusal.{Refusal}
 use Rattle.udfs_common.specs.declared.refusal.Refusal.TheVariants.{Memory, Output}
-use Rattle.udfs_extraction.specs.Extracting.{Each, IsDone, IsIn, IsPut, SparesNodes, TellsLines, all_good, fate_lines, is_good, path_below}
+use Rattle.udfs_extraction.specs.Extracting.{Each, IsDone, IsIn, IsPut, SparesNodes, TellsLines, all_good, fate_lines}
 use Rattle.udfs_extraction.specs.LostFiles.{IsUnder, SparesLost}
 use Rattle.udfs_extraction.specs.LostTrees.{EachTree, IsAllOf, IsTreePut, StopsAt, tree_path, tree_report, trees_lines}
 use Rattle.udfs_extraction.specs.declared.nodes.Fate.{Fate}

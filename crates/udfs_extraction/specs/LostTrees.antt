@@ -7,9 +7,8 @@
 --     IsTreePut .. tree fates          what the fates of its nodes say of their files
 --     PutsTrees                        all trees with their fates and lines
 --     StopsTrees                       why they were not put or reported, or only in part
-use Rattle.std.specs.Prelude.{◌≡◌, ◌≢◌, ◌⊎◌, ℕ, Bool, false, List, [], ◌∷◌, ◌++◌, ⊤, codes, filter, length, map, alloc_error}
+use Rattle.std.specs.Prelude.{◌≡◌, ◌⊎◌, ℕ, Bool, false, List, [], ◌∷◌, ◌++◌, ⊤, codes, filter, length, map, alloc_error}
 use Rattle.std.specs.List.{AllZip, list_all}
-use Rattle.udfs_files.specs.Disk.{Fails}
 use Rattle.udfs_files.specs.declared.files.Files.{Ghosts}
 use Rattle.udfs_lattice.specs.Tables.{Table, state_of}
 use Rattle.udfs_lattice.specs.Volumes.{Blocks}

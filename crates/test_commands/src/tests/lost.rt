@@ -144,11 +144,8 @@ done 1
 files 1
 
 = names_that_are_too_long_are_shortened
-fill 274 00
 directory 1 D=10
 directory 10 long=3
-directory 20
-directory 30
 write 282 48 \x01
 
 but 274

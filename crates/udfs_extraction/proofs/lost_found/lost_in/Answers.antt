@@ -1,7 +1,5 @@
-use Rattle.std.proofs.Common.{inl, inr, map, refl, subst}
-use Rattle.std.specs.Borrow.{Bor}
+use Rattle.std.proofs.Common.{inl, inr, refl, subst}
 use Rattle.udfs_space.specs.Views.{view_now}
-use Rattle.udfs_walk.specs.declared.answers.Unnamed.{Unnamed}
 use Rattle.udfs_extraction.specs.LostTrees.{AddsFiles}
 use Rattle.udfs_extraction.proofs.lost_found.lost_in.Goals as goal
 

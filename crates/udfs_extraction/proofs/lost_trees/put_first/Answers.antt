@@ -1,4 +1,4 @@
-use Rattle.std.proofs.Common.{◌≡◌, ◌∙◌, List, ℕ, Option, Some, refl, rules, subst, sym, ap, string_bytes, slice_get}
+use Rattle.std.proofs.Common.{◌≡◌, ◌∙◌, List, ℕ, Option, rules, subst, sym, ap, string_bytes}
 use Rattle.udfs_walk.specs.NodeFields.{NodeFields}
 use Rattle.udfs_lattice.specs.Tables.{state_of}
 use Rattle.udfs_salvage.specs.Found.{volume_now}

@@ -1,7 +1,7 @@
 use Rattle.std.proofs.Common.{◌≡◌, ◌+◌, ◌∷◌, ◌++◌, ◌∙◌, [], ap, arith, drop, length, length-append, refl, rules, subst, sym, true}
 use Rattle.std.specs.Prelude.{◌&&◌}
 use Rattle.udfs_salvage.specs.Found.{volume_now}
-use Rattle.udfs_extraction.specs.Extracting.{TellsLines, all_good}
+use Rattle.udfs_extraction.specs.Extracting.{TellsLines}
 use Rattle.udfs_extraction.specs.LostTrees.{IsTreePut, tree_lines}
 use Rattle.udfs_extraction.proofs.LostLemmas.{lost_on, nothing_lost}
 use Rattle.udfs_extraction.proofs.TreeLemmas.{good_trees_more, next_lines, next_tree, trees_next, trees_still, trees_stop}
