@@ -1,5 +1,5 @@
 -- How lost trees are gone through, and what was written stays.
-use Rattle.std.proofs.Common.{◌≡◌, ◌⊎◌, refl, sym, ◌∙◌, ap, subst, ℕ, zero, suc, ◌+◌, ◌≤◌, Bool, true, false, List, [], ◌∷◌, ◌++◌, Some, None, append_assoc, codes, drop, length, slice_get, alloc_error}
+use Rattle.std.proofs.Common.{◌≡◌, ◌⊎◌, refl, sym, ◌∙◌, ap, subst, arith, ℕ, zero, suc, ◌+◌, ◌≤◌, Bool, true, false, List, [], ◌∷◌, ◌++◌, Some, None, append_assoc, codes, drop, length, slice_get, alloc_error}
 use Rattle.std.specs.Prelude.{◌&&◌}
 use Rattle.std.specs.List.{list_all}
 use Rattle.std.proofs.lemmas.List.{append-nil}
@@ -104,7 +104,7 @@ pub next_tree : (trees : List LostTree) (k : ℕ) (tree : LostTree) (rest : List
 next_tree [] zero tree rest e = absurd (let no : ⊥ = cc in no)
 next_tree [] (suc k) tree rest e = absurd (let no : ⊥ = cc in no)
 next_tree (t ∷ trees) zero tree rest e = (let same : tree ≡ t = cc in ap (λ x. Some x) (sym same), let same : rest ≡ trees = cc in same)
-next_tree (t ∷ trees) (suc k) tree rest e = next_tree trees k tree rest e
+next_tree (t ∷ trees) (suc k) tree rest e = let r = next_tree trees k tree rest e in (r.0, r.1 ∙ ap (λ n. drop n (t ∷ trees)) (let z : suc (k + 1) ≡ suc k + 1 = omega arith in z))
 
 pub each_tree_map : (P Q : LostTree → List Fate → Type 0) → ((tree : LostTree) (fates : List Fate) → P tree fates → Q tree fates) → (trees : List LostTree) (all : List (List Fate)) → EachTree P trees all → EachTree Q trees all
 each_tree_map P Q to trees [] each = tt

@@ -1,6 +1,6 @@
 //! Lost folders, which are written to a folder of their own with what is in them, and lost files, each in the place of such a folder.
 
-ghost use Rattle.std.specs.Prelude.{◌≡◌, ◌<◌, ◌⊎◌, ◌×◌, ⊤, Bool, true, false, List, Some, IfErr, IfOk, MatchOption, OnErr, alloc_error, length, slice_get, string_bytes};
+ghost use Rattle.std.specs.Prelude.{◌≡◌, ◌<◌, ◌⊎◌, ⊤, Bool, true, false, List, Some, IfErr, IfOk, MatchOption, OnErr, alloc_error, length, slice_get, string_bytes};
 ghost use Rattle.udfs_lattice.specs.Tables.{state_of};
 ghost use Rattle.udfs_walk.specs.NodeFields.{NodeFields};
 ghost use Rattle.udfs_salvage.specs.Found.{volume_now};
