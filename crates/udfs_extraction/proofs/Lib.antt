@@ -5,6 +5,8 @@ mod ManifestLemmas
 pub mod LostLemmas
 mod TreeLemmas
 mod FoundLemmas
+mod WalkedLemmas
+mod LawLemmas
 mod ShortNameLemmas
 mod ShortNameSizes
 mod PlaceLemmas

@@ -50,7 +50,7 @@ all_asked P k ns fates each = each_map _ P (λ j n fate done. done.asked refl) k
 in_tree : (folder number q : List ℕ) → IsIn (folder ++ codes "/" ++ number) q → IsUnder folder q
 in_tree folder number q is = (
   number ++ names_text is.0,
-  is.1 ∙ append_assoc folder (codes "/" ++ number) (names_text is.0) ∙ ap (λ t. folder ++ t) (append_assoc (codes "/") number (names_text is.0)),
+  is.1 ∙ append_assoc (folder ++ codes "/") number (names_text is.0),
 )
 
 module _ {F I M S W : Type 0} (known : Ghosts F I M S W) where

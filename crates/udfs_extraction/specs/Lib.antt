@@ -5,6 +5,7 @@ pub mod SumLines
 pub mod Manifests
 pub mod LostFiles
 pub mod LostTrees
+pub mod Laws
 pub mod ShortNames
 pub mod Sparing
 pub mod Refused

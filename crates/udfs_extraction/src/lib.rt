@@ -6,6 +6,7 @@ mod choosing;
 mod digesting;
 pub mod extract;
 mod fate_remarks;
+pub mod laws;
 mod lost_found;
 mod lost_trees;
 mod manifest;

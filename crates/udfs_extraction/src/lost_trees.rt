@@ -230,10 +230,10 @@ fn put_trees<F: Files, O: Sink>(
     files: &mut F,
     out: &mut O,
 ) -> Result<bool, Refusal>
-    ensures put { IfOk result (PutsTrees (IsTreePut F.Files F.Output.stream files.new listing.table.now (volume_now listing.volume) short folder.now)
-        (tree_lines listing.table.now (volume_now listing.volume) short) trees.items (O.stream out.old) (O.stream out.new)) }
-    ensures why { IfErr result (StopsAt (IsTreePut F.Files F.Output.stream files.new listing.table.now (volume_now listing.volume) short folder.now)
-        (tree_lines listing.table.now (volume_now listing.volume) short) trees.items (O.stream out.old) (O.stream out.new)) }
+    ensures put { IfOk result (PutsTrees (IsTreePut F.Files F.Output.stream files.new listing.entry.table.now (volume_now listing.entry.volume) short folder.now)
+        (tree_lines listing.entry.table.now (volume_now listing.entry.volume) short) trees.items (O.stream out.old) (O.stream out.new)) }
+    ensures why { IfErr result (StopsAt (IsTreePut F.Files F.Output.stream files.new listing.entry.table.now (volume_now listing.entry.volume) short folder.now)
+        (tree_lines listing.entry.table.now (volume_now listing.entry.volume) short) trees.items (O.stream out.old) (O.stream out.new)) }
     ensures spares { SparesLost F.Files folder.now files.old files.new }
 {
     let mut current = listing;
@@ -263,8 +263,8 @@ pub fn add_trees<F: Files, O: Sink>(
     out: &mut O,
 ) -> Result<bool, Refusal>
     requires { MatchOption request.now.trees ⊤ (λ folder. AreLostOf request.now.deleted (state_of listing.table.now) (volume_now listing.volume) (listing_now listing).unnamed trees.items) }
-    ensures made { IfOk result (MakesTrees ⟦<F as Known>⟧.reach O.stream request.now files.old files.new out.old out.new listing.table.now (listing_now listing)) }
-    ensures why { IfErr result (λ refusal. MatchOption request.now.trees ⊥ (λ folder. TreesStop F.Files F.Output.stream request.now.deleted request.now.short_names folder.now files.new (O.stream out.old) (O.stream out.new) listing.table.now (listing_now listing) refusal)) }
+    ensures made { IfOk result (MakesTrees ⟦<F as Known>⟧.reach O.stream request.now files.old files.new out.old out.new listing.entry.table.now (listing_now listing.entry)) }
+    ensures why { IfErr result (λ refusal. MatchOption request.now.trees ⊥ (λ folder. TreesStop F.Files F.Output.stream request.now.deleted request.now.short_names folder.now files.new (O.stream out.old) (O.stream out.new) listing.entry.table.now (listing_now listing.entry) refusal)) }
     ensures spares { MatchOption request.now.trees (files.new ≡ files.old) (λ folder. SparesLost F.Files folder.now files.old files.new) }
 {
     let Some(folder) = request.trees else {

@@ -106,16 +106,20 @@ impl<'a, 'r> Job for NodeBytes<'a, 'r> {
         let Ok(mut out) = self.spare.take(self.alloc) else {
             return Err(ExtractError::OutOfMemory);
         };
-        write_node(
+        match write_node(
             self.alloc,
             self.listing,
             self.index,
             self.fill,
             &mut out,
             sink,
-        )?;
-        self.spare.keep(out);
-        Ok(())
+        ) {
+            Ok(()) => {
+                self.spare.keep(out);
+                Ok(())
+            }
+            Err(error) => Err(error),
+        }
     }
 }
 

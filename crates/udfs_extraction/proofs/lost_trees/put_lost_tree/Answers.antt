@@ -50,8 +50,8 @@ returns-in-Ok-put_tree-clause-spares g c =
     let path : c.as_str-2.result.now ≡ tree_path c.args.folder.now two icb = search rules in
     spares_tree g.F.Files c.args.folder.now (icb_number two icb.reference icb.block) c.as_str-2.result.now c.args.files.now c.put_tree.new.files path c.put_tree.ensures.spares
 
-pub returns-in-Err-put_tree-clause-put : goal.returns-in-Err-put_tree-clause-put
-returns-in-Err-put_tree-clause-put g c =
+pub returns-clause-put : goal.returns-clause-put
+returns-clause-put g c =
     let F = g.F.Files in
     let S = g.O.Sink in
     let l = c.args.listing.now in
@@ -71,8 +71,8 @@ returns-in-Err-put_tree-clause-put g c =
       put.5,
     )
 
-pub returns-in-Err-put_tree-clause-spares : goal.returns-in-Err-put_tree-clause-spares
-returns-in-Err-put_tree-clause-spares g c =
+pub returns-clause-spares : goal.returns-clause-spares
+returns-clause-spares g c =
     let icb = c.args.icb in
     let two = c.has_two_partitions-two.result in
     let path : c.as_str-2.result.now ≡ tree_path c.args.folder.now two icb = search rules in

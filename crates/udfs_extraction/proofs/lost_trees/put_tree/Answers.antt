@@ -39,7 +39,8 @@ returns-then-not-first-clause-put g c =
     let fate = c.in-Ok.first.fate in
     let unheard : c.in-Ok.first.heard ≡ false = search rules in
     let lines = subst (λ t. TellsLines c.in-Ok.first.heard (S.stream c.args.out.now) (S.stream c.put_first.new.out) t) (sym (append-nil (lined fate n)) ∙ lines_first lined nodes n fate [] one.1) first.1 in
-    (c.in-Ok.first.heard, fate ∷ [], each_first _ nodes n fate [] one.1 first.0 tt, lines, tt, inr (refl, unheard))
+    let P : ℕ → NodeFields → Fate → Type 0 = IsPut F.tells (Fails F.faults ⊎ SinkFails g.F.Output.Sink.stream) l.table.now report Refuse c.args.short c.args.folder.now (F.holds c.put_first.new.files) (F.moment c.put_first.new.files) (F.left_since c.put_first.new.files) in
+    (c.in-Ok.first.heard, fate ∷ [], each_first P nodes n fate [] one.1 first.0 tt, lines, tt, inr (refl, unheard))
 
 pub returns-in-Err-put_nodes-clause-put : goal.returns-in-Err-put_nodes-clause-put
 returns-in-Err-put_nodes-clause-put g c =

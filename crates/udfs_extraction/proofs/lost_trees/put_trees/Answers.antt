@@ -49,7 +49,7 @@ loop-tree-preserved g c =
         next_lines lined trees (S.stream c.args.out.now) (S.stream c.loop-tree.out) (S.stream c.put_next.new.out) i.put.0 n tree true put.1 refl here.0 i.put.2 told,
         (omega (arith, many, longer, less)),
         here.1 ∙ ap (λ k. drop k trees) (let grown : n + 1 ≡ length (i.put.0 ++ put.1 ∷ []) = omega (arith, longer) in grown),
-        c.is_all_good.ensures ∙ ap (λ b. b && c.in-Ok.put) i.put.5 ∙ ap (λ b. _ && b) put.4.2 ∙ good_trees_more i.put.0 put.1,
+        c.is_all_good-good.ensures ∙ ap (λ b. b && c.in-Ok.put) i.put.5 ∙ ap (λ b. _ && b) put.4.2 ∙ good_trees_more i.put.0 put.1,
       );
       spares = lost_on _ c.args.folder.now _ _ _ i.spares step.spares;
     }
