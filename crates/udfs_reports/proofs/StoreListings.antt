@@ -2,14 +2,13 @@
 use Rattle.std.proofs.Common.{◌≡◌, ◌∙◌, ap, ℕ, List, [], ◌∷◌, inl, inr, refl, subst, sym}
 use Rattle.udfs_lattice.specs.Tables.{Table, state_of}
 use Rattle.udfs_lattice.specs.Volumes.{Blocks}
-use Rattle.udfs_tree.specs.KnownLaws.{taken}
 use Rattle.udfs_volume.specs.declared.profiles.Profile.{Profile}
 use Rattle.udfs_walk.specs.NodeFields.{NodeFields}
 use Rattle.udfs_salvage.proofs.InLineLists.{rereads_for_all}
 use Rattle.udfs_salvage.proofs.PublicLaws.{each_reread_for_suffices}
 use Rattle.udfs_salvage.proofs.StoreAnswers.{of_refusal}
 use Rattle.udfs_salvage.specs.Headline.{HeadlineBy}
-use Rattle.udfs_salvage.specs.InLine.{is_in_line}
+use Rattle.udfs_salvage.specs.InLine.{nodes_for}
 use Rattle.udfs_salvage.specs.Reports.{IsReportBy, Report}
 use Rattle.udfs_salvage.specs.Stores.{IfTold, IsRefused, IsStoreRefused}
 use Rattle.udfs_salvage.specs.declared.errors.SalvageError.{SalvageError}
@@ -38,9 +37,9 @@ pub untold_by : (profile : Profile) (blocks : Blocks) (t : Table) (last : ℕ) (
 untold_by profile blocks t last why same h = by_error profile t last why (subst (λ (bs : Blocks). IsStoreRefused profile bs last why) same h)
 
 -- without paths no node is left out
-all_taken : (nodes : List NodeFields) → taken (is_in_line []) nodes ≡ nodes
-all_taken [] = refl
-all_taken (n ∷ nodes) = ap (λ (ns : List NodeFields). n ∷ ns) (all_taken nodes)
+all_for : (report : Report) (ns : List NodeFields) → nodes_for [] (record report { nodes = ns }) ≡ ns
+all_for report [] = refl
+all_for report (n ∷ ns) = ap (λ (ms : List NodeFields). n ∷ ms) (all_for report ns)
 
 -- its nodes are those of the table's report
 pub listing_for_all : (profile : Profile) (blocks : Blocks) (t : Table) (last : ℕ) (report : Report) → blocks ≡ state_of t → HeadlineBy profile blocks last report → IsReportBy profile blocks last report → IsListingFor [] profile last t report
@@ -54,6 +53,6 @@ listing_for_all profile blocks t last report same headline is =
         suffices = each_reread_for_suffices [] profile (state_of t) last report by;
       };
       volume = refl;
-      nodes = sym (all_taken report.nodes);
+      nodes = sym (all_for report report.nodes);
       blocks = sym (rereads_for_all profile (state_of t) last report by);
     }

@@ -1,6 +1,6 @@
 //! `reread` of inputs that are read at positions: no block is held.
 
-ghost use Rattle.std.specs.Prelude.{◌≡◌, ◌×◌, [], IfOk, IfErr, IsErrOf};
+ghost use Rattle.std.specs.Prelude.{◌≡◌, [], IfOk, IfErr};
 ghost use Rattle.udfs_lattice.specs.Tables.{Table};
 ghost use Rattle.udfs_reading.specs.Writing.{Failed, Wrote};
 ghost use Rattle.udfs_salvage.specs.Listings.{listing_by};
