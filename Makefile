@@ -6,7 +6,7 @@
 #                   commands that README.md and docs/READING.md show (not make test, nor what needs a tool that is not installed); the last line is
 #                   'N passed, M failed'
 #   make hostile    makes each allocation of many runs fail in turn, makes each system call of the program's runs fail or ends it there,
-#                   and changes each byte of the sample discs' descriptors
+#                   changes each byte of the sample discs' descriptors, and compares calls on the machine's files with those in memory
 #   make try        tries the built program on this machine's own files and devices and on a terminal, and with GNU ddrescue where it is installed
 #   make docs       prints the definitions, the contracts with their edits, and the modules from the sources into out/docs
 #   make install    puts the program, the script udfsalvage-rescue, their man pages and the completions below PREFIX; make uninstall takes them away
@@ -27,6 +27,7 @@ JOBS ?= $(shell sh tools/jobs)
 
 PROGRAM = crates/udfsalvage/out/udfsalvage
 TRIES = crates/try_samples/out/try_samples
+CALLS = crates/try_calls/out/try_calls
 
 all: have-rt
 	@$(MAKE) -s --no-print-directory $(PROGRAM)
@@ -60,7 +61,7 @@ crates/$(1)/out/$(1): out/marks/$(1)
 	@touch $$@
 endef
 
-$(foreach name,udfsalvage try_samples bench_crc bench_table bench_space,$(eval $(call program-rule,$(name))))
+$(foreach name,udfsalvage try_samples try_calls bench_crc bench_table bench_space,$(eval $(call program-rule,$(name))))
 
 demo:
 	@mkdir -p out
@@ -83,9 +84,11 @@ test: have-rt $(addprefix out/marks/,$(notdir $(wildcard crates/*)))
 
 hostile: all
 	@$(MAKE) -s --no-print-directory $(TRIES)
+	@$(MAKE) -s --no-print-directory $(CALLS)
 	@tools/refuse-memory $(TRIES) $(PROGRAM)
 	@tools/inject $(PROGRAM)
 	@tools/mutate $(TRIES)
+	@tools/try-calls $(CALLS)
 
 try: all
 	@tools/try-machine $(PROGRAM) examples
