@@ -2,11 +2,13 @@
 //! Runs of the program over files in memory, whose devices can be slow or fail, as scripts say. For tests alone.
 #![tactic(auto)]
 
+mod bare;
 mod contents;
 mod discs;
 mod given;
 mod hostile;
 mod names;
+mod recorder;
 mod runs;
 mod scripts;
 mod seen;

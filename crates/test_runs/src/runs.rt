@@ -1,13 +1,16 @@
 //! A run of the program over files in memory, and files to run it on.
 
+use crate::bare::Bare;
+use crate::recorder::Recorder;
 use std::alloc::{AllocError, Global};
 use std::cell::RefCell;
 use std::io;
 use std::io::Write;
 use std::rc::Rc;
 use udfs_commands::{refuse_words, run};
+use udfs_files::{Files, Machine};
 use udfs_lattice::BlockTable;
-use udfs_memory::{Device, Memory, SOUND};
+use udfs_memory::{Device, Memory, MemoryCalls, MemoryDisk, SOUND};
 use udfs_reading::{Writer, write_table};
 
 /// What was printed, which the test and the run share.
@@ -41,15 +44,11 @@ impl Write for Taker {
     }
 }
 
-/// Puts the file of a table at `disc.tab`.
-pub fn store_table(
-    alloc: Global,
-    memory: &mut Memory,
-    table: &BlockTable,
-) -> Result<(), AllocError> {
+/// The file of a table.
+pub fn table_file(alloc: Global, table: &BlockTable) -> Result<Vec<u8>, AllocError> {
     let mut file = Writer::new(Vec::new(alloc));
     write_table(table, &mut file).map_err(|_| AllocError)?;
-    memory.store("disc.tab", file.into_inner().as_slice())
+    Ok(file.into_inner())
 }
 
 /// What a run returned and printed.
@@ -72,8 +71,39 @@ impl Outcome {
     }
 }
 
+/// Runs the program with these arguments, over the machine's files on a disk in memory.
+pub fn ran(
+    alloc: Global,
+    disk: &mut MemoryDisk,
+    watch: &Recorder,
+    words: &str,
+) -> Result<Outcome, AllocError> {
+    let terminal = disk.terminal;
+    let rt = Bare {
+        alloc,
+        zone: disk.zone,
+    };
+    let mut files = Machine::new(MemoryCalls::new(disk), &rt, watch);
+    ran_over(alloc, &mut files, terminal, words)
+}
+
+/// Runs the program with these arguments, over files in memory.
+pub fn ran_in_memory(
+    alloc: Global,
+    memory: &mut Memory,
+    words: &str,
+) -> Result<Outcome, AllocError> {
+    let terminal = memory.terminal;
+    ran_over(alloc, memory, terminal, words)
+}
+
 /// Runs the program with these arguments, separated by spaces, after its name.
-pub fn ran(alloc: Global, memory: &mut Memory, words: &str) -> Result<Outcome, AllocError> {
+fn ran_over<F: Files>(
+    alloc: Global,
+    files: &mut F,
+    terminal: Device,
+    words: &str,
+) -> Result<Outcome, AllocError> {
     let mut list: Vec<String> = Vec::new(alloc);
     list.push(String::from_str(alloc, "udfsalvage")?)?;
     for word in words.split(' ').filter(|word| !word.is_empty()) {
@@ -81,11 +111,10 @@ pub fn ran(alloc: Global, memory: &mut Memory, words: &str) -> Result<Outcome, A
     }
     let out = Rc::new(alloc, RefCell::new(Vec::with_capacity(alloc, 4096)?))?;
     let err = Rc::new(alloc, RefCell::new(Vec::with_capacity(alloc, 4096)?))?;
-    let terminal = memory.terminal;
     let status = run(
         alloc,
         list.as_slice(),
-        memory,
+        files,
         &mut sink(&out, terminal)?,
         &mut sink(&err, SOUND)?,
     );
@@ -150,10 +179,10 @@ pub fn table(alloc: Global, entries: &[Record]) -> Result<Vec<u8>, AllocError> {
 }
 
 /// Puts the files a.rd with block 300 of bytes 61 hex, b.rd with block 301 of bytes 62 hex, and c.rd which disputes block 300.
-pub fn store_passes(alloc: Global, memory: &mut Memory) -> Result<(), AllocError> {
-    memory.store("a.rd", reading(alloc, &[(300, 0x61)])?.as_slice())?;
-    memory.store("b.rd", reading(alloc, &[(301, 0x62)])?.as_slice())?;
-    memory.store("c.rd", reading(alloc, &[(300, 0x63)])?.as_slice())
+pub fn store_passes(alloc: Global, disk: &mut MemoryDisk) -> Result<(), AllocError> {
+    disk.store("a.rd", reading(alloc, &[(300, 0x61)])?.as_slice())?;
+    disk.store("b.rd", reading(alloc, &[(301, 0x62)])?.as_slice())?;
+    disk.store("c.rd", reading(alloc, &[(300, 0x63)])?.as_slice())
 }
 
 /// The status, and what is printed, where the arguments were not available: memory ran out, or one of them is not text.

@@ -119,7 +119,7 @@ fn try_lines(
     case: &str,
     number: usize,
 ) -> Result<(), AllocError> {
-    let mut trial = Trial::new(alloc);
+    let mut trial = Trial::new(alloc)?;
     let length = told.len();
     let digits = format!(in alloc; "{number}")?;
     trial.name("n", digits.as_str())?;

@@ -5,7 +5,7 @@ use crate::runs::Outcome;
 use crate::texts::{first_word, number_of};
 use crate::trial::Trial;
 use std::alloc::AllocError;
-use udfs_memory::Memory;
+use udfs_memory::MemoryDisk;
 
 /// The keywords that are followed by a text.
 const TEXTS: [&str; 11] = [
@@ -71,7 +71,7 @@ fn is_text(trial: &Trial, ran: &Outcome, word: &str, text: &str) -> bool {
         "refused" => ran.is_refused(text),
         "error" => ran.err.as_str() == text,
         "error-begins" => ran.err.as_str().starts_with(text),
-        "remarked" => trial.memory.has_remarked(text),
+        "remarked" => trial.watch.has_remarked(text),
         "line" => ran.status < 2 && ran.err.is_empty() && has_line(ran.out.as_str(), text),
         "nodes" => nodes_in(ran.out.as_str()) == text,
         "nodes-have" => nodes_in(ran.out.as_str()).contains(text),
@@ -123,7 +123,7 @@ fn is_number(trial: &Trial, ran: &Outcome, word: &str, number: usize, text: &str
             usize::from(ran.status) == number && ran.out.as_str() == text && ran.err.is_empty()
         }
         "out-lines" => lines_with(ran.out.as_str(), text) == number,
-        "files" => trial.memory.count() == number,
+        "files" => trial.memory.files() == number,
         _ => trial.memory.calls() == number as u64,
     }
 }
@@ -158,7 +158,7 @@ fn see_path(trial: &Trial, word: &str, rest: &str) -> Result<bool, AllocError> {
     }
 }
 
-fn is_time(memory: &Memory, path: &str, time: &str) -> Result<bool, AllocError> {
+fn is_time(memory: &MemoryDisk, path: &str, time: &str) -> Result<bool, AllocError> {
     if time == "none" {
         return Ok(memory.modified(path).is_none());
     }
@@ -166,7 +166,7 @@ fn is_time(memory: &Memory, path: &str, time: &str) -> Result<bool, AllocError> 
     Ok(memory.modified(path) == Some(micros))
 }
 
-fn is_at(memory: &Memory, word: &str, path: &str, rest: &str) -> bool {
+fn is_at(memory: &MemoryDisk, word: &str, path: &str, rest: &str) -> bool {
     match word {
         "absent" => memory.is_absent(path),
         "there" => !memory.is_absent(path),
@@ -196,7 +196,7 @@ fn is_part(held: &str, word: &str, text: &str) -> bool {
 }
 
 /// The text that a file holds.
-fn held_text<'a>(memory: &'a Memory, path: &'a str) -> &'a str {
+fn held_text<'a>(memory: &'a MemoryDisk, path: &'a str) -> &'a str {
     std::str::from_utf8(memory.bytes(path).unwrap_or(&[])).unwrap_or("")
 }
 
@@ -217,7 +217,7 @@ fn see_other(
             Ok(Some(is_front(trial, ran, text.as_slice())))
         }
         "silent" => Ok(Some(ran.is_silent())),
-        "same-files" => Ok(Some(trial.memory.count() == trial.files)),
+        "same-files" => Ok(Some(trial.memory.files() == trial.files)),
         "no-call" => Ok(Some(trial.memory.calls() == trial.calls)),
         _ => Ok(None),
     }

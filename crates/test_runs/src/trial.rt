@@ -2,18 +2,21 @@
 
 use crate::discs::volume;
 use crate::names::names_of;
-use crate::runs::{Outcome, ran, store_table};
+use crate::recorder::Recorder;
+use crate::runs::{Outcome, ran, table_file};
 use crate::texts::{Name, block_of, blocks_of, byte_of, bytes_of, first_word, text_of};
 use std::alloc::{AllocError, Global};
 use udfs_lattice::BlockTable;
-use udfs_memory::Memory;
+use udfs_memory::MemoryDisk;
 use udfs_samples::Disc;
 
 /// What a case has so far.
 #[derive(Drop)]
 pub struct Trial {
     pub alloc: Global,
-    pub memory: Memory,
+    pub memory: MemoryDisk,
+    /// What was remarked.
+    pub watch: Recorder,
     pub names: Vec<Name>,
     /// The disc, once one is spoken of.
     pub disc: Option<Disc>,
@@ -28,17 +31,18 @@ pub struct Trial {
 
 impl Trial {
     /// Nothing yet.
-    pub fn new(alloc: Global) -> Trial {
-        Trial {
+    pub fn new(alloc: Global) -> Result<Trial, AllocError> {
+        Ok(Trial {
             alloc,
-            memory: Memory::new(alloc),
+            memory: MemoryDisk::new(alloc)?,
+            watch: Recorder::new(alloc),
             names: Vec::new(alloc),
             disc: None,
             table: None,
             ran: None,
             calls: 0,
             files: 0,
-        }
+        })
     }
 
     /// The bytes of a text.
@@ -61,12 +65,13 @@ impl Trial {
     /// Stores the table's file if there is a table, and runs the program with these arguments, separated by spaces.
     pub fn run(&mut self, words: &str) -> Result<(), AllocError> {
         if let Some(table) = self.table.take() {
-            store_table(self.alloc, &mut self.memory, &table)?;
+            self.memory
+                .store("disc.tab", table_file(self.alloc, &table)?.as_slice())?;
         }
         self.calls = self.memory.calls();
-        self.files = self.memory.count();
+        self.files = self.memory.files();
         let words = self.text(words)?;
-        self.ran = Some(ran(self.alloc, &mut self.memory, words.as_str())?);
+        self.ran = Some(ran(self.alloc, &mut self.memory, &self.watch, words.as_str())?);
         Ok(())
     }
 

@@ -2,7 +2,7 @@
 //! memory and the preparation need memory too: where that runs out, the call returns an error.
 
 use crate::names::names_of;
-use crate::runs::{Outcome, ran, reading, store_table, table};
+use crate::runs::{Outcome, ran_in_memory, reading, table, table_file};
 use std::alloc::{AllocError, Global};
 use udfs_lattice::{BlockTable, TableError};
 use udfs_memory::Memory;
@@ -36,13 +36,13 @@ fn with_table(alloc: Global, table: Result<BlockTable, TableError>) -> Result<Me
         return Err(AllocError);
     };
     let mut memory = Memory::new(alloc);
-    store_table(alloc, &mut memory, &table)?;
+    memory.store("disc.tab", table_file(alloc, &table)?.as_slice())?;
     Ok(memory)
 }
 
 /// Runs the program with the arguments, and returns an error where the files in memory ran out of memory.
 fn ran_with_memory(alloc: Global, memory: &mut Memory, words: &str) -> Result<Outcome, AllocError> {
-    let ran = ran(alloc, memory, words)?;
+    let ran = ran_in_memory(alloc, memory, words)?;
     if memory.wanted_memory() {
         return Err(AllocError);
     }
