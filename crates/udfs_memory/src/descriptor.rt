@@ -1,6 +1,7 @@
 //! What was opened on a disk in memory.
 
-ghost use Rattle.std.specs.Prelude.{◌≡◌, ◌≤◌, ◌<◌, All, IfOk, Some, None, length, take, drop};
+ghost use Rattle.std.specs.Prelude.{◌≡◌, ◌≤◌, ◌<◌, All, IfOk, OnOk, OnErr, Some, None, length, take, drop};
+ghost use Rattle.udfs_calls.specs.Files.{written};
 
 use crate::contents::{rest, with_piece, with_size};
 use crate::devices::Device;
@@ -38,6 +39,14 @@ pub struct MemoryDescriptor {
     /// Whether it then takes no byte instead.
     takes_none: bool,
     ghost sound: { All (λ byte. byte < 256) bytes.items },
+}
+
+/// These bytes, which are bytes.
+fn sound(bytes: Vec<u8>) -> Vec<u8>
+    ensures same { result.items ≡ bytes.items }
+    ensures sound { All (λ byte. byte < 256) result.items }
+{
+    bytes
 }
 
 impl MemoryDescriptor {
@@ -129,6 +138,17 @@ impl MemoryDescriptor {
         Ok(count)
     }
 
+    /// Writes a piece into its own bytes, at the position, which stays.
+    fn place(&mut self, piece: &[u8]) -> Result<(), Error>
+        ensures done { OnOk result (self.new.bytes.items ≡ written self.old.at piece.now self.old.bytes.items) }
+        ensures failed { OnErr result (self.new.bytes.items ≡ self.old.bytes.items) }
+        ensures stays { self.new.at ≡ self.old.at }
+    {
+        let after = with_piece(self.alloc, &self.bytes, self.at, piece)?;
+        self.bytes = sound(after);
+        Ok(())
+    }
+
     /// How many of these bytes the device takes.
     ///
     /// # Errors
@@ -181,7 +201,7 @@ impl Opened for MemoryDescriptor {
             return Err(Error::from(ErrorKind::FileTooLarge));
         };
         self.inode.write(self.at, &buf[..count])?;
-        self.bytes = with_piece(self.alloc, &self.bytes, self.at, &buf[..count])?;
+        self.place(&buf[..count])?;
         self.at = next;
         self.moved(count);
         Ok(count)

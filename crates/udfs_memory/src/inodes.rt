@@ -65,8 +65,12 @@ impl Inode {
     /// Writes a piece at a position.
     pub(crate) fn write(&self, at: u64, piece: &[u8]) -> Result<(), Error> {
         let mut held = self.bytes.try_borrow_mut()?;
-        *held = with_piece(self.alloc, held.as_slice(), at, piece)?;
         self.modified.set(None);
+        if at == held.len() as u64 {
+            held.extend_from_slice(piece)?;
+            return Ok(());
+        }
+        *held = with_piece(self.alloc, held.as_slice(), at, piece)?;
         Ok(())
     }
 
