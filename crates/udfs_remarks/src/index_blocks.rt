@@ -21,12 +21,12 @@ const BYTES: u64 = 1 << 44;
 
 /// The blocks of an index, each of which is read again from its input where its bytes are asked for. It remembers what could not be read.
 #[derive(Drop)]
-pub struct IndexBlocks<'i, 'a, S: Stored> {
+pub struct IndexBlocks<'i, 'a, S: Stored + 'a> {
     index: &'i Index<'a, S>,
     unread: Cell<Option<Unread>>,
 }
 
-impl<'i, 'a, S: Stored> IndexBlocks<'i, 'a, S> {
+impl<'i, 'a, S: Stored + 'a> IndexBlocks<'i, 'a, S> {
     /// The blocks of this index.
     pub fn new(index: &'i Index<'a, S>) -> IndexBlocks<'i, 'a, S>
         ensures { (t : Table) → AreAllTold S.content → IsTable t → ⟦<Index<'a, S> as Taker<Cursor<'a, S>>>⟧.took index.now t → ⟦<IndexBlocks<'i, 'a, S> as ReportStore>⟧.holds result t }
@@ -74,7 +74,7 @@ impl<'i, 'a, S: Stored> IndexBlocks<'i, 'a, S> {
     }
 }
 
-impl<'i, 'a, S: Stored> BlockStore for IndexBlocks<'i, 'a, S> {
+impl<'i, 'a, S: Stored + 'a> BlockStore for IndexBlocks<'i, 'a, S> {
     ghost tells = { AreAllTold S.content };
 
     ghost states = { λ x. bounded (⟦<Index<'a, S> as BlockStore>⟧.states x.index.now) };
@@ -124,7 +124,7 @@ impl<'i, 'a, S: Stored> BlockStore for IndexBlocks<'i, 'a, S> {
     }
 }
 
-impl<'i, 'a, S: Stored> ReportStore for IndexBlocks<'i, 'a, S> {
+impl<'i, 'a, S: Stored + 'a> ReportStore for IndexBlocks<'i, 'a, S> {
     ghost holds = { λ x. IsTakenTable (AreAllTold S.content) (⟦<Index<'a, S> as Taker<Cursor<'a, S>>>⟧.took x.index.now) (bounded (⟦<Index<'a, S> as BlockStore>⟧.states x.index.now)) };
 
     ghost held = { λ x t h n. h.same n };

@@ -1,7 +1,8 @@
 //! `reread` of inputs that are read at positions: no block is held.
 
-ghost use Rattle.std.specs.Prelude.{◌≡◌, [], IfOk, IfErr};
-ghost use Rattle.udfs_lattice.specs.Tables.{Table};
+ghost use Rattle.std.specs.Prelude.{◌≡◌, [], IfOk, IfErr, OnErr};
+ghost use Rattle.udfs_index.specs.Copying.{AreAllTold};
+ghost use Rattle.udfs_lattice.specs.Tables.{IsTable, Table};
 ghost use Rattle.udfs_reading.specs.Writing.{Failed, Wrote};
 ghost use Rattle.udfs_salvage.specs.Listings.{listing_by};
 ghost use Rattle.udfs_salvage.specs.Reports.{all_whole};
@@ -13,7 +14,7 @@ ghost use Rattle.udfs_common.specs.Blaming.{stored_reason};
 ghost use Rattle.udfs_common.specs.Volumes.{IsStoredDisc};
 ghost use Rattle.udfs_remarks.specs.NoReports.{IsUntold, salvage_refusal_of};
 ghost use Rattle.udfs_reports.specs.Paths.{IsListingFor};
-ghost use Rattle.udfs_reports.specs.Rereading.{PrintsNoNumbers, PrintsNumbers};
+ghost use Rattle.udfs_reports.specs.Rereading.{IsRefusedNumbers, PrintsNoNumbers, PrintsNumbers, TellsNumbers};
 
 use std::alloc::Global;
 use udfs_common::files::Files;
@@ -21,10 +22,10 @@ use udfs_common::known::Known;
 use udfs_common::refusal::Refusal;
 use udfs_common::stored_volumes::{StoredDisc, indexed_volume, unread_volume};
 use udfs_files::Stage;
-use udfs_index::{END, Stored, Unread};
+use udfs_index::{Cursor, END, Index, Stored, Unread};
 use udfs_lattice::{BlockStore, GaveUp};
 use udfs_pairs::AnyStored;
-use udfs_reading::{Sink, WriteFault};
+use udfs_reading::{Sink, Taker, WriteFault};
 use udfs_remarks::IndexBlocks;
 use udfs_remarks::no_reports::refused_report;
 use udfs_remarks::remarks::remark_on_listing_by;
@@ -77,6 +78,43 @@ fn print_numbers<B: BlockStore, O: Sink>(
     }
 }
 
+/// Prints the numbers of the blocks of an index's volume that are worth reading again by the rules of a profile, where `last` is its last block, and returns whether
+/// there are nodes and all are whole.
+///
+/// # Errors
+///
+/// `Unread` where the bytes of a known block could not be read, or an input has changed: nothing is printed then.
+fn tell_index<'a, S: Stored + 'a, F: Files, O: Sink>(
+    alloc: Global,
+    index: &Index<'a, S>,
+    last: u32,
+    profile: Profile,
+    files: &F,
+    out: &mut O,
+) -> Result<Result<bool, Refusal>, Unread>
+    ensures printed { IfOk result (λ told. IfOk told (λ whole. AreAllTold S.content → (t : Table) → IsTable t → ⟦<Index<'a, S> as Taker<Cursor<'a, S>>>⟧.took index.now t → TellsNumbers [] profile last (O.stream out.old) (O.stream out.new) whole t)) }
+    ensures refused { IfOk result (λ told. IfErr told (λ refusal. AreAllTold S.content → (t : Table) → IsTable t → ⟦<Index<'a, S> as Taker<Cursor<'a, S>>>⟧.took index.now t → IsRefusedNumbers [] profile last (O.stream out.old) (O.stream out.new) refusal t)) }
+    ensures unread { OnErr result (O.stream out.new ≡ O.stream out.old) }
+{
+    files.begin(Stage::Walking);
+    let blocks = IndexBlocks::new(index);
+    let found = match numbers_in(alloc, &blocks, last, profile) {
+        Ok(found) => found,
+        Err(StoreError::Salvage(error)) => return Ok(Err(refused_report(error))),
+        Err(StoreError::Unread) => return Err(blocks.unread()),
+    };
+    if let Some(input) = index.changed() {
+        return Err(Unread { input, at: END });
+    }
+    match print_numbers(&found, out) {
+        Ok(whole) => {
+            let _ = remark_on_listing_by(alloc, &found.listing, files);
+            Ok(Ok(whole))
+        }
+        Err(refusal) => Ok(Err(refusal)),
+    }
+}
+
 /// Prints the numbers of the blocks of a volume that are worth reading again, as [`reread`](crate::reread::reread) does where no path is given. Where a block could
 /// not be read, or an input has changed, nothing is printed.
 pub fn tell_stored<F: Files, O: Sink>(
@@ -96,24 +134,8 @@ pub fn tell_stored<F: Files, O: Sink>(
         Ok(index) => index,
         Err(refusal) => return Err(refusal),
     };
-    files.begin(Stage::Walking);
-    let blocks = IndexBlocks::new(&index);
-    let found = match numbers_in(alloc, &blocks, disc.last, volume.profile) {
-        Ok(found) => found,
-        Err(StoreError::Salvage(error)) => return Err(refused_report(error)),
-        Err(StoreError::Unread) => {
-            return Err(unread_volume(volume, disc, blocks.unread(), files));
-        }
-    };
-    if let Some(input) = index.changed() {
-        let unread = Unread { input, at: END };
-        return Err(unread_volume(volume, disc, unread, files));
-    }
-    match print_numbers(&found, out) {
-        Ok(whole) => {
-            let _ = remark_on_listing_by(alloc, &found.listing, files);
-            Ok(whole)
-        }
-        Err(refusal) => Err(refusal),
+    match tell_index(alloc, &index, disc.last, volume.profile, files, out) {
+        Ok(told) => told,
+        Err(unread) => Err(unread_volume(volume, disc, unread, files)),
     }
 }
