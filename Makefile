@@ -92,6 +92,8 @@ try: all
 	@tools/try-terminal $(PROGRAM) examples
 	@tools/try-ddrescue $(PROGRAM) examples
 	@tools/try-volumes $(PROGRAM) examples
+	@tools/try-lost $(PROGRAM)
+	@tools/try-writers $(PROGRAM)
 	@tools/try-second-reader $(PROGRAM) examples
 	@tools/try-rescue $(PROGRAM)
 

@@ -1,6 +1,7 @@
 //! The program over files in memory. What is expected comes from the formats' description, byte by byte.
 
 mod closing;
+mod copies;
 mod devices;
 mod disagreeing;
 mod ends;
@@ -9,13 +10,18 @@ mod extracting;
 mod forgetting;
 mod hostile;
 mod imaging;
+mod inputs;
 mod json;
 mod keeping;
 mod listing;
+mod lists;
+mod lost;
 mod manifests;
+mod mapfiles;
 mod merging;
 mod only;
 mod other_discs;
+mod pages;
 mod paging;
 mod pair_faults;
 mod pairs;
@@ -24,16 +30,19 @@ mod refusals;
 mod reporting;
 mod rereading;
 mod rereading_paths;
+mod revisions;
 mod short_names;
 mod sizes;
 mod sparing;
 mod stored;
 mod stored_images;
+mod stored_rereads;
 mod summing;
 mod summing_json;
 mod times;
 mod unnamed;
 mod versions;
+mod walks;
 mod words;
 
 use std::alloc::Global;

@@ -1,16 +1,17 @@
 //! What the files of scripts hold.
 
 use crate::runs::{Record, header, number, reading, table};
-use crate::texts::{Name, block_of, byte_of, bytes_of, first_word, number_of};
+use crate::texts::{Name, block_of, byte_of, bytes_of, first_word, number_of, text_of};
 use std::alloc::{AllocError, Global};
 use udfs_samples::{Disc, LAST};
 
-/// The bytes of a file that is given in a line: `text T`, `reading R`, `longer R`, which has a byte of zeros appended, `front N R`, which has
-/// the first N bytes alone, `table R`, `blocks R`, the bytes of its blocks alone, or `sample`, the reading of all blocks of the volume with one map.
+/// The bytes of a file that is given in a line: `text T`, `cut N T`, which has the first N bytes of the text alone, `reading R`, `longer R`, which has
+/// a byte of zeros appended, `front N R`, which has the first N bytes alone, `table R`, `blocks R`, the bytes of its blocks alone, or `sample`, the reading of all blocks of the volume with one map.
 pub fn content_of(alloc: Global, names: &[Name], line: &str) -> Result<Vec<u8>, AllocError> {
     let (kind, rest) = first_word(line);
     match kind {
         "text" => bytes_of(alloc, names, rest),
+        "cut" => cut_of(alloc, names, rest),
         "reading" => reading(alloc, records_of(alloc, rest)?.as_slice()),
         "longer" => longer(alloc, records_of(alloc, rest)?.as_slice()),
         "front" => front_of(alloc, names, rest),
@@ -39,11 +40,22 @@ fn longer(alloc: Global, records: &[Record]) -> Result<Vec<u8>, AllocError> {
 
 /// The first N bytes of the reading file of the records R, for a line `N R`.
 fn front_of(alloc: Global, names: &[Name], line: &str) -> Result<Vec<u8>, AllocError> {
-    let (length, rest) = first_word(line);
-    let digits = bytes_of(alloc, names, length)?;
-    let length = number_of(std::str::from_utf8(digits.as_slice()).unwrap_or(""))?;
+    let (digits, rest) = first_word(line);
     let whole = reading(alloc, records_of(alloc, rest)?.as_slice())?;
-    match whole.as_slice().get(..length) {
+    front(alloc, names, digits, whole.as_slice())
+}
+
+/// The first N bytes of the text T, for a line `N T`.
+fn cut_of(alloc: Global, names: &[Name], line: &str) -> Result<Vec<u8>, AllocError> {
+    let (digits, rest) = first_word(line);
+    let whole = bytes_of(alloc, names, rest)?;
+    front(alloc, names, digits, whole.as_slice())
+}
+
+/// As many of these bytes as the digits say.
+fn front(alloc: Global, names: &[Name], digits: &str, whole: &[u8]) -> Result<Vec<u8>, AllocError> {
+    let digits = text_of(alloc, names, digits)?;
+    match whole.get(..number_of(digits.as_str())?) {
         Some(front) => Vec::from_slice(alloc, front),
         None => Err(AllocError),
     }

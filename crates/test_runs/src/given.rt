@@ -37,12 +37,12 @@ fn put_file(trial: &mut Trial, line: &str) -> Result<(), AllocError> {
     trial.memory.store(path, bytes.as_slice())
 }
 
-/// `disc VOLUME` takes a volume, which `write`, `fill` and `directory` change. `but BLOCKS` makes `disc.tab` of all blocks but these, `at
+/// `disc VOLUME` takes a volume, which `write`, `tag`, `fill` and `directory` change. `but BLOCKS` makes `disc.tab` of all blocks but these, `at
 /// BLOCKS` of these alone; `also BLOCK BYTE` is another content of a block.
 fn give_disc(trial: &mut Trial, word: &str, rest: &str) -> Result<bool, AllocError> {
     match word {
         "disc" => trial.take_volume(rest)?,
-        "write" | "fill" | "directory" => trial.change_disc(word, rest)?,
+        "write" | "tag" | "fill" | "directory" => trial.change_disc(word, rest)?,
         "but" => trial.know(true, rest)?,
         "at" => trial.know(false, rest)?,
         "also" => trial.dispute(rest)?,

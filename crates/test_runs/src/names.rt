@@ -28,8 +28,12 @@ const OVER: &[u8] =
 const CONTROLS: &[u8] =
     b"\x08\x01\x01\x01\x01\x01\x01\x01\x01\x01\x01\x01\x01\x01\x01\x01\x01\x01\x01\x01\x01\x01\x01\x01\x01\x01\x01\x01\x01\x01\x01\x01\x01\x01\x01\x01\x01\x01\x01\x01\x01\x01\x01\x01";
 
+/// 70 letters.
+const LETTERS: &[u8] =
+    b"\x08abcdefghijklmnopqrstuvwxyzabcdefghijklmnopqrstuvwxyzabcdefghijklmnopqr";
+
 /// Each name, after the key by which lists select it.
-static NAMES: [(&str, &[u8]); 19] = [
+static NAMES: [(&str, &[u8]); 50] = [
     ("A", b"\x08A"),
     ("B", b"\x08B"),
     ("C", b"\x08C"),
@@ -49,6 +53,37 @@ static NAMES: [(&str, &[u8]); 19] = [
     ("full", FULL),
     ("over", OVER),
     ("controls", CONTROLS),
+    ("a", b"\x08a"),
+    ("b", b"\x08b"),
+    ("c", b"\x08c"),
+    ("d", b"\x08d"),
+    ("e", b"\x08e"),
+    ("f", b"\x08f"),
+    ("g", b"\x08g"),
+    ("h", b"\x08h"),
+    ("i", b"\x08i"),
+    ("j", b"\x08j"),
+    ("k", b"\x08k"),
+    ("l", b"\x08l"),
+    ("m", b"\x08m"),
+    ("n", b"\x08n"),
+    ("o", b"\x08o"),
+    ("p", b"\x08p"),
+    ("q", b"\x08q"),
+    ("r", b"\x08r"),
+    ("s", b"\x08s"),
+    ("t", b"\x08t"),
+    ("u", b"\x08u"),
+    ("v", b"\x08v"),
+    ("w", b"\x08w"),
+    ("x", b"\x08x"),
+    ("y", b"\x08y"),
+    ("z", b"\x08z"),
+    ("japan", b"\x10\x65\xe5\x67\x2c"),
+    ("turned", b"\x10\x20\x2e\x00a"),
+    ("quoted", b"\x08a\"\x09b"),
+    ("html", b"\x10\0<\0b\0>\0&\0\"\0'\x20\x2e"),
+    ("letters", LETTERS),
 ];
 
 /// The names of a list, each as `WORD=BLOCK` with the logical block of its entry.

@@ -142,6 +142,14 @@ pub fn block_of(digits: &str) -> Result<u32, AllocError> {
     }
 }
 
+/// The number of these digits, in 16 bits.
+pub fn short_of(digits: &str) -> Result<u16, AllocError> {
+    match digits.parse::<u16>() {
+        Ok(number) => Ok(number),
+        Err(_) => Err(AllocError),
+    }
+}
+
 /// The numbers of a list, in which single spaces part them.
 pub fn blocks_of(alloc: Global, list: &str) -> Result<Vec<u32>, AllocError> {
     let mut blocks = Vec::new(alloc);

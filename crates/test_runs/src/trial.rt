@@ -3,7 +3,7 @@
 use crate::discs::volume;
 use crate::names::names_of;
 use crate::runs::{Outcome, ran, store_table};
-use crate::texts::{Name, block_of, blocks_of, byte_of, bytes_of, first_word, text_of};
+use crate::texts::{Name, block_of, blocks_of, byte_of, bytes_of, first_word, short_of, text_of};
 use std::alloc::{AllocError, Global};
 use udfs_lattice::BlockTable;
 use udfs_memory::Memory;
@@ -98,7 +98,7 @@ impl Trial {
         Ok(())
     }
 
-    /// Changes the disc by a line `write BLOCK AT TEXT`, `fill BLOCK BYTE` or `directory BLOCK NAMES`.
+    /// Changes the disc by a line `write BLOCK AT TEXT`, `tag BLOCK IDENTIFIER LOCATION`, `fill BLOCK BYTE` or `directory BLOCK NAMES`.
     pub fn change_disc(&mut self, word: &str, line: &str) -> Result<(), AllocError> {
         let (block, rest) = first_word(line);
         let block = block_of(block)?;
@@ -108,6 +108,12 @@ impl Trial {
                 let bytes = self.bytes(text)?;
                 self.disc()?
                     .write_at(block, block_of(at)? as usize, bytes.as_slice())
+            }
+            "tag" => {
+                let (identifier, location) = first_word(rest);
+                let identifier = short_of(identifier)?;
+                self.disc()?
+                    .write_tag(block, 0, identifier, block_of(location)?)
             }
             "fill" => self.disc()?.fill(block, byte_of(rest)?),
             _ => {

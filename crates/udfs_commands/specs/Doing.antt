@@ -17,11 +17,10 @@ use Rattle.udfs_tables.specs.Imaging.{IsImaged, IsPairFree}
 use Rattle.udfs_tables.specs.Merging.{IsMerged}
 use Rattle.udfs_tables.specs.Outputs.{IsOutFree}
 use Rattle.udfs_tables.specs.Pairing.{IsPairPut, SparesPair}
-use Rattle.udfs_reports.specs.Giving.{given_by}
 use Rattle.udfs_reports.specs.LostListing.{PrintsList}
 use Rattle.udfs_reports.specs.Paging.{IsPage, IsPageFree}
 use Rattle.udfs_reports.specs.Reporting.{form_text}
-use Rattle.udfs_reports.specs.Summarizing.{summary_of}
+use Rattle.udfs_reports.specs.Summarizing.{PrintsSummary}
 use Rattle.udfs_reports.specs.Rereading.{IsMap, IsMapFree, IsSomeMap, PrintsNumbers}
 use Rattle.udfs_reports.specs.Telling.{PrintsText}
 use Rattle.udfs_extraction.specs.ByRequest.{IsExtracted}
@@ -46,7 +45,7 @@ module _ {F I M S W : Type 0} (reach : Reach F I M S W) (old : F) where
   Does stream (request.Reread r) new before after whole = MatchOption r.mapfile (PrintsNumbers reach old r (stream before) (stream after) whole)
       (λ path. IsPut reach (IsMap reach old r (stream before) (stream after) whole) path.now old new × IsMapFree reach old r path.now)
   Does stream (request.List r) new before after whole = PrintsList reach old (form_of r) r (stream before) (stream after) whole
-  Does stream (request.Summary r) new before after whole = PrintsText reach old (summary_of r.form (given_by r.volume r.size)) r.volume (stream before) (stream after) whole
+  Does stream (request.Summary r) new before after whole = PrintsSummary reach old r (stream before) (stream after) whole
   Does stream (request.Page r) new before after whole = IsPut reach (IsPage reach old r whole) r.out.now old new × IsPageFree reach old r
   Does stream (request.Extract r) new before after whole = IsExtracted reach stream r old new before after whole
 

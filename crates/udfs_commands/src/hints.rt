@@ -311,28 +311,56 @@ fn of_folder(
     Ok(Some(line))
 }
 
-/// What is said of a folder for lost files that is not to be made.
+/// What is said of a folder for lost files, or for lost folders, that is not to be made. Which of two it is, the system does not say.
 fn of_lost_place(
     alloc: Global,
     request: &ExtractRequest<'_>,
 ) -> Result<Option<String>, AllocError> {
-    let folder = Shown(request.lost.unwrap_or(""));
-    Ok(Some(format!(in alloc;
-        "{folder} exists already, or is where another output goes, or the folder that it is in does not exist; --unnamed wants a new folder"
-    )?))
+    let text =
+        "exists already, or is where another output goes, or the folder that it is in does not exist";
+    let line = match (request.lost, request.trees) {
+        (Some(lost), None) => {
+            format!(in alloc; "{} {text}; --unnamed wants a new folder", Shown(lost))?
+        }
+        (None, Some(trees)) => {
+            format!(in alloc; "{} {text}; --lost wants a new folder", Shown(trees))?
+        }
+        (Some(lost), Some(trees)) => {
+            format!(in alloc;
+                "{} or {} {text}; --unnamed and --lost want new folders",
+                Shown(lost),
+                Shown(trees)
+            )?
+        }
+        (None, None) => return Ok(None),
+    };
+    Ok(Some(line))
 }
 
-/// What is said of a folder for lost files that could not be made.
+/// What is said of a folder for lost files, or for lost folders, that could not be made.
 fn of_lost_folder(
     alloc: Global,
     request: &ExtractRequest<'_>,
     reason: Option<Error>,
 ) -> Result<Option<String>, AllocError> {
-    let folder = Shown(request.lost.unwrap_or(""));
-    Ok(Some(format!(in alloc;
-        "{folder}: {}; the files that have a name are written",
-        Said(reason)
-    )?))
+    let reason = Said(reason);
+    let line = match (request.lost, request.trees) {
+        (Some(folder), None) | (None, Some(folder)) => {
+            format!(in alloc;
+                "{}: {reason}; the files that have a name are written",
+                Shown(folder)
+            )?
+        }
+        (Some(lost), Some(trees)) => {
+            format!(in alloc;
+                "{} or {}: {reason}; the files that have a name are written",
+                Shown(lost),
+                Shown(trees)
+            )?
+        }
+        (None, None) => return Ok(None),
+    };
+    Ok(Some(line))
 }
 
 /// What is said of a path of `--only` that is that of no node.

@@ -10,14 +10,13 @@ use udfs_common::refusal::Refusal;
 use udfs_extraction::extract::extract;
 use udfs_overview::ListForm;
 use udfs_reading::Sink;
-use udfs_reports::giving::given_by;
 use udfs_reports::list::NodeLines;
 use udfs_reports::lost_list::list;
 use udfs_reports::page::page;
 use udfs_reports::report::ReportAs;
 use udfs_reports::reread::reread;
 use udfs_reports::reread_map::reread_map;
-use udfs_reports::summary::Summary;
+use udfs_reports::summary::summary;
 use udfs_reports::telling::tell;
 use udfs_tables::forget::forget;
 use udfs_tables::image::image;
@@ -75,13 +74,7 @@ pub fn perform<F: Files, O: Sink>(
             Some(path) => reread_map(alloc, asked, path, files, out),
         },
         Request::List(asked) => list(alloc, asked, &node_lines(asked), files, out),
-        Request::Summary(summary) => {
-            let telling = Summary {
-                given: given_by(&summary.volume, summary.size),
-                form: summary.form,
-            };
-            tell(alloc, &summary.volume, &telling, files, out)
-        }
+        Request::Summary(asked) => summary(alloc, asked, files, out),
         Request::Page(asked) => page(alloc, asked, files),
         Request::Extract(asked) => extract(alloc, asked, files, out),
     }

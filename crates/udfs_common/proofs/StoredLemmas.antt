@@ -1,7 +1,5 @@
 -- Inputs that are read at positions have the tables of their paths.
-use Rattle.std.proofs.Common.{◌≡◌, ◌⊎◌, ◌+◌, ◌-◌, ◌<◌, Err, alloc_error, ℕ, zero, suc, List, [], ◌∷◌, ◌++◌, length, map, take, get_or, Option, None, Some, IfSome, slice_get, refl, sym, ap, subst, ◌∙◌, inl, inr, arith}
-use Rattle.std.proofs.Math.Seq.{take-suc}
-use Rattle.std.proofs.lemmas.List.{map-append}
+use Rattle.std.proofs.Common.{◌≡◌, ◌⊎◌, ◌+◌, ◌-◌, Err, alloc_error, ℕ, zero, suc, List, [], ◌∷◌, ◌++◌, length, take, Option, None, Some, IfSome, slice_get, refl, sym, ap, subst, ◌∙◌, inl, inr, arith}
 use Rattle.std.specs.Io.KnownBytes.{Appends}
 use Rattle.udfs_files.specs.Telling.{ToldOrSilent}
 use Rattle.udfs_index.specs.Copying.{AreAllTold}
@@ -9,7 +7,7 @@ use Rattle.udfs_reading.specs.Device.{Stream}
 use Rattle.udfs_lattice.specs.Tables.{Table}
 use Rattle.udfs_reading.specs.Answers.{GivesFault, RefusesFaulty}
 use Rattle.udfs_reading.specs.Inputs.{inputs}
-use Rattle.udfs_reading.specs.Several.{HasTable, InputFails, TablesAre}
+use Rattle.udfs_reading.specs.Several.{HasTable, TablesAre}
 use Rattle.udfs_reading.specs.declared.inputs.InputError.{InputError}
 use Rattle.udfs_common.specs.Blaming.{AreJudgedFor, BlamesInput, InputsRefused, IsJudged, IsJudgedFor, IsShut, source_reason, stored_reason}
 use Rattle.udfs_common.specs.OtherDiscs.{IsOtherDisc}

@@ -1,5 +1,7 @@
 -- Sources are taken one after the other.
-use Rattle.std.proofs.Common.{◌≡◌, ◌≢◌, ◌⊎◌, ◌<◌, ◌+◌, ◌-◌, ◌∙◌, arith, ap, sym, refl, subst, inl, inr, alloc_error, ap₂, not, nat_lt, ◌&&◌, cond, count_by, ℕ, zero, suc, Bool, true, false, List, [], ◌∷◌, ◌++◌, Option, Some, IfSome, Err, length, slice_get, take, drop}
+use Rattle.std.proofs.Common.{◌≡◌, ◌≢◌, ◌⊎◌, ◌<◌, ◌+◌, ◌-◌, ◌∙◌, arith, ap, sym, refl, subst, inl, inr, ap₂, not, nat_lt, ◌&&◌, cond, count_by, get_or, map, ℕ, zero, suc, Bool, true, false, List, [], ◌∷◌, ◌++◌, Option, Some, IfSome, Err, length, slice_get, take, drop}
+use Rattle.std.proofs.lemmas.List.{drop-drop, length-map, map-append, take-append-drop, take-map}
+use borrow.Rule.Slice.PartMut.{mid_of, put_mid}
 use Rattle.std.proofs.lemmas.List.Recursion.{is_count_by}
 use Rattle.std.proofs.lemmas.Bool.{lt-ltb, true≢false}
 use Rattle.std.specs.Prelude.{⊤, ◌↔◌}
@@ -10,7 +12,7 @@ use Rattle.udfs_lattice.specs.Tables.{Table, empty_table, entries_of, join_table
 use Rattle.udfs_compare.specs.Comparing.{are_other, disagreeing, is_other_disc, shared}
 use Rattle.udfs_reading.specs.Answers.{FailsAfter, GivesFault, RefusesFaulty}
 use Rattle.udfs_reading.specs.Inputs.{inputs}
-use Rattle.udfs_reading.specs.Several.{HasTable, TablesAre}
+use Rattle.udfs_reading.specs.Several.{HasTable, InputFails, TablesAre}
 use Rattle.udfs_reading.specs.declared.error.ReadingFault.TheVariants.{Io}
 use Rattle.udfs_reading.specs.declared.inputs.InputError.{InputError}
 use Rattle.udfs_common.proofs.KeepingLemmas.{last_of}
@@ -18,9 +20,9 @@ use Rattle.udfs_common.specs.Blaming.{AreJudged, BlamesSource, InputsRefused, so
 use Rattle.udfs_common.specs.Keeping.{Opens}
 use Rattle.udfs_common.specs.OtherDiscs.{EachIsOne, IsOneDisc, IsOtherBy, IsOtherDisc, is_compared, pair_at}
 use Rattle.udfs_common.specs.Refusing.{refusal_for, refusal_with}
-use Rattle.udfs_common.specs.Taking.{BlamesAlone, IsOther, IsOtherSource, Taken, Takes}
+use Rattle.udfs_common.specs.Taking.{AreUntaken, BlamesAlone, IsOther, IsOtherSource, IsUntaken, NoneFails, Taken, Takes, TakesAlone}
 use Rattle.udfs_common.specs.declared.refusal.Refusal.{Refusal}
-use Rattle.udfs_common.specs.declared.refusal.Refusal.TheVariants.{Memory, OtherDisc}
+use Rattle.udfs_common.specs.declared.refusal.Refusal.TheVariants.{OtherDisc}
 use Rattle.udfs_common.specs.declared.sources.AnySource.{AnySource}
 use Rattle.udfs_common.specs.declared.sources.AnySource.TheVariants.{File, Paired, Refused}
 use Rattle.udfs_words.specs.declared.input_path.InputPath.{InputPath}
@@ -69,9 +71,51 @@ no_rest : {A : Type 0} (xs : List A) (o : A) (l : List A) → [] ≡ xs ++ o ∷
 no_rest [] o l e = cc
 no_rest (a ∷ xs) o l e = cc
 
-pub only_one : {A : Type 0} (xs : List A) (o : A) (l : List A) (s : A) → s ∷ [] ≡ xs ++ o ∷ l → o ≡ s
-only_one [] o l s e = cc
-only_one (a ∷ xs) o l s e = absurd (no_rest xs o l (let same : [] ≡ xs ++ o ∷ l = cc in same))
+only_here : {A : Type 0} (xs : List A) (o : A) (l : List A) (s : A) → s ∷ [] ≡ xs ++ o ∷ l → (xs ≡ []) × (o ≡ s) × (l ≡ [])
+only_here [] o l s e =
+    let same : o ≡ s = cc in
+    let none : l ≡ [] = cc in
+    (refl, same, none)
+only_here (a ∷ xs) o l s e = absurd (no_rest xs o l (let same : [] ≡ xs ++ o ∷ l = cc in same))
+
+none_mapped : {A B : Type 0} (f : A → B) (xs : List A) → map f xs ≡ [] → xs ≡ []
+none_mapped f [] e = refl
+none_mapped f (x ∷ xs) e = absurd (let b : ⊥ = cc in b)
+
+pub alone_is : {A : Type 0} (xs : List A) (d : A) → length xs ≡ 1 → xs ≡ get_or xs 0 d ∷ []
+alone_is [] d e = absurd (omega (arith, e))
+alone_is (x ∷ []) d e = refl
+alone_is (x ∷ y ∷ xs) d e = absurd (omega (arith, e))
+
+-- ---- a part of a list
+mid_alone : {A : Type 0} (xs : List A) (n k : ℕ) (x : A) → k ≡ 1 → slice_get xs n ≡ Some x → mid_of n k xs ≡ x ∷ []
+mid_alone [] n k x one e = absurd (let b : ⊥ = cc in b)
+mid_alone (y ∷ xs) zero k x one e =
+    let same : y ≡ x = cc in
+    ap (λ (m : ℕ). take m (y ∷ xs)) one ∙ ap (λ (z : _). z ∷ []) same
+mid_alone (y ∷ xs) (suc n) k x one e = mid_alone xs n k x one e
+
+-- what follows it
+behind_mid : {A : Type 0} (xs ys : List A) (n k : ℕ) → k ≡ 1 → drop n xs ≡ drop n ys → drop k (drop n xs) ≡ drop (n + 1) ys
+behind_mid xs ys n k one same = ap₂ drop one same ∙ drop-drop 1 n ys
+
+-- it is put back with the same counts
+pub put_counts : {A : Type 0} (f : A → ℕ) (n k : ℕ) (xs ys : List A) → map f ys ≡ map f (mid_of n k xs) → map f (put_mid n k xs ys) ≡ map f xs
+put_counts f n k xs ys same =
+    map-append f (take n xs) (ys ++ drop k (drop n xs)) ∙ ap (λ (l : List ℕ). map f (take n xs) ++ l) (map-append f ys (drop k (drop n xs)) ∙ ap (λ (l : List ℕ). l ++ map f (drop k (drop n xs))) same
+    ∙ sym (map-append f (take k (drop n xs)) (drop k (drop n xs))) ∙ ap (map f) (take-append-drop k (drop n xs))) ∙ sym (map-append f (take n xs) (drop n xs)) ∙ ap (map f) (take-append-drop n xs)
+
+pub put_many : {A : Type 0} (f : A → ℕ) (n k : ℕ) (xs ys : List A) → map f ys ≡ map f (mid_of n k xs) → length (put_mid n k xs ys) ≡ length xs
+put_many f n k xs ys same = sym (length-map (put_mid n k xs ys) f) ∙ ap length (put_counts f n k xs ys same) ∙ length-map xs f
+
+behind_put : {A : Type 0} (xs ys : List A) (n k : ℕ) (z : A) → slice_get xs n ≡ Some z → length ys ≡ 1 → drop (n + 1) (put_mid n k xs ys) ≡ drop k (drop n xs)
+behind_put [] ys n k z at one = absurd (let b : ⊥ = cc in b)
+behind_put (x ∷ xs) [] zero k z at one = absurd (omega (arith, one))
+behind_put (x ∷ xs) (y ∷ []) zero k z at one = refl
+behind_put (x ∷ xs) (y ∷ w ∷ ys) zero k z at one = absurd (omega (arith, one))
+behind_put (x ∷ xs) ys (suc n) k z at one =
+    let m : suc n + 1 ≡ suc (n + 1) = omega arith in
+    ap (λ (j : ℕ). drop j (put_mid (suc n) k (x ∷ xs) ys)) m ∙ behind_put xs ys n k z at one
 
 -- ---- tables
 pub join_all-last : (ts : List Table) (u : Table) → join_all (ts ++ u ∷ []) ≡ join_tables (join_all ts) u
@@ -131,13 +175,27 @@ with_reason (File s) error = refl
 with_reason (Paired s) error = refl
 with_reason (Refused fault count) error = refl
 
+pub blamed_here : {R I : Type 0} (remaining : AnySource R I → Option (List ℕ)) (faults : AnySource R I → ℕ) (olds news : List (AnySource R I)) (number : ℕ) (source : AnySource R I) (reason : Option _) (error : InputError) (refusal : Refusal) →
+    olds ≡ source ∷ [] → reason ≡ source_reason source → InputFails remaining faults olds news error → refusal ≡ refusal_with reason (record { input = number; error = error.error }) → BlamesAlone remaining faults olds news number refusal
+blamed_here remaining faults olds news number source reason error refusal only why fails told = record {
+  error = error;
+  fails = fails;
+  told = told ∙ ap (λ r. refusal_with r (record { input = number; error = error.error })) why ∙ with_reason source (record { input = number; error = error.error }) ∙ ap (λ (l : List _). refusal_for (slice_get l 0) (record { input = number; error = error.error })) (sym only);
+}
+
 pub one_taken : {R : Type 0} (remaining : R → Option (List ℕ)) (source : R) (ts : List Table) (Old New : Table → Type 0) → TablesAre remaining (source ∷ []) ts → ((t : Table) → Old t → New (join_tables t (join_all ts))) → Takes remaining source Old New ⊥
 one_taken remaining source [] Old New are took = absurd are
 one_taken remaining source (own ∷ []) Old New are took = record { own = own; has = are.0; took = λ t old. subst (λ (u : Table). New (join_tables t u)) (join_tables-empty_right own) (took t old); one = λ no t old. absurd no }
 one_taken remaining source (own ∷ u ∷ ts) Old New are took = absurd are.1
 
+pub alone_taken : {R : Type 0} (remaining : R → Option (List ℕ)) (olds : List R) (ts : List Table) (Old New : Table → Type 0) → TablesAre remaining olds ts → ((t : Table) → Old t → New (join_tables t (join_all ts))) → TakesAlone remaining olds Old New ⊥
+alone_taken remaining olds ts Old New are took source only = one_taken remaining source ts Old New (subst (λ (l : List _). TablesAre remaining l ts) only are) took
+
 pub takes_by : {R : Type 0} {remaining : R → Option (List ℕ)} {source : R} {Old New : Table → Type 0} {A B : Type 0} → (B → A) → Takes remaining source Old New A → Takes remaining source Old New B
 takes_by f takes = record { own = takes.own; has = takes.has; took = takes.took; one = λ b. takes.one (f b) }
+
+pub alone_by : {R : Type 0} {remaining : R → Option (List ℕ)} {olds : List R} {Old New : Table → Type 0} {A B : Type 0} → (B → A) → TakesAlone remaining olds Old New A → TakesAlone remaining olds Old New B
+alone_by f takes source only = takes_by f (takes source only)
 
 pub other_by : (before own now : Table) (number blocks of : ℕ) → now ≡ before → blocks ≡ disagreeing now own → of ≡ shared now own → is_other_disc blocks of ≡ true → IsOtherBy before own number (OtherDisc number blocks of)
 other_by before own now number blocks of same b o other =
@@ -190,36 +248,39 @@ taken_more remaining paths done force Old Mid New x taken takes =
     }
 
 -- ---- what was not
-pub blamed_alone : {R I : Type 0} (remaining : AnySource R I → Option (List ℕ)) (faults : AnySource R I → ℕ) (all : List (AnySource R I)) (k : ℕ) (source : AnySource R I) (tables : List Table) (refusal : Refusal) →
-    slice_get all k ≡ Some source → TablesAre remaining (take k all) tables → BlamesAlone remaining faults source (k + 1) refusal → (after : List (AnySource R I)) × BlamesSource remaining faults all after refusal
-blamed_alone {R = R} {I = I} remaining faults all k source tables refusal at have alone =
+pub blamed_alone : {R I : Type 0} (remaining : AnySource R I → Option (List ℕ)) (faults : AnySource R I → ℕ) (all now news : List (AnySource R I)) (n k : ℕ) (source : AnySource R I) (tables : List Table) (refusal : Refusal) →
+    k ≡ 1 → slice_get all n ≡ Some source → slice_get now n ≡ Some source → drop n now ≡ drop n all → NoneFails faults all now → TablesAre remaining (take n all) tables →
+    BlamesAlone remaining faults (mid_of n k now) news (n + 1) refusal → BlamesSource remaining faults all (put_mid n k now news) refusal
+blamed_alone {R = R} {I = I} remaining faults all now news n k source tables refusal one at here rest counts have alone =
     let f = alone.fails in
-    let same : f.old ≡ source = only_one f.earlier f.old f.later source f.were in
-    let place : k + 1 - 1 ≡ k = omega arith in
-    let there : slice_get all (k + 1 - 1) ≡ Some source = ap (slice_get all) place ∙ at in (
-      take k all ++ f.new ∷ drop (k + 1) all,
-      record {
-        error = record { input = k + 1; error = alone.error.error };
-        fails = record {
-          earlier = take k all;
-          earlier_new = take k all;
-          later = drop (k + 1) all;
-          old = source;
-          new = f.new;
-          were = split_at all k source at;
-          are = refl;
-          which = ap (λ (n : ℕ). n + 1) (sym (length_within all k source at));
-          tables = tables;
-          have_tables = have;
-          counts = refl;
-          io = subst (λ (s : AnySource R I). (alone.error.error.fault ≡ Io) ↔ (faults f.new ≢ faults s)) same f.io;
-          fault = subst (λ (s : AnySource R I). GivesFault inputs (remaining s) (Err alone.error.error)) same f.fault;
-          faulty = subst (λ (s : AnySource R I). RefusesFaulty inputs (remaining s) (Err alone.error.error)) same f.faulty;
-          cut = subst (λ (s : AnySource R I). FailsAfter inputs (remaining s) (remaining f.new) (Err alone.error.error)) same f.cut;
-        };
-        told = alone.told ∙ ap (λ s. refusal_for s (record { input = k + 1; error = alone.error.error })) (sym there);
-      },
-    )
+    let only = mid_alone now n k source one here in
+    let are = only_here f.earlier f.old f.later source (sym only ∙ f.were) in
+    let same : f.old ≡ source = are.1 in
+    let none : f.earlier_new ≡ [] = none_mapped faults f.earlier_new (f.counts ∙ ap (map faults) are.0) in
+    let new : news ≡ f.new ∷ [] = f.are ∙ ap₂ (λ (xs ys : List _). xs ++ f.new ∷ ys) none are.2 in
+    let place : n + 1 - 1 ≡ n = omega arith in
+    let there : slice_get all (n + 1 - 1) ≡ Some source = ap (slice_get all) place ∙ at in
+    record {
+      error = record { input = n + 1; error = alone.error.error };
+      fails = record {
+        earlier = take n all;
+        earlier_new = take n now;
+        later = drop (n + 1) all;
+        old = source;
+        new = f.new;
+        were = split_at all n source at;
+        are = ap (λ (l : List _). take n now ++ l) (ap₂ (λ (xs ys : List _). xs ++ ys) new (behind_mid now all n k one rest));
+        which = ap (λ (m : ℕ). m + 1) (sym (length_within all n source at));
+        tables = tables;
+        have_tables = have;
+        counts = sym (take-map faults n now) ∙ ap (take n) counts ∙ take-map faults n all;
+        io = subst (λ (s : AnySource R I). (alone.error.error.fault ≡ Io) ↔ (faults f.new ≢ faults s)) same f.io;
+        fault = subst (λ (s : AnySource R I). GivesFault inputs (remaining s) (Err alone.error.error)) same f.fault;
+        faulty = subst (λ (s : AnySource R I). RefusesFaulty inputs (remaining s) (Err alone.error.error)) same f.faulty;
+        cut = subst (λ (s : AnySource R I). FailsAfter inputs (remaining s) (remaining f.new) (Err alone.error.error)) same f.cut;
+      };
+      told = alone.told ∙ ap (λ (l : List _). refusal_for (slice_get l 0) (record { input = n + 1; error = alone.error.error })) only ∙ ap (λ s. refusal_for s (record { input = n + 1; error = alone.error.error })) (sym there);
+    }
 
 pub other_alone : {R : Type 0} (remaining : R → Option (List ℕ)) (paths : List InputPath) (all : List R) (force : Bool) (Old Mid : Table → Type 0) (k : ℕ) (source : R) (refusal : Refusal) →
     slice_get all k ≡ Some source → k < length all → Taken remaining paths (take k all) force Old Mid → pair_at paths k ≡ true → IsOther remaining source Mid (k + 1) refusal → Old empty_table → IsOtherSource remaining paths all refusal
@@ -234,20 +295,19 @@ other_alone remaining paths all force Old Mid k source refusal at within taken p
 }
 
 -- ---- one source after the other
-left_zero : {A : Type 0} (xs rest : List A) (x : A) → x ∷ rest ≡ xs → (slice_get xs 0 ≡ Some x) × (rest ≡ drop 1 xs)
-left_zero [] rest x e = absurd (let b : ⊥ = cc in b)
-left_zero (y ∷ xs) rest x e =
-    let head : y ≡ x = cc in
-    let tail : rest ≡ xs = cc in
-    (ap Some head, tail)
+some_at : {A : Type 0} (xs : List A) (n : ℕ) → n < length xs → (x : A) × (slice_get xs n ≡ Some x)
+some_at [] n less = absurd (omega (arith, less))
+some_at (x ∷ xs) zero less = (x, refl)
+some_at (x ∷ xs) (suc n) less = some_at xs n (omega (arith, less))
 
-pub left_next : {A : Type 0} (xs rest : List A) (n : ℕ) (x : A) → x ∷ rest ≡ drop n xs → (slice_get xs n ≡ Some x) × (rest ≡ drop (n + 1) xs)
-left_next xs rest zero x e = left_zero xs rest x e
-left_next [] rest (suc n) x e = absurd (let b : ⊥ = cc in b)
-left_next (y ∷ xs) rest (suc n) x e =
-    let z : suc (n + 1) ≡ suc n + 1 = omega arith in
-    let h = left_next xs rest n x e in
-    (h.0, h.1 ∙ ap (λ (k : ℕ). drop k (y ∷ xs)) z)
+first_of : {A : Type 0} (xs : List A) (n : ℕ) → slice_get xs n ≡ slice_get (drop n xs) 0
+first_of [] zero = refl
+first_of [] (suc n) = refl
+first_of (x ∷ xs) zero = refl
+first_of (x ∷ xs) (suc n) = first_of xs n
+
+same_at : {A : Type 0} (xs ys : List A) (n : ℕ) (y : A) → drop n xs ≡ drop n ys → slice_get ys n ≡ Some y → slice_get xs n ≡ Some y
+same_at xs ys n y rest at = first_of xs n ∙ ap (λ (l : List _). slice_get l 0) rest ∙ sym (first_of ys n) ∙ at
 
 pub take_whole : {A : Type 0} (xs : List A) (n : ℕ) → n ≡ length xs → take n xs ≡ xs
 take_whole [] zero e = refl
@@ -263,21 +323,34 @@ get_within (y ∷ xs) (suc n) x e = let h = get_within xs n x e in omega (arith,
 pub taken_start : {R : Type 0} (remaining : R → Option (List ℕ)) (paths : List InputPath) (all : List R) (n : ℕ) (force : Bool) (Old : Table → Type 0) → n ≡ 0 → Taken remaining paths (take n all) force Old Old
 taken_start remaining paths all n force Old e = subst (λ (k : ℕ). Taken remaining paths (take k all) force Old Old) (sym e) (taken_none remaining paths force Old)
 
-pub taken_then : {R : Type 0} (remaining : R → Option (List ℕ)) (paths : List InputPath) (all : List R) (n : ℕ) (x : R) (force : Bool) (Old Mid New : Table → Type 0) →
-    slice_get all n ≡ Some x → Taken remaining paths (take n all) force Old Mid → Takes remaining x Mid New (is_compared paths n force ≡ true) → Taken remaining paths (take (n + 1) all) force Old New
-taken_then remaining paths all n x force Old Mid New at taken takes =
-    subst (λ (l : List _). Taken remaining paths l force Old New) (sym (take_next all n x at))
-    (taken_more remaining paths (take n all) force Old Mid New x taken (takes_by (λ h. subst (λ (k : ℕ). is_compared paths k force ≡ true) (length_within all n x at) h) takes))
+pub rest_next : {A : Type 0} (f : A → ℕ) (n k : ℕ) (all now ys : List A) → k ≡ 1 → n < length all → map f ys ≡ map f (mid_of n k now) → drop n now ≡ drop n all → drop (n + 1) (put_mid n k now ys) ≡ drop (n + 1) all
+rest_next f n k all now ys one less same rest =
+    let x = some_at all n less in
+    let here = same_at now all n x.0 rest x.1 in
+    let long : length ys ≡ 1 = sym (length-map ys f) ∙ ap length (same ∙ ap (map f) (mid_alone now n k x.0 one here)) in
+    behind_put now ys n k x.0 here long ∙ behind_mid now all n k one rest
+
+pub taken_then : {R : Type 0} (remaining : R → Option (List ℕ)) (paths : List InputPath) (all now : List R) (n k : ℕ) (force : Bool) (Old Mid New : Table → Type 0) →
+    k ≡ 1 → n < length all → drop n now ≡ drop n all → Taken remaining paths (take n all) force Old Mid → TakesAlone remaining (mid_of n k now) Mid New (is_compared paths n force ≡ true) → Taken remaining paths (take (n + 1) all) force Old New
+taken_then remaining paths all now n k force Old Mid New one less rest taken takes =
+    let x = some_at all n less in
+    subst (λ (l : List _). Taken remaining paths l force Old New) (sym (take_next all n x.0 x.1))
+    (taken_more remaining paths (take n all) force Old Mid New x.0 taken
+    (takes_by (λ h. subst (λ (m : ℕ). is_compared paths m force ≡ true) (length_within all n x.0 x.1) h) (takes x.0 (mid_alone now n k x.0 one (same_at now all n x.0 rest x.1)))))
 
 pub taken_end : {R : Type 0} (remaining : R → Option (List ℕ)) (paths : List InputPath) (all : List R) (n : ℕ) (force : Bool) (Old New : Table → Type 0) → n ≡ length all → Taken remaining paths (take n all) force Old New → Taken remaining paths all force Old New
 taken_end {R} remaining paths all n force Old New e taken = subst (λ (l : List R). Taken remaining paths l force Old New) (take_whole all n e) taken
 
-pub not_taken : {R I : Type 0} (remaining : AnySource R I → Option (List ℕ)) (faults : AnySource R I → ℕ) (paths : List InputPath) (all : List (AnySource R I)) (n : ℕ) (x : AnySource R I) (force : Bool) (Old Mid : Table → Type 0) (refusal : Refusal) →
-    slice_get all n ≡ Some x → Taken remaining paths (take n all) force Old Mid → (refusal ≡ Memory alloc_error) ⊎ BlamesAlone remaining faults x (n + 1) refusal ⊎ ((pair_at paths n ≡ true) × IsOther remaining x Mid (n + 1) refusal) →
-    (refusal ≡ Memory alloc_error) ⊎ ((after : List (AnySource R I)) × BlamesSource remaining faults all after refusal) ⊎ (Old empty_table → IsOtherSource remaining paths all refusal)
-not_taken remaining faults paths all n x force Old Mid refusal at taken (inl memory) = inl memory
-not_taken remaining faults paths all n x force Old Mid refusal at taken (inr (inl alone)) = inr (inl (blamed_alone remaining faults all n x taken.tables refusal at taken.are alone))
-not_taken remaining faults paths all n x force Old Mid refusal at taken (inr (inr other)) = inr (inr (λ old. other_alone remaining paths all force Old Mid n x refusal at (get_within all n x at) taken other.0 other.1 old))
+pub not_taken : {R I : Type 0} (remaining : AnySource R I → Option (List ℕ)) (faults : AnySource R I → ℕ) (paths : List InputPath) (all now news : List (AnySource R I)) (n k : ℕ) (force : Bool) (Old Mid : Table → Type 0) (refusal : Refusal) →
+    k ≡ 1 → n < length all → drop n now ≡ drop n all → NoneFails faults all now → Taken remaining paths (take n all) force Old Mid →
+    IsUntaken remaining faults (mid_of n k now) news Mid (n + 1) (pair_at paths n ≡ true) refusal → AreUntaken remaining faults paths all (put_mid n k now news) Old refusal
+not_taken remaining faults paths all now news n k force Old Mid refusal one less rest counts taken (inl memory) = inl (memory.0, put_counts faults n k now news memory.1 ∙ counts)
+not_taken remaining faults paths all now news n k force Old Mid refusal one less rest counts taken (inr (inl alone)) =
+    let x = some_at all n less in
+    inr (inl (blamed_alone remaining faults all now news n k x.0 taken.tables refusal one x.1 (same_at now all n x.0 rest x.1) rest counts taken.are alone))
+not_taken remaining faults paths all now news n k force Old Mid refusal one less rest counts taken (inr (inr other)) =
+    let x = some_at all n less in
+    inr (inr (λ old. other_alone remaining paths all force Old Mid n x.0 refusal x.1 less taken other.0 (other.1 x.0 (mid_alone now n k x.0 one (same_at now all n x.0 rest x.1))) old))
 
 -- ---- by the paths
 pub other_disc : {R : Type 0} (found : List ℕ → Option (Option (List ℕ))) (remaining : R → Option (List ℕ)) (paths : List InputPath) (sources : List R) (refusal : Refusal) →
@@ -296,12 +369,16 @@ other_disc found remaining paths sources refusal each opened other = record {
   other = other.other;
 }
 
--- so the inputs were not joined
-pub inputs_refused : {R I : Type 0} (found : List ℕ → Option (Option (List ℕ))) (shut : List ℕ → Type 0) (remaining : AnySource R I → Option (List ℕ)) (faults : AnySource R I → ℕ) (paths : List InputPath) (sources : List (AnySource R I)) (None : Type 0) (refusal : Refusal) →
-    length sources ≡ length paths → Opens found remaining paths sources → AreJudged found paths sources → None →
-    (refusal ≡ Memory alloc_error) ⊎ ((after : List (AnySource R I)) × BlamesSource remaining faults sources after refusal) ⊎ (None → IsOtherSource remaining paths sources refusal) → InputsRefused found shut remaining faults paths refusal
-inputs_refused found shut remaining faults paths sources None refusal each opened judged none (inl memory) = record { why = inl memory }
-inputs_refused found shut remaining faults paths sources None refusal each opened judged none (inr (inl blames)) =
-    record { why = inr (inr (inl (record { sources = sources; after = blames.0; each = each; opened = opened; judged = judged; blames = blames.1 }))) }
-inputs_refused found shut remaining faults paths sources None refusal each opened judged none (inr (inr other)) =
+refused_by : {R I : Type 0} (found : List ℕ → Option (Option (List ℕ))) (shut : List ℕ → Type 0) (remaining : AnySource R I → Option (List ℕ)) (faults : AnySource R I → ℕ) (paths : List InputPath) (sources after : List (AnySource R I)) (Old : Table → Type 0) (refusal : Refusal) →
+    length sources ≡ length paths → Opens found remaining paths sources → AreJudged found paths sources → Old empty_table → AreUntaken remaining faults paths sources after Old refusal → InputsRefused found shut remaining faults paths refusal
+refused_by found shut remaining faults paths sources after Old refusal each opened judged none (inl memory) = record { why = inl memory.0 }
+refused_by found shut remaining faults paths sources after Old refusal each opened judged none (inr (inl blames)) =
+    record { why = inr (inr (inl (record { sources = sources; after = after; each = each; opened = opened; judged = judged; blames = blames }))) }
+refused_by found shut remaining faults paths sources after Old refusal each opened judged none (inr (inr other)) =
     record { why = inr (inr (inr (other_disc found remaining paths sources refusal each opened (other none)))) }
+
+-- so the inputs were not joined
+pub inputs_refused : {R I : Type 0} (found : List ℕ → Option (Option (List ℕ))) (shut : List ℕ → Type 0) (remaining : AnySource R I → Option (List ℕ)) (faults : AnySource R I → ℕ) (paths : List InputPath) (sources lent after : List (AnySource R I)) (Old : Table → Type 0) (refusal : Refusal) →
+    length sources ≡ length paths → Opens found remaining paths sources → AreJudged found paths sources → lent ≡ sources → Old empty_table → AreUntaken remaining faults paths lent after Old refusal → InputsRefused found shut remaining faults paths refusal
+inputs_refused {R} {I} found shut remaining faults paths sources lent after Old refusal each opened judged same none untaken =
+    refused_by found shut remaining faults paths sources after Old refusal each opened judged none (subst (λ (l : List (AnySource R I)). AreUntaken remaining faults paths l after Old refusal) same untaken)

@@ -35,11 +35,11 @@ pub fn take_all<F: Files, T: TableTaker<AnySource<F::Input, F::Image>>>(
     // and the first input that cannot be opened is named, or else the first that cannot be read, and why, or that is of another disc.
     ensures blamed { IfErr result (λ refusal. T.took taker.old empty_table → InputsRefused (λ path. F.holds files.now (F.real files.now path)) (F.shut files.now) (⟦<AnySource<F::Input, F::Image> as Source>⟧.remaining) (⟦<AnySource<F::Input, F::Image> as Source>⟧.faults) inputs.now refusal) }
 {
-    let sources = match open_all(alloc, inputs, files) {
+    let mut sources = match open_all(alloc, inputs, files) {
         Ok(sources) => sources,
         Err(refusal) => return Err(refusal),
     };
-    match take_sources(alloc, inputs, sources, force, taker) {
+    match take_sources(alloc, inputs, sources.as_mut_slice(), force, taker) {
         Ok(()) => Ok(()),
         Err(refusal) => Err(refusal),
     }

@@ -1,11 +1,11 @@
 //! The tables of inputs, one after the other; an image of another disc is found before it is joined.
 
-ghost use Rattle.std.specs.Prelude.{◌≡◌, ◌≢◌, ◌⊎◌, ◌+◌, ◌<◌, ◌^◌, ⊤, List, true, false, IfErr, OnOk, alloc_error};
-ghost use Rattle.udfs_lattice.specs.Tables.{Table, empty_table, join_tables};
-ghost use Rattle.udfs_common.specs.Blaming.{BlamesSource, source_reason};
+ghost use Rattle.std.specs.Prelude.{◌≡◌, ◌≢◌, ◌⊎◌, ◌+◌, ◌<◌, ◌^◌, ⊤, true, false, IfErr, OnOk, alloc_error, length};
+ghost use Rattle.udfs_lattice.specs.Tables.{Table, join_tables};
+ghost use Rattle.udfs_common.specs.Blaming.{source_reason};
 ghost use Rattle.udfs_common.specs.OtherDiscs.{IsOneDisc, IsOtherBy, is_compared, pair_at};
 ghost use Rattle.udfs_common.specs.Refusing.{NamesNoOther, refusal_with};
-ghost use Rattle.udfs_common.specs.Taking.{BlamesAlone, IsOther, IsOtherSource, Taken, Takes};
+ghost use Rattle.udfs_common.specs.Taking.{AreUntaken, BlamesAlone, IsUntaken, NoneFails, Taken, TakesAlone};
 
 use crate::refusal::Refusal;
 use crate::sources::{AnySource, refused_pair};
@@ -66,33 +66,26 @@ fn refusal_with(reason: Option<PairFault>, error: InputError) -> Refusal
     }
 }
 
-/// Hands the blocks of the source with this number to the taker.
-fn take_alone<R: Source + Drop, I: Image + Drop, T: Taker<AnySource<R, I>>>(
-    alloc: Global,
-    source: AnySource<R, I>,
+/// Hands the blocks of the source with this number, which is the only one here, to the taker.
+fn take_alone<R: Source, I: Image, T: Taker<AnySource<R, I>>>(
+    one: &mut [AnySource<R, I>],
     number: usize,
     taker: &mut T,
 ) -> Result<(), Refusal>
-    ensures table { OnOk result (Takes (⟦<AnySource<R, I> as Source>⟧.remaining) source (T.took taker.old) (T.took taker.new) ⊥) }
+    requires { length one.old ≡ 1 }
+    ensures table { OnOk result (TakesAlone (⟦<AnySource<R, I> as Source>⟧.remaining) one.old (T.took taker.old) (T.took taker.new) ⊥) }
+    ensures counts { OnOk result (NoneFails (⟦<AnySource<R, I> as Source>⟧.faults) one.old one.new) }
     ensures told { IfErr result (λ refusal. (refusal ≢ Refusal.Output) × (refusal ≢ Refusal.Unkept) × (refusal ≢ Refusal.Spared)) }
     ensures no_other { IfErr result NamesNoOther }
-    ensures blamed { IfErr result (λ refusal. (refusal ≡ Refusal.Memory alloc_error) ⊎ BlamesAlone (⟦<AnySource<R, I> as Source>⟧.remaining) (⟦<AnySource<R, I> as Source>⟧.faults) source number refusal) }
+    ensures blamed { IfErr result (BlamesAlone (⟦<AnySource<R, I> as Source>⟧.remaining) (⟦<AnySource<R, I> as Source>⟧.faults) one.old one.new number) }
 {
-    let why = reason(&source);
-    let mut one = Vec::new(alloc);
-    match one.push(source) {
-        Ok(()) => {}
-        Err(_) => return Err(Refusal::Memory(AllocError)),
-    }
-    match take_inputs(one.as_mut_slice(), taker) {
+    let why = reason(&one[0]);
+    match take_inputs(one, taker) {
         Ok(()) => Ok(()),
-        Err(error) => Err(refusal_with(
-            why,
-            InputError {
-                input: number,
-                error: error.error,
-            },
-        )),
+        Err(InputError { error, .. }) => {
+            let input = number;
+            Err(refusal_with(why, InputError { input, error }))
+        }
     }
 }
 
@@ -117,19 +110,21 @@ fn join_own<R: Source, T: TableTaker<R>>(
     }
 }
 
-/// Hands the blocks of the source with this number to the taker, unless it is of another disc.
-fn take_apart<R: Source + Drop, I: Image + Drop, T: TableTaker<AnySource<R, I>>>(
+/// Hands the blocks of the source with this number, which is the only one here, to the taker, unless it is of another disc.
+fn take_apart<R: Source, I: Image, T: TableTaker<AnySource<R, I>>>(
     alloc: Global,
-    source: AnySource<R, I>,
+    one: &mut [AnySource<R, I>],
     number: usize,
     taker: &mut T,
 ) -> Result<(), Refusal>
-    ensures table { OnOk result (Takes (⟦<AnySource<R, I> as Source>⟧.remaining) source (T.took taker.old) (T.took taker.new) ⊤) }
+    requires { length one.old ≡ 1 }
+    ensures table { OnOk result (TakesAlone (⟦<AnySource<R, I> as Source>⟧.remaining) one.old (T.took taker.old) (T.took taker.new) ⊤) }
+    ensures counts { OnOk result (NoneFails (⟦<AnySource<R, I> as Source>⟧.faults) one.old one.new) }
     ensures told { IfErr result (λ refusal. (refusal ≢ Refusal.Output) × (refusal ≢ Refusal.Unkept) × (refusal ≢ Refusal.Spared)) }
-    ensures blamed { IfErr result (λ refusal. (refusal ≡ Refusal.Memory alloc_error) ⊎ BlamesAlone (⟦<AnySource<R, I> as Source>⟧.remaining) (⟦<AnySource<R, I> as Source>⟧.faults) source number refusal ⊎ IsOther (⟦<AnySource<R, I> as Source>⟧.remaining) source (T.took taker.old) number refusal) }
+    ensures blamed { IfErr result (IsUntaken (⟦<AnySource<R, I> as Source>⟧.remaining) (⟦<AnySource<R, I> as Source>⟧.faults) one.old one.new (T.took taker.old) number ⊤) }
 {
     let mut own = BlockTable::new(alloc);
-    match take_alone(alloc, source, number, &mut own) {
+    match take_alone(one, number, &mut own) {
         Ok(()) => {}
         Err(refusal) => return Err(refusal),
     }
@@ -153,52 +148,64 @@ pub fn is_compared(paths: &[InputPath<'_>], place: usize, force: bool) -> bool
     !force && place > 0 && is_pair_at(paths, place)
 }
 
-/// Hands the blocks of the source of the input at this place to the taker. An image of another disc than what was taken is refused, unless it is the first
-/// input or `force` is set. Only for an image that is compared is a table of its own held.
-fn take_next<R: Source + Drop, I: Image + Drop, T: TableTaker<AnySource<R, I>>>(
+/// Hands the blocks of the source of the input at this place, which is the only one here, to the taker. An image of another disc than what was taken is
+/// refused, unless it is the first input or `force` is set. Only for an image that is compared is a table of its own held.
+fn take_next<R: Source, I: Image, T: TableTaker<AnySource<R, I>>>(
     alloc: Global,
     paths: &[InputPath<'_>],
-    source: AnySource<R, I>,
+    one: &mut [AnySource<R, I>],
     place: usize,
     force: bool,
     taker: &mut T,
 ) -> Result<(), Refusal>
-    requires { place + 1 < 2 ^ 64 }
-    ensures table { OnOk result (Takes (⟦<AnySource<R, I> as Source>⟧.remaining) source (T.took taker.old) (T.took taker.new) (is_compared paths.now place force ≡ true)) }
+    requires one { length one.old ≡ 1 }
+    requires place { place + 1 < 2 ^ 64 }
+    ensures table { OnOk result (TakesAlone (⟦<AnySource<R, I> as Source>⟧.remaining) one.old (T.took taker.old) (T.took taker.new) (is_compared paths.now place force ≡ true)) }
+    ensures counts { OnOk result (NoneFails (⟦<AnySource<R, I> as Source>⟧.faults) one.old one.new) }
     ensures told { IfErr result (λ refusal. (refusal ≢ Refusal.Output) × (refusal ≢ Refusal.Unkept) × (refusal ≢ Refusal.Spared)) }
     ensures forced { IfErr result (λ refusal. force ≡ true → NamesNoOther refusal) }
-    ensures blamed { IfErr result (λ refusal. (refusal ≡ Refusal.Memory alloc_error) ⊎ BlamesAlone (⟦<AnySource<R, I> as Source>⟧.remaining) (⟦<AnySource<R, I> as Source>⟧.faults) source (place + 1) refusal ⊎ ((pair_at paths.now place ≡ true) × IsOther (⟦<AnySource<R, I> as Source>⟧.remaining) source (T.took taker.old) (place + 1) refusal)) }
+    ensures blamed { IfErr result (IsUntaken (⟦<AnySource<R, I> as Source>⟧.remaining) (⟦<AnySource<R, I> as Source>⟧.faults) one.old one.new (T.took taker.old) (place + 1) (pair_at paths.now place ≡ true)) }
 {
     if is_compared(paths, place, force) {
-        return match take_apart(alloc, source, place + 1, taker) {
+        return match take_apart(alloc, one, place + 1, taker) {
             Ok(()) => Ok(()),
             Err(refusal) => Err(refusal),
         };
     }
-    match take_alone(alloc, source, place + 1, taker) {
+    match take_alone(one, place + 1, taker) {
         Ok(()) => Ok(()),
         Err(refusal) => Err(refusal),
     }
 }
 
 /// Reads the sources of the inputs at these paths in order, and hands their blocks to the taker. An image that disagrees with what was taken before it so that
-/// it is of another disc is refused, unless it is the first input or `force` is set.
-pub fn take_sources<R: Source + Drop, I: Image + Drop, T: TableTaker<AnySource<R, I>>>(
+/// it is of another disc is refused, unless it is the first input or `force` is set. Where memory is said to be wanting, no source has failed.
+pub fn take_sources<R: Source, I: Image, T: TableTaker<AnySource<R, I>>>(
     alloc: Global,
     paths: &[InputPath<'_>],
-    sources: Vec<AnySource<R, I>>,
+    sources: &mut [AnySource<R, I>],
     force: bool,
     taker: &mut T,
 ) -> Result<(), Refusal>
-    ensures table { OnOk result (Taken (⟦<AnySource<R, I> as Source>⟧.remaining) paths.now sources.items force (T.took taker.old) (T.took taker.new)) }
+    ensures table { OnOk result (Taken (⟦<AnySource<R, I> as Source>⟧.remaining) paths.now sources.old force (T.took taker.old) (T.took taker.new)) }
+    // No source failed.
+    ensures counts { OnOk result (NoneFails (⟦<AnySource<R, I> as Source>⟧.faults) sources.old sources.new) }
     ensures told { IfErr result (λ refusal. (refusal ≢ Refusal.Output) × (refusal ≢ Refusal.Unkept) × (refusal ≢ Refusal.Spared)) }
     // By force none is named as one of another disc.
     ensures forced { IfErr result (λ refusal. force ≡ true → NamesNoOther refusal) }
-    // The first source that could not be read is named, and why; or the first image of another disc, in how many blocks it disagrees, and of how many.
-    ensures blamed { IfErr result (λ refusal. (refusal ≡ Refusal.Memory alloc_error) ⊎ ((after : List (AnySource R I)) × BlamesSource (⟦<AnySource<R, I> as Source>⟧.remaining) (⟦<AnySource<R, I> as Source>⟧.faults) sources.items after refusal) ⊎ (T.took taker.old empty_table → IsOtherSource (⟦<AnySource<R, I> as Source>⟧.remaining) paths.now sources.items refusal)) }
+    // None has failed where memory is said to be wanting. Else the first source that could not be read is named, and why; or the first image of another disc, in
+    // how many blocks it disagrees, and of how many.
+    ensures blamed { IfErr result (AreUntaken (⟦<AnySource<R, I> as Source>⟧.remaining) (⟦<AnySource<R, I> as Source>⟧.faults) paths.now sources.old sources.new (T.took taker.old)) }
 {
-    for (place, source) in sources.into_iter().enumerate() {
-        match take_next(alloc, paths, source, place, force, taker) {
+    for place in 0..sources.len() {
+        match take_next(
+            alloc,
+            paths,
+            &mut sources[place..place + 1],
+            place,
+            force,
+            taker,
+        ) {
             Ok(()) => {}
             Err(refusal) => return Err(refusal),
         }

@@ -3,9 +3,14 @@ mod ExtractLemmas
 mod DigestLemmas
 mod ManifestLemmas
 pub mod LostLemmas
+mod TreeLemmas
+mod FoundLemmas
+mod WalkedLemmas
+mod LawLemmas
 mod ShortNameLemmas
 mod ShortNameSizes
 mod PlaceLemmas
+mod BarePathLemmas
 mod ListedLemmas
 mod NoNode
 mod RefusedLemmas

@@ -85,7 +85,7 @@ module _ {F I M S W : Type 0} (known : Ghosts F I M S W) where
       by told (Some (Some b)) e = goes_wider known.moment known.may_leave known.left_since old new _ _ (same told (λ none. let bad : Some (Some b) ≡ Some None = sym e ∙ none in cc)) (same_under folder (known.holds old))
 
   -- what each crash leaves is left after a call that spares it
-  safe_lost : (folder path bytes : List ℕ) (mid new : F) → ((t : ℕ) (c : Disk) → t ≤ known.moment mid → known.may_leave mid c → known.left_since mid t c) → known.tells → Lost folder mid new
+  pub safe_lost : (folder path bytes : List ℕ) (mid new : F) → ((t : ℕ) (c : Disk) → t ≤ known.moment mid → known.may_leave mid c → known.left_since mid t c) → known.tells → Lost folder mid new
       → IsSafe (known.holds mid) (known.moment mid) (known.left_since mid) path bytes → IsSafe (known.holds new) (known.moment new) (known.left_since new) path bytes
   safe_lost folder path bytes mid new counts_now told step s =
       let goes = step.crash told in record {

@@ -22,12 +22,12 @@ use Rattle.udfs_common.specs.Refusing.{IsUnput}
 use Rattle.udfs_common.specs.declared.refusal.Refusal.{Refusal}
 use Rattle.udfs_common.specs.declared.refusal.Refusal.TheVariants.{Unkept}
 use Rattle.udfs_salvage.specs.Choosing.{chosen, goes_on, is_node}
-use Rattle.udfs_extraction.specs.Extracting.{IsDone, IsElsewhere, Puts, PutsBy, PutsNone, SparesNodes, Stay, all_good, path_below}
+use Rattle.udfs_extraction.specs.Extracting.{IsDone, IsElsewhere, Puts, PutsBy, PutsNone, SparesNodes, Stay, all_good, node_line, path_below}
 use Rattle.udfs_extraction.specs.ByRequest.{IsNodePut, MakesNodes, PutsManifest, fill_of}
 use Rattle.udfs_extraction.specs.Manifests.{AreLines, ByManifest, IsBeside, IsLine, IsManifest, IsNoted, IsPutLast, MayPut, MayPutLast, PutsListed, PutsNoted, PutsWith, digest_line, note_text, notes_of, notes_text}
 use Rattle.udfs_extraction.specs.Refused.{Unlisted}
 use Rattle.udfs_extraction.specs.Sparing.{SparesListed}
-use Rattle.udfs_extraction.specs.ShortNames.{own_name, placed}
+use Rattle.udfs_extraction.specs.ShortNames.{placed}
 use Rattle.udfs_extraction.specs.declared.nodes.Fate.{Fate}
 use Rattle.udfs_extraction.specs.declared.manifest.Noted.{Noted}
 use Rattle.udfs_extraction.specs.declared.nodes.Fate.TheVariants.{Made, Written, Failed, Left, Skipped, Passed}
@@ -100,28 +100,28 @@ by_both (holes blocks) A B N M to or puts = or puts
 by_both (faulty fault) A B N M to or puts = or puts
 
 -- the text is that of some fates
-pub text_of : (volume : Answer Found) (only : List (List ℕ)) (own : NodeFields → Option (List ℕ)) (P : ℕ → NodeFields → Fate → Type 0) (Is : List Fate → List ℕ → Type 0) (nodes : List NodeFields) (old new : Stream) (good : Bool) (manifest : Option (List ℕ)) (text : List ℕ) (N : Type 0)
-    → PutsBy volume (PutsWith only own P Is nodes old new good manifest) (N × (manifest ≡ None)) → manifest ≡ Some text → (fates : List Fate) × Is fates text
-text_of (found f) only own P Is nodes old new good manifest text N puts is =
+pub text_of : (volume : Answer Found) (only : List (List ℕ)) (lined : Fate → NodeFields → List ℕ) (P : ℕ → NodeFields → Fate → Type 0) (Is : List Fate → List ℕ → Type 0) (nodes : List NodeFields) (old new : Stream) (good : Bool) (manifest : Option (List ℕ)) (text : List ℕ) (N : Type 0)
+    → PutsBy volume (PutsWith only lined P Is nodes old new good manifest) (N × (manifest ≡ None)) → manifest ≡ Some text → (fates : List Fate) × Is fates text
+text_of (found f) only lined P Is nodes old new good manifest text N puts is =
     let e : Some puts.text ≡ Some text = sym puts.has ∙ is in
     let same : puts.text ≡ text = cc in
     (puts.puts.fates, subst (Is puts.puts.fates) same puts.is_text)
-text_of (holes blocks) only own P Is nodes old new good manifest text N puts is = let bad : None ≡ Some text = sym puts.1 ∙ is in absurd (let no : ⊥ = cc in no)
-text_of (faulty fault) only own P Is nodes old new good manifest text N puts is = let bad : None ≡ Some text = sym puts.1 ∙ is in absurd (let no : ⊥ = cc in no)
+text_of (holes blocks) only lined P Is nodes old new good manifest text N puts is = let bad : None ≡ Some text = sym puts.1 ∙ is in absurd (let no : ⊥ = cc in no)
+text_of (faulty fault) only lined P Is nodes old new good manifest text N puts is = let bad : None ≡ Some text = sym puts.1 ∙ is in absurd (let no : ⊥ = cc in no)
 
 -- the volume opens
 pub by_open : (v w : code_volume.Volume) → v ≡ w → (A N : Type 0) → PutsBy (volume_now w) A N → PutsBy (volume_now v) A N
 by_open v w e A N p = subst (λ x. PutsBy (volume_now x) A N) (sym e) p
 
 -- all have their fates, and there is a text of them
-pub puts_with : (only : List (List ℕ)) (own : NodeFields → Option (List ℕ)) (P : ℕ → NodeFields → Fate → Type 0) (Is : List Fate → List ℕ → Type 0) (nodes : List NodeFields) (old new : Stream) (good : Bool) (fates : List Fate) (heard nothing_failed whole : Bool) (text : List ℕ)
-    → list_all (is_node nodes) only ≡ true → Puts own (IsDone only P) nodes old new heard fates → length fates ≡ length (drop 1 nodes) → heard ≡ true → nothing_failed ≡ all_good fates → whole ≡ list_all (λ (n : NodeFields). is_whole n.standing) (chosen only nodes)
-    → good ≡ (nothing_failed && whole) → Is fates text → PutsWith only own P Is nodes old new good (Some text)
-puts_with only own P Is nodes old new good fates heard nothing_failed whole text named puts all is_heard failed is_whole says is_text = record {
+pub puts_with : (only : List (List ℕ)) (lined : Fate → NodeFields → List ℕ) (P : ℕ → NodeFields → Fate → Type 0) (Is : List Fate → List ℕ → Type 0) (nodes : List NodeFields) (old new : Stream) (good : Bool) (fates : List Fate) (heard nothing_failed whole : Bool) (text : List ℕ)
+    → list_all (is_node nodes) only ≡ true → Puts lined (IsDone only P) nodes old new heard fates → length fates ≡ length (drop 1 nodes) → heard ≡ true → nothing_failed ≡ all_good fates → whole ≡ list_all (λ (n : NodeFields). is_whole n.standing) (chosen only nodes)
+    → good ≡ (nothing_failed && whole) → Is fates text → PutsWith only lined P Is nodes old new good (Some text)
+puts_with only lined P Is nodes old new good fates heard nothing_failed whole text named puts all is_heard failed is_whole says is_text = record {
   puts = record {
     named = named;
     fates = fates;
-    puts = subst (λ h. Puts own (IsDone only P) nodes old new h fates) is_heard puts;
+    puts = subst (λ h. Puts lined (IsDone only P) nodes old new h fates) is_heard puts;
     all = all;
     says = says ∙ ap (λ b. b && whole) failed ∙ ap (λ b. all_good fates && b) is_whole;
   };
@@ -139,10 +139,10 @@ module _ {F I M S W : Type 0} (reach : Reach F I M S W) (r : ExtractRequest) (ta
 
   -- of a volume that opens
   with_text : (place text : Option (List ℕ)) (digest : Bool) → digest ≡ is_some place
-      → PutsWith (texts r.only.items) (own_name r.short_names report) (IsNodePut reach r one table report)
+      → PutsWith (texts r.only.items) (node_line [] r.short_names report) (IsNodePut reach r one table report)
       (λ fates t. digest ≡ true → reach.files.tells → IsManifest (reach.files.holds one) r.folder.now r.short_names report fates t) report.nodes before after good text
       → ByManifest (two ≡ one) place text (λ there t. reach.files.tells → IsPutLast reach.files there one two t)
-      → PutsListed (texts r.only.items) (own_name r.short_names report) (IsNodePut reach r one table report) (PutsManifest reach r place one two report) report.nodes before after good
+      → PutsListed (texts r.only.items) (node_line [] r.short_names report) (IsNodePut reach r one table report) (PutsManifest reach r place one two report) report.nodes before after good
   with_text None text digest is puts put = record { puts = puts.puts; listed = put }
   with_text (Some there) None digest is puts put = let bad : None ≡ Some puts.text = puts.has in absurd (let no : ⊥ = cc in no)
   with_text (Some there) (Some t) digest is puts put =
@@ -163,9 +163,9 @@ pub listed : {F I M S W : Type 0} (reach : Reach F I M S W) (r : ExtractRequest)
 listed reach r table report old one two before after good place text digest is puts put elsewhere = record { puts = by report.volume puts; elsewhere = elsewhere }
   where
     by : (volume : Answer Found)
-        → PutsBy volume (PutsWith (texts r.only.items) (own_name r.short_names report) (IsNodePut reach r one table report)
+        → PutsBy volume (PutsWith (texts r.only.items) (node_line [] r.short_names report) (IsNodePut reach r one table report)
         (λ fates t. digest ≡ true → reach.files.tells → IsManifest (reach.files.holds one) r.folder.now r.short_names report fates t) report.nodes before after good text) (PutsNone old one report.volume before after good × (text ≡ None))
-        → PutsBy volume (PutsListed (texts r.only.items) (own_name r.short_names report) (IsNodePut reach r one table report) (PutsManifest reach r place one two report) report.nodes before after good)
+        → PutsBy volume (PutsListed (texts r.only.items) (node_line [] r.short_names report) (IsNodePut reach r one table report) (PutsManifest reach r place one two report) report.nodes before after good)
         (PutsNone old one report.volume before after good × (two ≡ one))
     by (found f) p = with_text reach r table report old one two before after good place text digest is p put
     by (holes blocks) n = (n.0, without_text reach r table report old one two before after good place text n.1 put)
@@ -182,7 +182,7 @@ spares_listed reach r table report old one two before after good place text dige
     by None t is puts may = may
     by (Some there) None is puts may = λ told. inl may
     by (Some there) (Some t) is puts may = λ told.
-        let of = text_of report.volume (texts r.only.items) (own_name r.short_names report) (IsNodePut reach r one table report) (λ fates x. digest ≡ true → reach.files.tells → IsManifest (reach.files.holds one) r.folder.now r.short_names report fates x) report.nodes before after good (Some t) t _ puts refl in
+        let of = text_of report.volume (texts r.only.items) (node_line [] r.short_names report) (IsNodePut reach r one table report) (λ fates x. digest ≡ true → reach.files.tells → IsManifest (reach.files.holds one) r.folder.now r.short_names report fates x) report.nodes before after good (Some t) t _ puts refl in
         inr (record { report = report; fates = of.0; text = t; is_manifest = of.1 is told; may = may told })
 
 -- nothing was begun of a manifest, if one is asked for

@@ -15,7 +15,7 @@ use Rattle.udfs_walk.specs.declared.standings.Standing.TheVariants as standing
 use Rattle.udfs_salvage.specs.Extraction.{is_offered}
 use Rattle.udfs_salvage.specs.Reports.{Report}
 use Rattle.udfs_salvage.specs.declared.extraction.Fill.{Fill}
-use Rattle.udfs_extraction.specs.Extracting.{Each, IsDone, IsIn, IsPut, IsSafe, Spares, Stay, TellsLines, TellsOn, all_good, deed, fate_line, fate_lines, is_good}
+use Rattle.udfs_extraction.specs.Extracting.{Each, IsDone, IsIn, IsPut, IsSafe, Spares, Stay, TellsLines, TellsOn, all_good, deed, fate_lines, is_good}
 use Rattle.udfs_common.specs.Keeping.{IsKept}
 use Rattle.udfs_extraction.specs.declared.nodes.Deed.TheVariants.{Folder, File, Skip}
 use Rattle.udfs_extraction.specs.declared.nodes.Fate.{Fate}
@@ -154,13 +154,13 @@ each_more P k (m ∷ ns) [] n fate at each one = let e : m ≡ n = cc in let z :
 each_more P k [] (f ∷ fates) n fate at each one = absurd each
 each_more P k (m ∷ ns) (f ∷ fates) n fate at each one = (each.0, each_more P (suc k) ns fates n fate at each.1 (subst (λ x. P x n fate) (omega arith) one))
 
-pub lines_more : (own : NodeFields → Option (List ℕ)) (ns : List NodeFields) (fates : List Fate) (n : NodeFields) (fate : Fate) → slice_get ns (length fates) ≡ Some n
-    → fate_lines own ns (fates ++ fate ∷ []) ≡ fate_lines own ns fates ++ fate_line fate n.path (own n)
-lines_more own [] [] n fate at = let bad : None ≡ Some n = at in cc
-lines_more own (m ∷ ns) [] n fate at = let e : m ≡ n = cc in search rules
-lines_more own [] (f ∷ fates) n fate at = let bad : None ≡ Some n = at in cc
-lines_more own (m ∷ ns) (f ∷ fates) n fate at =
-    ap (λ l. fate_line f m.path (own m) ++ l) (lines_more own ns fates n fate at) ∙ sym (append_assoc (fate_line f m.path (own m)) (fate_lines own ns fates) (fate_line fate n.path (own n)))
+pub lines_more : (lined : Fate → NodeFields → List ℕ) (ns : List NodeFields) (fates : List Fate) (n : NodeFields) (fate : Fate) → slice_get ns (length fates) ≡ Some n
+    → fate_lines lined ns (fates ++ fate ∷ []) ≡ fate_lines lined ns fates ++ lined fate n
+lines_more lined [] [] n fate at = let bad : None ≡ Some n = at in cc
+lines_more lined (m ∷ ns) [] n fate at = let e : m ≡ n = cc in search rules
+lines_more lined [] (f ∷ fates) n fate at = let bad : None ≡ Some n = at in cc
+lines_more lined (m ∷ ns) (f ∷ fates) n fate at =
+    ap (λ l. lined f m ++ l) (lines_more lined ns fates n fate at) ∙ sym (append_assoc (lined f m) (fate_lines lined ns fates) (lined fate n))
 
 pub good_more : (fates : List Fate) (fate : Fate) → all_good (fates ++ fate ∷ []) ≡ (if is_good fate then all_good fates else false)
 good_more fates fate = elim (cases_Bool (is_good fate)) [ inl good ↦ same fates good ∙ sym (ap (λ b. if b then all_good fates else false) good) | inr bad ↦ none fates bad ∙ sym (ap (λ b. if b then all_good fates else false) bad) ]

@@ -1,20 +1,22 @@
 -- What `extract` makes and reports by its request `r`. `reach` is what is known of the files, and `stream` what an output has taken.
 --     fill_of fill                   what is written of torn files
---     others r                       paths that may not lead to the folder for lost files
+--     others r, more_others r        paths that may not lead to the folder for lost files, or to that for lost folders
 --     IsPlace reach old r place      where the manifest goes
---     HaveFreePlaces reach old r     the manifest takes the place of nothing but a manifest, and the folder for lost files is not there
+--     HaveFreePlaces reach old r     the manifest takes the place of nothing but a manifest, and the folders for what is lost are not there
 --     IsNodePut                      what the fate of a node says of its file
 --     PutsManifest                   the manifest is put, if one is asked for
 --     MakesNodes                     the nodes are made and reported, and then their manifest is put
 --     MakesLost                      the lost files are made and reported, if they are asked for
---     Makes                          the nodes, and then the lost files
+--     MakesTrees                     the lost folders are made and reported, with what is in them, if they are asked for
+--     Makes                          the nodes, then the lost files, and then the lost folders
 --     IsGoodWithTimes                whether nothing is lacking, times among it
 --     IsExtracted                    all of this for the report of the volume
-use Rattle.std.specs.Prelude.{◌≡◌, ⊤, ℕ, Bool, true, false, List, [], ◌∷◌, ◌&&◌, Option, Some, None, MatchOption}
+use Rattle.std.specs.Prelude.{◌≡◌, ⊤, ℕ, Bool, true, false, List, [], ◌∷◌, ◌++◌, ◌&&◌, Option, Some, None, MatchOption}
 use Rattle.std.specs.Borrow.{Bor}
 use Rattle.udfs_lattice.specs.Tables.{Table, state_of}
 use Rattle.udfs_reading.specs.Device.{Stream}
 use Rattle.udfs_walk.specs.NodeFields.{NodeFields}
+use Rattle.udfs_lost.specs.declared.trees.LostTree.{LostTree}
 use Rattle.udfs_salvage.specs.Reports.{Report, IsReportBy}
 use Rattle.udfs_salvage.specs.Texts.{has_two}
 use Rattle.udfs_salvage.specs.declared.extraction.Fill.{Fill}
@@ -23,10 +25,11 @@ use Rattle.udfs_words.specs.Requests.{texts}
 use Rattle.udfs_words.specs.declared.request.ExtractRequest.{ExtractRequest}
 use Rattle.udfs_common.specs.Reach.{Reach}
 use Rattle.udfs_common.specs.Volumes.{OfVolume}
-use Rattle.udfs_extraction.specs.Extracting.{IsElsewhere, IsPutAt, PutsBy, PutsNone}
+use Rattle.udfs_extraction.specs.BarePaths.{bare}
+use Rattle.udfs_extraction.specs.Extracting.{IsElsewhere, IsPutAt, PutsBy, PutsNone, node_line}
 use Rattle.udfs_extraction.specs.LostFiles.{IsLostPutAt, IsNewFolder, PutsLost, SparesLost}
+use Rattle.udfs_extraction.specs.LostTrees.{AreLostOf, IsTreePut, PutsTrees, tree_lines}
 use Rattle.udfs_extraction.specs.Manifests.{IsFreeManifest, IsManifest, IsPutLast, PutsListed}
-use Rattle.udfs_extraction.specs.ShortNames.{own_name}
 use Rattle.udfs_extraction.specs.declared.nodes.Fate.{Fate}
 
 -- zeros in the holes of a torn file, where it is to be filled
@@ -37,13 +40,22 @@ fill_of false = Refuse
 -- ---- where they go
 
 -- the path that is asked for, if one is
-abbrev some_path : Option (Bor (List ℕ)) → List (List ℕ)
+abbrev pub some_path : Option (Bor (List ℕ)) → List (List ℕ)
 some_path None = []
 some_path (Some path) = path.now ∷ []
 
+-- the same of a folder
+abbrev pub some_folder : Option (Bor (List ℕ)) → List (List ℕ)
+some_folder None = []
+some_folder (Some path) = bare path.now ∷ []
+
 -- the folder of the nodes, and the manifest
 abbrev pub others : ExtractRequest → List (List ℕ)
-others r = r.folder.now ∷ some_path r.manifest
+others r = bare r.folder.now ∷ some_path r.manifest
+
+-- these, and the folder for lost files by their blocks
+abbrev pub more_others : ExtractRequest → List (List ℕ)
+more_others r = others r ++ some_folder r.lost
 
 module _ {F I M S W : Type 0} (reach : Reach F I M S W) (old : F) (r : ExtractRequest) where
   -- where its path leads, if a manifest is asked for
@@ -56,11 +68,15 @@ module _ {F I M S W : Type 0} (reach : Reach F I M S W) (old : F) (r : ExtractRe
 
   -- where it is known what files hold: nothing is where the folder for lost files is to be, and the other paths do not lead there
   abbrev pub IsLostFree : Type 0
-  IsLostFree = MatchOption r.lost ⊤ (λ path. reach.files.tells → IsNewFolder (reach.files.holds old) (reach.files.real old) (others r) path.now)
+  IsLostFree = MatchOption r.lost ⊤ (λ path. reach.files.tells → IsNewFolder (reach.files.holds old) (reach.files.real old) (others r) (bare path.now))
 
-  -- both
+  -- the same of the folder for lost folders
+  abbrev pub IsTreesFree : Type 0
+  IsTreesFree = MatchOption r.trees ⊤ (λ path. reach.files.tells → IsNewFolder (reach.files.holds old) (reach.files.real old) (more_others r) (bare path.now))
+
+  -- all of them
   abbrev pub HaveFreePlaces : Type 0
-  HaveFreePlaces = IsManifestFree × IsLostFree
+  HaveFreePlaces = IsManifestFree × IsLostFree × IsTreesFree
 
 -- ---- what is made
 
@@ -78,7 +94,7 @@ module _ {F I M S W : Type 0} (reach : Reach F I M S W) where
 -- has changed by then but those of nodes that are asked for and of which a file is to be written
 pub record MakesNodes {F I M S W : Type 0} (reach : Reach F I M S W) (r : ExtractRequest) (place : Option (List ℕ)) (old one two : F) (before after : Stream) (table : Table) (report : Report) (good : Bool) : Type 0 where
   pub puts : PutsBy report.volume
-      (PutsListed (texts r.only.items) (own_name r.short_names report) (IsNodePut reach r one table report) (PutsManifest reach r place one two report) report.nodes before after good)
+      (PutsListed (texts r.only.items) (node_line [] r.short_names report) (IsNodePut reach r one table report) (PutsManifest reach r place one two report) report.nodes before after good)
       (PutsNone old one report.volume before after good × (two ≡ one))
   pub elsewhere : (q : List ℕ) → IsElsewhere (texts r.only.items) (fill_of r.fill) r.short_names report r.folder.now q → reach.files.holds one q ≡ reach.files.holds old q
 
@@ -88,16 +104,27 @@ MakesLost reach stream lost two new between after table report good = MatchOptio
     (λ folder. PutsLost (IsLostPutAt reach.files reach.output new table report folder.now (has_two report.volume))
     (has_two report.volume) report.unnamed (stream between) (stream after) good × SparesLost reach.files folder.now two new)
 
--- the nodes and their manifest, and then the lost files; it is good where both are
+-- the lost folders are made and reported with what is in them, and then lost files, and nothing outside of their folder changes; or they are not asked for
+abbrev pub MakesTrees : {F I M S W O : Type 0} → Reach F I M S W → (O → Stream) → ExtractRequest → F → F → O → O → Table → Report → Bool → Type 0
+MakesTrees reach stream r three new between after table report good = MatchOption r.trees ((new ≡ three) × (after ≡ between) × (good ≡ true))
+    (λ folder. ((trees : List LostTree) × AreLostOf r.deleted (state_of table) report.volume report.unnamed trees ×
+    PutsTrees (IsTreePut reach.files reach.output new table report.volume r.short_names folder.now) (tree_lines table report.volume r.short_names) trees (stream between) (stream after) good) ×
+    SparesLost reach.files folder.now three new)
+
+-- the nodes and their manifest, then the lost files, and then the lost folders; it is good where all are
 pub record Makes {F I M S W O : Type 0} (reach : Reach F I M S W) (stream : O → Stream) (r : ExtractRequest) (place : Option (List ℕ)) (old new : F) (before after : O) (table : Table) (report : Report) (good : Bool) : Type 0 where
   pub one : F
   pub two : F
+  pub three : F
   pub between : O
+  pub beyond : O
   pub nodes_good : Bool
   pub lost_good : Bool
+  pub trees_good : Bool
   pub nodes : MakesNodes reach r place old one two (stream before) (stream between) table report nodes_good
-  pub lost : MakesLost reach stream r.lost two new between after table report lost_good
-  pub says : good ≡ (nodes_good && lost_good)
+  pub lost : MakesLost reach stream r.lost two three between beyond table report lost_good
+  pub trees : MakesTrees reach stream r three new beyond after table report trees_good
+  pub says : good ≡ (nodes_good && (lost_good && trees_good))
 
 -- without times `all` is `good`; with them it is true only where `good` is, and may be false for a time that could not be set
 pub record IsGoodWithTimes (times good all : Bool) : Type 0 where

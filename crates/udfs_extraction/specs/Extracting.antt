@@ -1,6 +1,7 @@
 -- What a command makes of the nodes of a volume.
 --     deed kind standing size fill     a folder, a file, or nothing
---     fate_lines own nodes fates       what is printed of nodes, each with its fate, in order, and with its short name where it has one
+--     node_line word short report fate node    what is printed of a node with its fate, and with its short name where it has one
+--     fate_lines lined nodes fates     what is printed of nodes, in order, where `lined` gives the line of each
 --     IsIn folder q                    a path below a folder by escaped names
 --     Spares folder held               nothing outside of the folder changes, nor any file that was there
 --     IsSafe .. path bytes             a path holds these bytes, and since some moment each crash leaves them
@@ -16,8 +17,10 @@ use Rattle.udfs_files.specs.Disk.{Disk, Fails, Goes, SinkFails}
 use Rattle.udfs_files.specs.declared.files.Files.{Ghosts}
 use Rattle.udfs_reading.specs.Writing.{Wrote, Failed as WriteFailed}
 use Rattle.udfs_walk.specs.NodeFields.{NodeFields}
-use Rattle.udfs_volume.specs.declared.profiles.Profile.{Profile}
-use Rattle.udfs_salvage.specs.Extraction.{HasCellsInBy, fill_byte, filled}
+use Rattle.udfs_tag.specs.declared.layouts.LongAd.{LongAd}
+use Rattle.udfs_space.specs.Places.{view}
+use Rattle.udfs_tree.specs.Cells.{HasCellsAt}
+use Rattle.udfs_salvage.specs.Extraction.{fill_byte, filled}
 use Rattle.udfs_osta.specs.Escapes.{escaped}
 use Rattle.udfs_salvage.specs.NodeTexts.{names_text}
 use Rattle.udfs_salvage.specs.Texts.{line, volume_line}
@@ -29,7 +32,8 @@ use Rattle.udfs_lattice.specs.Tables.{Table, state_of}
 use Rattle.udfs_walk.specs.declared.standings.Standing.{Standing}
 use Rattle.udfs_walk.specs.declared.standings.Standing.TheVariants as standing
 use Rattle.udfs_salvage.specs.Extraction.{is_offered}
-use Rattle.udfs_salvage.specs.Reports.{Report, IsReportBy}
+use Rattle.udfs_salvage.specs.Reports.{Report}
+use Rattle.udfs_salvage.specs.WalkedNodes.{AreNodesFrom}
 use Rattle.udfs_walk.specs.Unsettled.{is_whole}
 use Rattle.udfs_salvage.specs.declared.extraction.Fill.{Fill}
 use Rattle.udfs_salvage.specs.Choosing.{chosen, is_chosen, is_node}
@@ -61,25 +65,29 @@ IsFateOf Folder fate = (fate ≢ Written) × (fate ≢ Skipped) × (fate ≢ Pas
 IsFateOf File fate = (fate ≢ Made) × (fate ≢ Skipped) × (fate ≢ Passed)
 IsFateOf Skip fate = fate ≡ Skipped
 
--- a file that was written has its short name after its path, where it has one
-abbrev pub written_line : List (List ℕ) → Option (List ℕ) → List ℕ
-written_line path None = line (codes "written " ++ names_text path)
-written_line path (Some own) = line (codes "written " ++ names_text path ++ codes " as " ++ escaped own)
+-- a file that was written has its short name after its path, where it has one; a word may stand before the path, as the name of a lost folder
+abbrev pub written_line : List ℕ → List (List ℕ) → Option (List ℕ) → List ℕ
+written_line word path None = line (codes "written " ++ word ++ names_text path)
+written_line word path (Some own) = line (codes "written " ++ word ++ names_text path ++ codes " as " ++ escaped own)
 
 -- a folder that was made has no line, nor has a node that is not asked for
-abbrev pub fate_line : Fate → List (List ℕ) → Option (List ℕ) → List ℕ
-fate_line Made path own = []
-fate_line Written path own = written_line path own
-fate_line Failed path own = line (codes "failed " ++ names_text path)
-fate_line Left path own = line (codes "failed " ++ names_text path)
-fate_line Skipped path own = line (codes "skipped " ++ names_text path)
-fate_line Passed path own = []
+abbrev pub fate_line : List ℕ → Fate → List (List ℕ) → Option (List ℕ) → List ℕ
+fate_line word Made path own = []
+fate_line word Written path own = written_line word path own
+fate_line word Failed path own = line (codes "failed " ++ word ++ names_text path)
+fate_line word Left path own = line (codes "failed " ++ word ++ names_text path)
+fate_line word Skipped path own = line (codes "skipped " ++ word ++ names_text path)
+fate_line word Passed path own = []
+
+-- that of a node of a report
+abbrev pub node_line : List ℕ → Bool → Report → Fate → NodeFields → List ℕ
+node_line word short report fate n = fate_line word fate n.path (own_name short report n)
 
 -- the lines of the nodes in order, as far as there are both nodes and fates
-abbrev pub fate_lines : (NodeFields → Option (List ℕ)) → List NodeFields → List Fate → List ℕ
-fate_lines own ns [] = []
-fate_lines own [] (fate ∷ fates) = []
-fate_lines own (n ∷ ns) (fate ∷ fates) = fate_line fate n.path (own n) ++ fate_lines own ns fates
+abbrev pub fate_lines : (Fate → NodeFields → List ℕ) → List NodeFields → List Fate → List ℕ
+fate_lines lined ns [] = []
+fate_lines lined [] (fate ∷ fates) = []
+fate_lines lined (n ∷ ns) (fate ∷ fates) = lined fate n ++ fate_lines lined ns fates
 
 -- no file and no folder failed
 abbrev pub is_good : Fate → Bool
@@ -125,13 +133,13 @@ pub record IsSafe (holds : List ℕ → Option (Option (List ℕ))) (moment : �
   pub past : since ≤ moment
   pub durable : (c : Disk) → left_since since c → c path ≡ Some bytes
 
--- A file reported as written is at its path, or with short names its place, with exactly the bytes of the node at this index; nothing fails but for a fault.
+-- A file reported as written is at its path, or with short names its place, with exactly the bytes of the node at this index, where the nodes are those from some root; nothing fails but for a fault.
 pub record IsPut (tells fails : Type 0) (table : Table) (report : Report) (fill : Fill) (short : Bool) (folder : List ℕ) (holds : List ℕ → Option (Option (List ℕ))) (moment : ℕ) (left_since : ℕ → Disk → Type 0)
     (index : ℕ) (n : NodeFields) (fate : Fate) : Type 0 where
   pub done : IsFateOf (deed n.kind n.standing n.size fill) fate
-  pub written : fate ≡ Written → tells → (profile : Profile) (last : ℕ) → IsReportBy profile (state_of table) last report → (cs : List Cell) × HasCellsInBy profile (state_of table) last index cs
+  pub written : fate ≡ Written → tells → (f : Found) (root : LongAd) → AreNodesFrom (state_of table) f root report → (cs : List Cell) × HasCellsAt (view (state_of table) f.space) root index cs
       × IsSafe holds moment left_since (path_below folder (placed short report index n)) (filled (fill_byte fill) cs)
-  pub failed : is_good fate ≡ false → (profile : Profile) (last : ℕ) → IsReportBy profile (state_of table) last report → fails
+  pub failed : is_good fate ≡ false → (f : Found) (root : LongAd) → AreNodesFrom (state_of table) f root report → fails
 
 -- the same at some moment
 abbrev pub IsPutAt : {F I M S W : Type 0} → Ghosts F I M S W → (W → Stream) → F → Table → Report → Fill → Bool → List ℕ → ℕ → NodeFields → Fate → Type 0
@@ -154,9 +162,9 @@ TellsOn true still old new text = TellsLines still old new text
 TellsOn false still old new text = (still ≡ false) × (new ≡ old)
 
 -- the nodes after the root, as far as there are fates, and their lines as far as the sink took them
-pub record Puts (own : NodeFields → Option (List ℕ)) (P : ℕ → NodeFields → Fate → Type 0) (nodes : List NodeFields) (old new : Stream) (heard : Bool) (fates : List Fate) : Type 0 where
+pub record Puts (lined : Fate → NodeFields → List ℕ) (P : ℕ → NodeFields → Fate → Type 0) (nodes : List NodeFields) (old new : Stream) (heard : Bool) (fates : List Fate) : Type 0 where
   pub each : Each P 1 (drop 1 nodes) fates
-  pub lines : TellsLines heard old new (fate_lines own (drop 1 nodes) fates)
+  pub lines : TellsLines heard old new (fate_lines lined (drop 1 nodes) fates)
 
 -- nothing is made of a volume that does not open, but its line is printed
 pub record PutsNone {F : Type 0} (before after : F) (volume : Answer Found) (old new : Stream) (good : Bool) : Type 0 where
@@ -176,16 +184,16 @@ pub record IsDone (only : List (List ℕ)) (P : ℕ → NodeFields → Fate → 
   pub passed : is_chosen only n.path ≡ false → fate ≡ Passed
 
 -- each path in `only` is that of a node; and it is good where nothing failed and all nodes that are asked for are whole
-pub record PutsChosen (only : List (List ℕ)) (own : NodeFields → Option (List ℕ)) (P : ℕ → NodeFields → Fate → Type 0) (nodes : List NodeFields) (old new : Stream) (good : Bool) : Type 0 where
+pub record PutsChosen (only : List (List ℕ)) (lined : Fate → NodeFields → List ℕ) (P : ℕ → NodeFields → Fate → Type 0) (nodes : List NodeFields) (old new : Stream) (good : Bool) : Type 0 where
   pub named : list_all (is_node nodes) only ≡ true
   pub fates : List Fate
-  pub puts : Puts own (IsDone only P) nodes old new true fates
+  pub puts : Puts lined (IsDone only P) nodes old new true fates
   pub all : length fates ≡ length (drop 1 nodes)
   pub says : good ≡ (all_good fates && list_all (λ n. is_whole n.standing) (chosen only nodes))
 
 -- what is made and reported of the nodes of a report that are asked for
 abbrev pub PutsOf : {F : Type 0} → List (List ℕ) → Bool → (Report → ℕ → NodeFields → Fate → Type 0) → F → F → Report → Stream → Stream → Bool → Type 0
-PutsOf only short P before after report old new good = PutsBy report.volume (PutsChosen only (own_name short report) (P report) report.nodes old new good) (PutsNone before after report.volume old new good)
+PutsOf only short P before after report old new good = PutsBy report.volume (PutsChosen only (node_line [] short report) (P report) report.nodes old new good) (PutsNone before after report.volume old new good)
 
 -- no node that is asked for, and of which a file is to be written, has its file at this path
 abbrev pub IsElsewhere : List (List ℕ) → Fill → Bool → Report → List ℕ → List ℕ → Type 0

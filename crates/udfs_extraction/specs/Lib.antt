@@ -1,9 +1,12 @@
+pub mod BarePaths
 pub mod ByRequest
 pub mod Extracting
 pub mod Digests
 pub mod SumLines
 pub mod Manifests
 pub mod LostFiles
+pub mod LostTrees
+pub mod Laws
 pub mod ShortNames
 pub mod Sparing
 pub mod Refused

@@ -16,10 +16,11 @@ use Rattle.udfs_walk.specs.NodeFields.{NodeFields}
 use Rattle.udfs_salvage.specs.NodeTexts.{names_text}
 use Rattle.udfs_salvage.specs.Reports.{Report}
 use Rattle.udfs_salvage.specs.Choosing.{goes_on}
-use Rattle.udfs_extraction.specs.Extracting.{IsIn, PutsBy, PutsChosen, PutsNone, path_below}
+use Rattle.udfs_extraction.specs.BarePaths.{bare}
+use Rattle.udfs_extraction.specs.Extracting.{IsIn, PutsBy, PutsChosen, PutsNone, node_line, path_below}
 use Rattle.udfs_common.specs.Guarding.{NoneLeads, SomeLeads}
 use Rattle.udfs_common.specs.Keeping.{IsKept}
-use Rattle.udfs_extraction.specs.ShortNames.{own_name, placed}
+use Rattle.udfs_extraction.specs.ShortNames.{placed}
 use Rattle.udfs_extraction.specs.SumLines.{begins_as_sums, sum_line}
 use Rattle.udfs_extraction.specs.declared.nodes.Fate.{Fate}
 use Rattle.udfs_extraction.specs.declared.manifest.Noted.{Noted}
@@ -78,15 +79,15 @@ abbrev pub notes_text : Bool → Report → List Noted → List ℕ
 notes_text short report noted = flat_map (note_text short report) noted
 
 -- what is made and reported of nodes that are asked for, and a text of which `Is` holds with their fates
-pub record PutsWith (only : List (List ℕ)) (own : NodeFields → Option (List ℕ)) (P : ℕ → NodeFields → Fate → Type 0) (Is : List Fate → List ℕ → Type 0) (nodes : List NodeFields) (old new : Stream) (good : Bool) (manifest : Option (List ℕ)) : Type 0 where
-  pub puts : PutsChosen only own P nodes old new good
+pub record PutsWith (only : List (List ℕ)) (lined : Fate → NodeFields → List ℕ) (P : ℕ → NodeFields → Fate → Type 0) (Is : List Fate → List ℕ → Type 0) (nodes : List NodeFields) (old new : Stream) (good : Bool) (manifest : Option (List ℕ)) : Type 0 where
+  pub puts : PutsChosen only lined P nodes old new good
   pub text : List ℕ
   pub is_text : Is puts.fates text
   pub has : manifest ≡ Some text
 
 -- what is made and printed for a report, and the text
 abbrev pub PutsNoted : {F : Type 0} → List (List ℕ) → Bool → (Report → ℕ → NodeFields → Fate → Type 0) → (Report → List Fate → List ℕ → Type 0) → F → F → Report → Stream → Stream → Bool → Option (List ℕ) → Type 0
-PutsNoted only short P Is before after report old new good manifest = PutsBy report.volume (PutsWith only (own_name short report) (P report) (Is report) report.nodes old new good manifest) (PutsNone before after report.volume old new good × (manifest ≡ None))
+PutsNoted only short P Is before after report old new good manifest = PutsBy report.volume (PutsWith only (node_line [] short report) (P report) (Is report) report.nodes old new good manifest) (PutsNone before after report.volume old new good × (manifest ≡ None))
 
 -- ---- the manifest is put
 
@@ -115,8 +116,8 @@ abbrev pub ByManifest : Type 0 → Option (List ℕ) → Option (List ℕ) → (
 ByManifest Same place text Holds = MatchOption place Same (λ there. MatchOption text Same (Holds there))
 
 -- the nodes that are asked for are made and reported, and this holds of their fates
-pub record PutsListed (only : List (List ℕ)) (own : NodeFields → Option (List ℕ)) (P : ℕ → NodeFields → Fate → Type 0) (Listed : List Fate → Type 0) (nodes : List NodeFields) (old new : Stream) (good : Bool) : Type 0 where
-  pub puts : PutsChosen only own P nodes old new good
+pub record PutsListed (only : List (List ℕ)) (lined : Fate → NodeFields → List ℕ) (P : ℕ → NodeFields → Fate → Type 0) (Listed : List Fate → Type 0) (nodes : List NodeFields) (old new : Stream) (good : Bool) : Type 0 where
+  pub puts : PutsChosen only lined P nodes old new good
   pub listed : Listed puts.fates
 
 -- ---- its place
@@ -125,11 +126,12 @@ pub record PutsListed (only : List (List ℕ)) (own : NodeFields → Option (Lis
 abbrev pub IsBeside : List ℕ → List ℕ → Type 0
 IsBeside folder place = (q : List ℕ) → IsIn folder q → (q ≢ place) × (¬ IsOwn place q)
 
--- `files` are the inputs that are files, and `parts` the images and mapfiles among the inputs
+-- `files` are the inputs that are files, and `parts` the images and mapfiles among the inputs; it is beside the folder by its path as it is given, and by where that leads
 pub record IsFreeManifest (holds : List ℕ → Option (Option (List ℕ))) (real : List ℕ → List ℕ) (files parts : List (List ℕ)) (folder out : List ℕ) : Type 0 where
   pub no_input : NoneLeads real (real out) files
   pub apart : NoneLeads real (real out) parts
   pub beside : IsBeside folder (real out)
+  pub away : IsBeside (real (bare folder)) (real out)
   pub of_kind : (bytes : List ℕ) → holds (real out) ≡ Some (Some bytes) → begins_as_sums bytes ≡ true
 
 -- it is the folder or in it, or a new file that is to go there may be, whose name begins with this
@@ -140,7 +142,7 @@ IsNear folder place own = (folder ≡ place) ⊎ (goes_on folder place ≡ true)
 abbrev pub IsNoManifest : Option (Option (List ℕ)) → Type 0
 IsNoManifest held = (held ≢ Some None) × ((bytes : List ℕ) → held ≡ Some (Some bytes) → begins_as_sums bytes ≡ false)
 
--- an input leads there, or it is near the folder, or what is no file may be there, or a file that does not begin as a manifest is
+-- an input leads there, or it is near the folder, or near where the folder's path leads, or what is no file may be there, or a file that does not begin as a manifest is
 abbrev pub IsSparedManifest : (List ℕ → Option (Option (List ℕ))) → (List ℕ → List ℕ) → (List ℕ → Type 0) → List (List ℕ) → List (List ℕ) → List ℕ → List ℕ → Type 0
-IsSparedManifest holds real in_place files parts folder out = SomeLeads real (real out) parts ⊎ SomeLeads real (real out) files ⊎ IsNear folder (real out) (real out ++ codes ".unfinished") ⊎ in_place out ⊎
-    IsNoManifest (holds (real out))
+IsSparedManifest holds real in_place files parts folder out = SomeLeads real (real out) parts ⊎ SomeLeads real (real out) files ⊎ IsNear folder (real out) (real out ++ codes ".unfinished") ⊎
+    IsNear (real (bare folder)) (real out) (real out ++ codes ".unfinished") ⊎ in_place out ⊎ IsNoManifest (holds (real out))

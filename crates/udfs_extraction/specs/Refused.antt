@@ -7,11 +7,12 @@
 --     Unlisted             they were put and reported, and then their manifest was not put
 --     ListStops            one of the two
 --     LostStops            lost files were not put and reported, or only in part
---     MakingStops          what a report has was not put and reported, or only in part: the nodes, their manifest, or the lost files
---     MakingRefused        a table has no report, or memory ran out before, and nothing was made or reported; or this is said of its report
+--     TreesStop            the same of lost folders
+--     MakingStops          what a report has was not put and reported, or only in part: the nodes, their manifest, the lost files, or the lost folders
+--     MakingRefused        a table has no report, or memory ran out before, or what is lost was not found, and nothing was made or reported; or this is said of its report
 --     IsUnbegun            memory ran out, or a place was rejected, or the inputs were not joined
 --     ExtractRefused       the same of the volume: which of these it was
-use Rattle.std.specs.Prelude.{◌≡◌, ◌≢◌, ◌⊎◌, ◌<◌, ◌+◌, ℕ, Bool, true, false, List, Option, Some, MatchOption, alloc_error, drop, length, slice_get}
+use Rattle.std.specs.Prelude.{◌≡◌, ◌≢◌, ◌⊎◌, ◌<◌, ◌+◌, ℕ, Bool, true, false, List, [], Option, Some, MatchOption, alloc_error, drop, length, slice_get}
 use Rattle.udfs_files.specs.Disk.{Fails, SinkFails}
 use Rattle.udfs_files.specs.declared.files.Files.{Ghosts}
 use Rattle.udfs_lattice.specs.Tables.{Table, state_of}
@@ -19,7 +20,10 @@ use Rattle.udfs_reading.specs.Device.{Stream}
 use Rattle.udfs_reading.specs.Writing.{Failed as WriteFailed}
 use Rattle.udfs_volume.specs.Answers.{Answer}
 use Rattle.udfs_walk.specs.NodeFields.{NodeFields}
+use Rattle.udfs_walk.specs.declared.answers.NodesError.{NodesError}
+use Rattle.udfs_walk.specs.declared.answers.NodesError.TheVariants as nodes
 use Rattle.udfs_walk.specs.declared.answers.Unnamed.{Unnamed}
+use Rattle.udfs_lost.specs.declared.trees.LostTree.{LostTree}
 use Rattle.udfs_salvage.specs.Found.{Found}
 use Rattle.udfs_salvage.specs.Reports.{Report, IsReportBy}
 use Rattle.udfs_salvage.specs.Texts.{has_two, volume_line}
@@ -31,14 +35,15 @@ use Rattle.udfs_common.specs.Reach.{Reach}
 use Rattle.udfs_common.specs.Refusing.{IsUnput}
 use Rattle.udfs_common.specs.Volumes.{IsNoVolume, OfVolume}
 use Rattle.udfs_common.specs.declared.refusal.Refusal.{Refusal}
-use Rattle.udfs_common.specs.declared.refusal.Refusal.TheVariants.{Folder, LostFolder, LostSpared, Memory, NoNode, Output, Spared, Unkept}
+use Rattle.udfs_common.specs.declared.refusal.Refusal.TheVariants.{Folder, LostFolder, LostSpared, Memory, NoNode, Output, Spared, TooManyPaths, Unkept}
 use Rattle.udfs_remarks.specs.NoReports.{IsUntold}
-use Rattle.udfs_extraction.specs.ByRequest.{IsNodePut, IsPlace, MakesNodes, fill_of}
+use Rattle.udfs_extraction.specs.BarePaths.{bare}
+use Rattle.udfs_extraction.specs.ByRequest.{IsNodePut, IsPlace, MakesLost, MakesNodes, fill_of}
 use Rattle.udfs_salvage.specs.Choosing.{is_node}
-use Rattle.udfs_extraction.specs.Extracting.{IsDone, IsPutAt, Puts, PutsBy, PutsOf, TellsLines}
+use Rattle.udfs_extraction.specs.Extracting.{IsDone, IsPutAt, Puts, PutsBy, PutsOf, SparesNodes, TellsLines, node_line}
 use Rattle.udfs_extraction.specs.LostFiles.{EachLost, IsLostPutAt, lost_lines}
+use Rattle.udfs_extraction.specs.LostTrees.{AreLostOf, IsTreePut, IsUnfoundOf, StopsTrees, tree_lines}
 use Rattle.udfs_extraction.specs.Manifests.{IsSparedManifest}
-use Rattle.udfs_extraction.specs.ShortNames.{own_name}
 use Rattle.udfs_extraction.specs.declared.nodes.Fate.{Fate}
 
 -- it is the first, and is named by its number, counted from 1
@@ -55,10 +60,10 @@ abbrev pub StopsBehind : Bool → ℕ → ℕ → Refusal → Type 0
 StopsBehind heard put all refusal = (refusal ≡ Memory alloc_error) ⊎ ((refusal ≡ Output) × (heard ≡ false) × (put ≡ all))
 
 -- nodes from the first after the root on have their fates, and their lines as far as the output took them
-pub record StopsNodes (own : NodeFields → Option (List ℕ)) (P : ℕ → NodeFields → Fate → Type 0) (nodes : List NodeFields) (old new : Stream) (refusal : Refusal) : Type 0 where
+pub record StopsNodes (lined : Fate → NodeFields → List ℕ) (P : ℕ → NodeFields → Fate → Type 0) (nodes : List NodeFields) (old new : Stream) (refusal : Refusal) : Type 0 where
   pub heard : Bool
   pub fates : List Fate
-  pub puts : Puts own P nodes old new heard fates
+  pub puts : Puts lined P nodes old new heard fates
   pub why : StopsBehind heard (length fates) (length (drop 1 nodes)) refusal
 
 -- nothing was reported: memory ran out, or a path is no node's, and nothing was made; or the folder could not be made
@@ -74,7 +79,7 @@ pub record StopsLine {F : Type 0} (before after : F) (volume : Answer Found) (ol
 -- extracting the nodes ended with this error; of a volume that does not open, printing its line did
 abbrev pub StopsPutting : {F : Type 0} → Type 0 → List (List ℕ) → Bool → (Report → ℕ → NodeFields → Fate → Type 0) → F → F → Report → Stream → Stream → Refusal → Type 0
 StopsPutting Failed only short P before after report old new refusal =
-    PutsBy report.volume (StopsBefore Failed only report.nodes before after old new refusal ⊎ StopsNodes (own_name short report) (IsDone only (P report)) report.nodes old new refusal) (StopsLine before after report.volume old new refusal)
+    PutsBy report.volume (StopsBefore Failed only report.nodes before after old new refusal ⊎ StopsNodes (node_line [] short report) (IsDone only (P report)) report.nodes old new refusal) (StopsLine before after report.volume old new refusal)
 
 -- nothing was reported, and the folder could not be made; or entries have their fates, and their lines as far as the output took them
 abbrev pub StopsLost : Type 0 → (Unnamed → Fate → Type 0) → Bool → List Unnamed → Stream → Stream → Refusal → Type 0
@@ -89,6 +94,11 @@ module _ {F I M S W : Type 0} (files : Ghosts F I M S W) (output : W → Stream)
   LostStops lost new between after table report refusal =
       StopsLost (Fails files.faults) (IsLostPutAt files output new table report lost (has_two report.volume))
       (has_two report.volume) report.unnamed between after refusal
+
+  -- what is said of lost folders, in their own folder
+  abbrev pub TreesStop : Bool → Bool → List ℕ → F → Stream → Stream → Table → Report → Refusal → Type 0
+  TreesStop deleted short folder new between after table report refusal = (trees : List LostTree) × AreLostOf deleted (state_of table) report.volume report.unnamed trees ×
+      StopsTrees (Fails files.faults) (IsTreePut files output new table report.volume short folder) (tree_lines table report.volume short) trees between after refusal
 
   -- extracting the nodes ended with this error
   abbrev pub NodesStop : List (List ℕ) → List ℕ → Fill → Bool → F → F → Stream → Stream → Table → Report → Refusal → Type 0
@@ -105,9 +115,9 @@ pub record Unlisted {F I M S W : Type 0} (reach : Reach F I M S W) (r : ExtractR
   pub unput : IsUnput (Fails reach.files.faults ⊎ SinkFails reach.output) refusal
   pub stays : refusal ≢ Unkept → reach.files.holds new there ≡ reach.files.holds one there
 
--- extracting the nodes ended with this error, or putting their manifest did
+-- extracting the nodes ended with this error, and nothing outside of their folder changed; or putting their manifest did
 abbrev pub ListStops : {F I M S W : Type 0} → Reach F I M S W → ExtractRequest → Option (List ℕ) → F → F → Stream → Stream → Table → Report → Refusal → Type 0
-ListStops reach r place old new before after table report refusal = NodesStop reach.files reach.output (texts r.only.items) r.folder.now (fill_of r.fill) r.short_names old new before after table report refusal ⊎
+ListStops reach r place old new before after table report refusal = (NodesStop reach.files reach.output (texts r.only.items) r.folder.now (fill_of r.fill) r.short_names old new before after table report refusal × SparesNodes reach.files r.folder.now old new) ⊎
     MatchOption place ⊥ (λ there. Unlisted reach r there old new before after table report refusal)
 
 -- at some moment the nodes were put and reported, and their manifest put, and then putting the lost files ended with this error
@@ -119,26 +129,53 @@ pub record StopsAdding {F I M S W O : Type 0} (reach : Reach F I M S W) (stream 
   pub nodes : MakesNodes reach r place old one two (stream before) (stream between) table report good
   pub lost : LostStops reach.files reach.output folder new (stream between) (stream after) table report refusal
 
--- the nodes, their manifest, or the lost files were not put and reported, or only in part
+-- at some moment all of that was put and reported, and then putting the lost folders ended with this error
+pub record StopsBeyond {F I M S W O : Type 0} (reach : Reach F I M S W) (stream : O → Stream) (r : ExtractRequest) (place : Option (List ℕ)) (folder : List ℕ) (old new : F) (before after : O) (table : Table) (report : Report) (refusal : Refusal) : Type 0 where
+  pub one : F
+  pub two : F
+  pub three : F
+  pub between : O
+  pub beyond : O
+  pub nodes_good : Bool
+  pub lost_good : Bool
+  pub nodes : MakesNodes reach r place old one two (stream before) (stream between) table report nodes_good
+  pub lost : MakesLost reach stream r.lost two three between beyond table report lost_good
+  pub trees : TreesStop reach.files reach.output r.deleted r.short_names folder new (stream beyond) (stream after) table report refusal
+
+-- the nodes, their manifest, the lost files, or the lost folders were not put and reported, or only in part
 abbrev pub MakingStops : {F I M S W O : Type 0} → Reach F I M S W → (O → Stream) → ExtractRequest → Option (List ℕ) → F → F → O → O → Table → Report → Refusal → Type 0
 MakingStops reach stream r place old new before after table report refusal = ListStops reach r place old new (stream before) (stream after) table report refusal ⊎
-    MatchOption r.lost ⊥ (λ folder. StopsAdding reach stream r place folder.now old new before after table report refusal)
+    MatchOption r.lost ⊥ (λ folder. StopsAdding reach stream r place folder.now old new before after table report refusal) ⊎
+    MatchOption r.trees ⊥ (λ folder. StopsBeyond reach stream r place folder.now old new before after table report refusal)
+
+-- what is said where what is lost was not found
+abbrev pub lost_refusal_of : NodesError → Refusal
+lost_refusal_of nodes.TooManyPaths = TooManyPaths
+lost_refusal_of nodes.OutOfMemory = Memory alloc_error
+
+-- lost folders are asked for, and were not found, for this reason
+pub record IsUnsearched (deleted : Bool) (table : Table) (report : Report) (refusal : Refusal) : Type 0 where
+  pub error : NodesError
+  pub because : IsUnfoundOf deleted (state_of table) report.volume report.unnamed error
+  pub told : refusal ≡ lost_refusal_of error
 
 -- by the rules of the volume
 abbrev pub MakingRefused : {F I M S W O : Type 0} → Reach F I M S W → (O → Stream) → ExtractRequest → Option (List ℕ) → F → F → O → O → ℕ → Table → Refusal → Type 0
 MakingRefused reach stream r place old new before after last table refusal = ((new ≡ old) × (after ≡ before) × IsUntold r.volume.profile last refusal table) ⊎
-    ((report : Report) × IsReportBy r.volume.profile (state_of table) last report × MakingStops reach stream r place old new before after table report refusal)
+    ((report : Report) × IsReportBy r.volume.profile (state_of table) last report ×
+    (((new ≡ old) × (after ≡ before) × MatchOption r.trees ⊥ (λ folder. IsUnsearched r.deleted table report refusal)) ⊎ MakingStops reach stream r place old new before after table report refusal))
 
 module _ {F I M S W : Type 0} (reach : Reach F I M S W) (old : F) (r : ExtractRequest) where
-  -- the manifest's place was spared, or what is there could not be seen
+  -- the manifest's place was spared, or what is there could not be seen, or the folder's path leads nowhere
   abbrev pub IsPlaceRefused : Refusal → Type 0
   IsPlaceRefused refusal = MatchOption r.manifest ⊥ (λ path.
       ((refusal ≡ Spared) × (reach.files.tells → IsSparedManifest (reach.files.holds old) (reach.files.real old) (reach.files.in_place old) (texts r.volume.inputs.files.items) (texts r.volume.inputs.parts.items) r.folder.now path.now)) ⊎
-      ((refusal ≡ Output) × MayNotBeSeen (reach.files.shut old) (Fails reach.read_faults) (texts r.volume.inputs.files.items) (texts r.volume.inputs.parts.items) path.now))
+      ((refusal ≡ Output) × MayNotBeSeen (reach.files.shut old) (Fails reach.read_faults) (texts r.volume.inputs.files.items) (texts r.volume.inputs.parts.items) path.now) ⊎
+      ((refusal ≡ Folder) × reach.files.shut old (bare r.folder.now)))
 
-  -- memory ran out, or the manifest's place was rejected, or the place of the folder for lost files is taken, or no last block is known, or the inputs were not joined
+  -- memory ran out, or the manifest's place was rejected, or the place of a folder for what is lost is taken, or no last block is known, or the inputs were not joined
   abbrev pub IsUnbegun : Refusal → Type 0
-  IsUnbegun refusal = (refusal ≡ Memory alloc_error) ⊎ IsPlaceRefused refusal ⊎ MatchOption r.lost ⊥ (λ path. refusal ≡ LostSpared) ⊎ IsNoVolume reach old r.volume refusal
+  IsUnbegun refusal = (refusal ≡ Memory alloc_error) ⊎ IsPlaceRefused refusal ⊎ MatchOption r.lost ⊥ (λ path. refusal ≡ LostSpared) ⊎ MatchOption r.trees ⊥ (λ path. refusal ≡ LostSpared) ⊎ IsNoVolume reach old r.volume refusal
 
 -- nothing was made or reported, and why; or the volume's disc is known, and what was made of it
 abbrev pub ExtractRefused : {F I M S W O : Type 0} → Reach F I M S W → (O → Stream) → ExtractRequest → F → F → O → O → Refusal → Type 0

@@ -1,6 +1,6 @@
 -- What `extract` leaves as it was by its request `r`, whatever it returns.
 --     SparesListed       until the manifest is put
---     SparesMaking       and until the lost files are written
+--     SparesMaking       and until what is lost is written
 --     LeavesExtract      in all
 use Rattle.std.specs.Prelude.{◌≡◌, ◌⊎◌, ℕ, List, Option, MatchOption}
 use Rattle.udfs_words.specs.declared.request.ExtractRequest.{ExtractRequest}
@@ -16,11 +16,13 @@ pub record SparesListed {F I M S W : Type 0} (reach : Reach F I M S W) (r : Extr
   pub nodes : SparesNodes reach.files r.folder.now old one
   pub last : MatchOption place (new ≡ one) (λ there. reach.files.tells → (new ≡ one) ⊎ MayPutLast reach.files r.short_names r.folder.now there one new)
 
--- the same until some moment; then nothing changes but the folder for lost files, if they are asked for
+-- the same until some moment; then nothing changes but the folder for lost files, if they are asked for, and then nothing but that for lost folders, if they are
 pub record SparesMaking {F I M S W : Type 0} (reach : Reach F I M S W) (r : ExtractRequest) (place : Option (List ℕ)) (old new : F) : Type 0 where
   pub two : F
+  pub three : F
   pub listed : SparesListed reach r place old two
-  pub lost : MatchOption r.lost (new ≡ two) (λ folder. SparesLost reach.files folder.now two new)
+  pub lost : MatchOption r.lost (three ≡ two) (λ folder. SparesLost reach.files folder.now two three)
+  pub trees : MatchOption r.trees (new ≡ three) (λ folder. SparesLost reach.files folder.now three new)
 
 -- nothing has changed; or no more than that, and nothing was there that is to stay
 abbrev pub LeavesExtract : {F I M S W : Type 0} → Reach F I M S W → F → ExtractRequest → F → Type 0

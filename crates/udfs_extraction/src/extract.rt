@@ -7,6 +7,8 @@ ghost use Rattle.udfs_extraction.specs.ByRequest.{IsExtracted, Makes};
 ghost use Rattle.udfs_extraction.specs.Refused.{ExtractRefused, MakingRefused};
 ghost use Rattle.udfs_extraction.specs.Sparing.{LeavesExtract, SparesMaking};
 
+use crate::lost_found::found_trees;
+use crate::lost_trees::add_trees;
 use crate::manifest_put::list_report;
 use crate::nodes::is_all_good;
 use crate::out_places::find_places;
@@ -23,7 +25,7 @@ use udfs_remarks::looking::listed;
 use udfs_times::Times;
 use udfs_words::request::ExtractRequest;
 
-/// Makes what a request asks for of the volume of a disc: the nodes, their manifest at its place, and the lost files.
+/// Makes what a request asks for of the volume of a disc: the nodes, their manifest at its place, the lost files, and the lost folders.
 fn extract_disc<F: Files, O: Sink>(
     alloc: Global,
     disc: &Disc,
@@ -43,8 +45,12 @@ fn extract_disc<F: Files, O: Sink>(
         Ok(listing) => listing,
         Err(refusal) => return Err(refusal),
     };
-    let entries = match lost_entries(alloc, &listing, request.lost) {
+    let entries = match lost_entries(alloc, &listing, request.lost, request.trees) {
         Ok(entries) => entries,
+        Err(refusal) => return Err(refusal),
+    };
+    let trees = match found_trees(alloc, &listing, request.trees, request.deleted, &entries) {
+        Ok(trees) => trees,
         Err(refusal) => return Err(refusal),
     };
     files.begin(Stage::Writing);
@@ -52,21 +58,26 @@ fn extract_disc<F: Files, O: Sink>(
         Ok(good) => good,
         Err(refusal) => return Err(refusal),
     };
-    match add_lost(alloc, &listing, &entries, request.lost, times, files, out) {
-        Ok(lost_good) => Ok(is_all_good(good, lost_good)),
+    let lost_good = match add_lost(alloc, &listing, &entries, request.lost, times, files, out) {
+        Ok(lost_good) => lost_good,
+        Err(refusal) => return Err(refusal),
+    };
+    match add_trees(alloc, listing, trees, request, times, files, out) {
+        Ok(trees_good) => Ok(is_all_good(good, is_all_good(lost_good, trees_good))),
         Err(refusal) => Err(refusal),
     }
 }
 
-/// Does what is asked for, one stage after another: the places of the manifest and of the folder for lost files are judged, the inputs are joined, the files of the
-/// volume are written into a new folder, and then the manifest and the lost files, where they are asked for. It returns whether all nodes that are asked for
+/// Does what is asked for, one stage after another: the places of the manifest and of the folders for what is lost are judged, the inputs are joined, the files of the
+/// volume are written into a new folder, and then the manifest, the lost files and the lost folders, where they are asked for. It returns whether all nodes that are asked for
 /// are whole, nothing failed and, where times are asked for, each could be set. All inputs are opened in order before one is read.
 ///
 /// # Errors
 ///
 /// Those of [`find_places`], and then those of [`joined_volume`]; where the table has no report, why. Nothing is made then, nor where a path that is asked for is
 /// no node's (`NoNode`). `Folder` and `LostFolder` where a folder could not be made, `Output` where the output or the manifest failed, `Unkept` where a crash may
-/// bring an old manifest back, and `Memory` if memory runs out: what was reported by then is made.
+/// bring an old manifest back, and `Memory` if memory runs out: what was reported by then is made. `TooManyPaths` also where the lost folders have more than 65,536
+/// nodes, or one of them lists more than 65,535 entries: nothing is made then.
 pub fn extract<F: Files, O: Sink>(
     alloc: Global,
     request: &ExtractRequest<'_>,

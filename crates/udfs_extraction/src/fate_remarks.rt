@@ -188,11 +188,12 @@ fn push_reason<F: Files>(
 fn line_of<F: Files>(
     alloc: Global,
     listing: &Listing<'_>,
+    word: &str,
     node: &Node,
     sort: Sort,
     files: &F,
 ) -> Result<String, OutOfMemory> {
-    let mut line = String::new(alloc);
+    let mut line = String::from_str(alloc, word)?;
     push_shown_path(&mut line, &node.path)?;
     line.push_str(": ")?;
     push_reason(alloc, &mut line, listing, node, sort, files)?;
@@ -200,10 +201,11 @@ fn line_of<F: Files>(
 }
 
 /// Shows as a remark why a node was not written, or not all of it, where that is so, and counts it. Of a torn folder that was made it shows that names may be
-/// missing in it.
+/// missing in it. `word` stands before its path.
 pub fn remark_on_fate<F: Files>(
     alloc: Global,
     listing: &Listing<'_>,
+    word: &str,
     node: &Node,
     fate: Fate,
     totals: &mut Totals,
@@ -211,7 +213,7 @@ pub fn remark_on_fate<F: Files>(
 ) {
     let Some(sort) = sort_of(node, fate) else {
         if fate == Fate::Made && matches!(node.standing, Standing::Torn(_)) {
-            remark_on_folder(alloc, node, files);
+            remark_on_folder(alloc, word, node, files);
         }
         return;
     };
@@ -219,15 +221,16 @@ pub fn remark_on_fate<F: Files>(
     if sort == Sort::Written {
         return;
     }
-    if let Ok(line) = line_of(alloc, listing, node, sort, files) {
+    if let Ok(line) = line_of(alloc, listing, word, node, sort, files) {
         files.remark(line.as_str());
     }
 }
 
 /// Shows that names may be missing in a folder.
-fn remark_on_folder<F: Files>(alloc: Global, node: &Node, files: &F) {
+fn remark_on_folder<F: Files>(alloc: Global, word: &str, node: &Node, files: &F) {
     let mut line = String::new(alloc);
-    if push_shown_path(&mut line, &node.path).is_ok()
+    if line.push_str(word).is_ok()
+        && push_shown_path(&mut line, &node.path).is_ok()
         && line.push_str(": torn: names may be missing").is_ok()
     {
         files.remark(line.as_str());

@@ -2,10 +2,14 @@
 //! The command `extract`: the files of a volume.
 #![tactic(auto)]
 
+mod bare_paths;
 mod choosing;
 mod digesting;
 pub mod extract;
 mod fate_remarks;
+pub mod laws;
+mod lost_found;
+mod lost_trees;
 mod manifest;
 mod manifest_place;
 mod manifest_put;

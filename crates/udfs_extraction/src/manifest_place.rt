@@ -1,11 +1,13 @@
 //! Where a manifest goes: to a path that no written file has, and over no old file but a manifest or an empty one.
 
-ghost use Rattle.std.specs.Prelude.{◌≡◌, ◌⊎◌, ◌∷◌, ◌++◌, ℕ, List, Some, true, false, IfOk, IfErr, IsErrOf, OnErr, codes, map, string_bytes, alloc_error};
+ghost use Rattle.std.specs.Prelude.{◌≡◌, ◌⊎◌, ◌∷◌, ◌++◌, ℕ, List, Some, true, false, IfOk, IfErr, IsErrOf, OnErr, OnOk, codes, map, string_bytes, alloc_error};
 ghost use Rattle.udfs_common.specs.Guarding.{MayNotBeSeen};
 ghost use Rattle.udfs_files.specs.Disk.{Fails};
+ghost use Rattle.udfs_extraction.specs.BarePaths.{bare};
 ghost use Rattle.udfs_extraction.specs.Manifests.{IsBeside, IsFreeManifest, IsNear, IsNoManifest, IsSparedManifest};
 ghost use Rattle.udfs_extraction.specs.SumLines.{begins_as_sums, begins_by, fits, is_digit};
 
+use crate::bare_paths::bare;
 use std::alloc::{AllocError, Global};
 use udfs_common::files::Files;
 use udfs_common::placing::{begin_so, is_no_input};
@@ -126,8 +128,57 @@ fn is_beside(alloc: Global, folder: &str, place: &str) -> Result<bool, AllocErro
     Ok(!begin_so(folder.as_bytes(), own.as_bytes()))
 }
 
+/// That no path in a folder that is to be made, every link followed, is this place, nor may be that of a new file that is to go there. A folder whose path leads nowhere
+/// can not be made.
+fn is_away<F: Files>(alloc: Global, folder: &str, place: &str, files: &F) -> Result<(), Refusal>
+    ensures away { OnOk result (F.tells → IsBeside (F.real files.now (bare folder.now)) place.now) }
+    ensures told { IfErr result (λ refusal. (refusal ≡ Refusal.Folder) ⊎ (refusal ≡ Refusal.Spared) ⊎ (refusal ≡ Refusal.Memory alloc_error)) }
+    ensures near { IsErrOf result Refusal.Spared → F.tells → IsNear (F.real files.now (bare folder.now)) place.now (place.now ++ codes ".unfinished") }
+    ensures cause { IsErrOf result Refusal.Folder → F.shut files.now (bare folder.now) }
+{
+    let target = match files.resolve(alloc, bare(folder)) {
+        Ok(Ok(target)) => target,
+        Ok(Err(DeviceFault)) => return Err(Refusal::Folder),
+        Err(AllocError) => return Err(Refusal::Memory(AllocError)),
+    };
+    match is_beside(alloc, target.path.as_str(), place) {
+        Ok(true) => Ok(()),
+        Ok(false) => Err(Refusal::Spared),
+        Err(AllocError) => Err(Refusal::Memory(AllocError)),
+    }
+}
+
+/// That a place comes into the way of nothing in a folder that is to be made, neither by the paths as they are given nor by where they lead.
+fn is_out_of_the_way<F: Files>(
+    alloc: Global,
+    folder: &str,
+    place: &str,
+    files: &F,
+) -> Result<(), Refusal>
+    ensures beside { OnOk result (IsBeside folder.now place.now) }
+    ensures away { OnOk result (F.tells → IsBeside (F.real files.now (bare folder.now)) place.now) }
+    ensures told { IfErr result (λ refusal. (refusal ≡ Refusal.Folder) ⊎ (refusal ≡ Refusal.Spared) ⊎ (refusal ≡ Refusal.Memory alloc_error)) }
+    ensures near { IsErrOf result Refusal.Spared → F.tells → IsNear folder.now place.now (place.now ++ codes ".unfinished") ⊎
+        IsNear (F.real files.now (bare folder.now)) place.now (place.now ++ codes ".unfinished") }
+    ensures cause { IsErrOf result Refusal.Folder → F.shut files.now (bare folder.now) }
+{
+    match is_beside(alloc, folder, place) {
+        Ok(true) => {}
+        Ok(false) => return Err(Refusal::Spared),
+        Err(AllocError) => return Err(Refusal::Memory(AllocError)),
+    }
+    match is_away(alloc, folder, place, files) {
+        Ok(()) => Ok(()),
+        Err(refusal) => Err(refusal),
+    }
+}
+
 /// Where a manifest goes, every link followed: to a path that nothing has, or over a file that begins as a manifest does. It is spared where something else is there, or
 /// one of the inputs, and where it might come into the folder's way. `inputs` are the inputs that are files, and `parts` the images and mapfiles among the inputs.
+///
+/// # Errors
+///
+/// `Spared` where it is; `Output` where what is there could not be looked at, `Folder` where the folder's path leads nowhere, and `Memory` where memory runs out.
 pub fn find_manifest<F: Files>(
     alloc: Global,
     inputs: &[&str],
@@ -138,9 +189,10 @@ pub fn find_manifest<F: Files>(
 ) -> Result<String, Refusal>
     ensures leads { IfOk result (λ place. F.tells → string_bytes place ≡ F.real files.now out.now) }
     ensures free { IfOk result (λ place. F.tells → IsFreeManifest (F.holds files.now) (F.real files.now) (map (λ path. path.now) inputs.now) (map (λ path. path.now) parts.now) folder.now out.now) }
-    ensures told { IfErr result (λ refusal. (refusal ≡ Refusal.Output) ⊎ (refusal ≡ Refusal.Spared) ⊎ (refusal ≡ Refusal.Memory alloc_error)) }
+    ensures told { IfErr result (λ refusal. (refusal ≡ Refusal.Output) ⊎ (refusal ≡ Refusal.Spared) ⊎ (refusal ≡ Refusal.Folder) ⊎ (refusal ≡ Refusal.Memory alloc_error)) }
     ensures spared { IsErrOf result Refusal.Spared → F.tells → IsSparedManifest (F.holds files.now) (F.real files.now) (F.in_place files.now) (map (λ path. path.now) inputs.now) (map (λ path. path.now) parts.now) folder.now out.now }
     ensures cause { IsErrOf result Refusal.Output → MayNotBeSeen (F.shut files.now) (Fails F.Input.faults) (map (λ path. path.now) inputs.now) (map (λ path. path.now) parts.now) out.now }
+    ensures unmade { IsErrOf result Refusal.Folder → F.shut files.now (bare folder.now) }
 {
     let target = match files.resolve(alloc, out) {
         Ok(Ok(target)) => target,
@@ -151,10 +203,9 @@ pub fn find_manifest<F: Files>(
         Ok(()) => {}
         Err(refusal) => return Err(refusal),
     }
-    match is_beside(alloc, folder, target.path.as_str()) {
-        Ok(true) => {}
-        Ok(false) => return Err(Refusal::Spared),
-        Err(AllocError) => return Err(Refusal::Memory(AllocError)),
+    match is_out_of_the_way(alloc, folder, target.path.as_str(), files) {
+        Ok(()) => {}
+        Err(refusal) => return Err(refusal),
     }
     match target.kind {
         Kind::Absent => Ok(target.path),

@@ -5,14 +5,16 @@ ghost use Rattle.std.specs.Io.KnownBytes.{Appends};
 ghost use Rattle.udfs_file.specs.declared.cells.Cell.{Cell};
 ghost use Rattle.udfs_files.specs.Disk.{Same, SameBut, Goes, Fails, SinkFails};
 ghost use Rattle.udfs_lattice.specs.Tables.{state_of};
-ghost use Rattle.udfs_volume.specs.declared.profiles.Profile.{Profile};
+ghost use Rattle.udfs_tag.specs.declared.layouts.LongAd.{LongAd};
+ghost use Rattle.udfs_space.specs.Places.{view};
 ghost use Rattle.udfs_walk.specs.NodeFields.{NodeFields};
 ghost use Rattle.udfs_salvage.specs.declared.extraction.ExtractError.TheVariants as extract_error;
-ghost use Rattle.udfs_salvage.specs.Extraction.{HasCellsInBy, fill_byte, filled, is_offered};
-ghost use Rattle.udfs_salvage.specs.Found.{volume_now};
+ghost use Rattle.udfs_tree.specs.Cells.{HasCellsAt};
+ghost use Rattle.udfs_salvage.specs.Extraction.{fill_byte, filled, is_offered};
+ghost use Rattle.udfs_salvage.specs.Found.{Found, volume_now};
 ghost use Rattle.udfs_salvage.specs.NodeTexts.{names_text};
 ghost use Rattle.udfs_salvage.specs.Listings.{full_in, listing_now};
-ghost use Rattle.udfs_salvage.specs.Reports.{IsReportBy};
+ghost use Rattle.udfs_salvage.specs.WalkedNodes.{AreNodesFrom};
 ghost use Rattle.udfs_extraction.specs.Extracting.{IsDone, IsFateOf, IsIn, IsPutAt, Spares, Stay, deed, path_below};
 ghost use Rattle.udfs_common.specs.Keeping.{IsKept};
 ghost use Rattle.udfs_salvage.specs.Choosing.{is_chosen};
@@ -90,12 +92,12 @@ struct NodeBytes<'a, 'r> {
 impl<'a, 'r> Job for NodeBytes<'a, 'r> {
     type Refusal = ExtractError;
 
-    ghost wrote = { λ job old new. (profile : Profile) (last : ℕ) (n : NodeFields) → (job.index < length job.listing.now.nodes.items) →
-        IsReportBy profile (state_of job.listing.now.table.now) last (listing_now job.listing.now) → slice_get (listing_now job.listing.now).nodes job.index ≡ Some n → is_offered n.standing n.size job.fill ≡ true →
-        (cs : List Cell) × HasCellsInBy profile (state_of job.listing.now.table.now) last job.index cs × Appends old new (filled (fill_byte job.fill) cs) };
+    ghost wrote = { λ job old new. (f : Found) (root : LongAd) (n : NodeFields) → (job.index < length job.listing.now.nodes.items) →
+        AreNodesFrom (state_of job.listing.now.table.now) f root (listing_now job.listing.now) → slice_get (listing_now job.listing.now).nodes job.index ≡ Some n → is_offered n.standing n.size job.fill ≡ true →
+        (cs : List Cell) × HasCellsAt (view (state_of job.listing.now.table.now) f.space) root job.index cs × Appends old new (filled (fill_byte job.fill) cs) };
 
-    ghost blames_sink = { λ job refusal. (refusal ≢ extract_error.OutOfMemory) × (job.index < length job.listing.now.nodes.items) × (profile : Profile) × (last : ℕ) × (n : NodeFields) ×
-        IsReportBy profile (state_of job.listing.now.table.now) last (listing_now job.listing.now) × (slice_get (listing_now job.listing.now).nodes job.index ≡ Some n) × (is_offered n.standing n.size job.fill ≡ true) };
+    ghost blames_sink = { λ job refusal. (refusal ≢ extract_error.OutOfMemory) × (job.index < length job.listing.now.nodes.items) × (f : Found) × (root : LongAd) × (n : NodeFields) ×
+        AreNodesFrom (state_of job.listing.now.table.now) f root (listing_now job.listing.now) × (slice_get (listing_now job.listing.now).nodes job.index ≡ Some n) × (is_offered n.standing n.size job.fill ≡ true) };
 
     fn write_to<W: Sink>(&self, sink: &mut W) -> Result<(), ExtractError> {
         if self.index >= self.listing.nodes.len() {
@@ -104,16 +106,20 @@ impl<'a, 'r> Job for NodeBytes<'a, 'r> {
         let Ok(mut out) = self.spare.take(self.alloc) else {
             return Err(ExtractError::OutOfMemory);
         };
-        write_node(
+        match write_node(
             self.alloc,
             self.listing,
             self.index,
             self.fill,
             &mut out,
             sink,
-        )?;
-        self.spare.keep(out);
-        Ok(())
+        ) {
+            Ok(()) => {
+                self.spare.keep(out);
+                Ok(())
+            }
+            Err(error) => Err(error),
+        }
     }
 }
 
@@ -167,13 +173,13 @@ fn fill_file<F: Files>(
     requires place { F.tells → F.Output.place output ≡ path.now }
     requires empty { F.tells → (F.Output.stream output).contents ≡ Some [] }
     requires open { F.holds files.old path.now ≡ None }
-    ensures written { IfOk result (λ done. done.fate ≡ Fate.Written → F.tells → (profile : Profile) (last : ℕ) (n : NodeFields) →
-        IsReportBy profile (state_of listing.now.table.now) last (listing_now listing.now) → slice_get (listing_now listing.now).nodes index ≡ Some n → is_offered n.standing n.size fill ≡ true →
-        (cs : List Cell) × HasCellsInBy profile (state_of listing.now.table.now) last index cs × IsKept (F.holds files.new) (F.may_leave files.new) path.now (filled (fill_byte fill) cs)) }
+    ensures written { IfOk result (λ done. done.fate ≡ Fate.Written → F.tells → (f : Found) (root : LongAd) (n : NodeFields) →
+        AreNodesFrom (state_of listing.now.table.now) f root (listing_now listing.now) → slice_get (listing_now listing.now).nodes index ≡ Some n → is_offered n.standing n.size fill ≡ true →
+        (cs : List Cell) × HasCellsAt (view (state_of listing.now.table.now) f.space) root index cs × IsKept (F.holds files.new) (F.may_leave files.new) path.now (filled (fill_byte fill) cs)) }
     ensures gone { IfOk result (λ done. done.fate ≡ Fate.Failed → F.tells → F.holds files.new path.now ≡ Some None) }
     ensures fate { IfOk result (λ done. IsFateOf Deed.File done.fate) }
-    ensures cause { IfOk result (λ done. done.fate ≢ Fate.Written → (profile : Profile) (last : ℕ) (n : NodeFields) →
-        IsReportBy profile (state_of listing.now.table.now) last (listing_now listing.now) → slice_get (listing_now listing.now).nodes index ≡ Some n → is_offered n.standing n.size fill ≡ true → Fails F.faults ⊎ SinkFails F.Output.stream) }
+    ensures cause { IfOk result (λ done. done.fate ≢ Fate.Written → (f : Found) (root : LongAd) (n : NodeFields) →
+        AreNodesFrom (state_of listing.now.table.now) f root (listing_now listing.now) → slice_get (listing_now listing.now).nodes index ≡ Some n → is_offered n.standing n.size fill ≡ true → Fails F.faults ⊎ SinkFails F.Output.stream) }
     ensures digest { IfOk result (λ done. IsNoted digest F.tells (F.holds files.new) path.now done.fate done.digest) }
     ensures others { (q : List ℕ) → q ≢ path.now → F.holds files.new q ≡ F.holds files.old q }
     ensures crash { Goes F.moment F.may_leave F.left_since files.old files.new (SameBut path.now) }
@@ -211,13 +217,13 @@ fn write_file<F: Files>(
     files: &mut F,
 ) -> Result<Done, AllocError>
     requires { index < length listing.now.nodes.items }
-    ensures written { IfOk result (λ done. done.fate ≡ Fate.Written → F.tells → (profile : Profile) (last : ℕ) (n : NodeFields) →
-        IsReportBy profile (state_of listing.now.table.now) last (listing_now listing.now) → slice_get (listing_now listing.now).nodes index ≡ Some n → is_offered n.standing n.size fill ≡ true →
-        (cs : List Cell) × HasCellsInBy profile (state_of listing.now.table.now) last index cs × IsKept (F.holds files.new) (F.may_leave files.new) path.now (filled (fill_byte fill) cs)) }
+    ensures written { IfOk result (λ done. done.fate ≡ Fate.Written → F.tells → (f : Found) (root : LongAd) (n : NodeFields) →
+        AreNodesFrom (state_of listing.now.table.now) f root (listing_now listing.now) → slice_get (listing_now listing.now).nodes index ≡ Some n → is_offered n.standing n.size fill ≡ true →
+        (cs : List Cell) × HasCellsAt (view (state_of listing.now.table.now) f.space) root index cs × IsKept (F.holds files.new) (F.may_leave files.new) path.now (filled (fill_byte fill) cs)) }
     ensures gone { IfOk result (λ done. done.fate ≡ Fate.Failed → F.tells → F.holds files.new path.now ≡ F.holds files.old path.now) }
     ensures fate { IfOk result (λ done. IsFateOf Deed.File done.fate) }
-    ensures cause { IfOk result (λ done. done.fate ≢ Fate.Written → (profile : Profile) (last : ℕ) (n : NodeFields) →
-        IsReportBy profile (state_of listing.now.table.now) last (listing_now listing.now) → slice_get (listing_now listing.now).nodes index ≡ Some n → is_offered n.standing n.size fill ≡ true → Fails F.faults ⊎ SinkFails F.Output.stream) }
+    ensures cause { IfOk result (λ done. done.fate ≢ Fate.Written → (f : Found) (root : LongAd) (n : NodeFields) →
+        AreNodesFrom (state_of listing.now.table.now) f root (listing_now listing.now) → slice_get (listing_now listing.now).nodes index ≡ Some n → is_offered n.standing n.size fill ≡ true → Fails F.faults ⊎ SinkFails F.Output.stream) }
     ensures digest { IfOk result (λ done. IsNoted digest F.tells (F.holds files.new) path.now done.fate done.digest) }
     ensures others { (q : List ℕ) → q ≢ path.now → F.holds files.new q ≡ F.holds files.old q }
     ensures there { F.tells → F.holds files.old path.now ≢ Some None → F.holds files.new path.now ≡ F.holds files.old path.now }
@@ -286,7 +292,7 @@ fn put_at<F: Files>(
 }
 
 /// Does what is to be done with the node of this index.
-fn put_node<F: Files>(
+pub fn put_node<F: Files>(
     alloc: Global,
     listing: &Listing<'_>,
     index: usize,

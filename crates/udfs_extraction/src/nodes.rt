@@ -5,9 +5,8 @@ ghost use Rattle.udfs_files.specs.Disk.{Goes, Fails, SinkFails};
 ghost use Rattle.udfs_salvage.specs.Listings.{listing_now};
 ghost use Rattle.udfs_words.specs.Requests.{texts};
 ghost use Rattle.udfs_extraction.specs.ByRequest.{IsNodePut, fill_of};
-ghost use Rattle.udfs_extraction.specs.Extracting.{IsDone, IsElsewhere, IsIn, IsPutAt, Puts, Spares, SparesNodes, Stay, all_good, is_good};
+ghost use Rattle.udfs_extraction.specs.Extracting.{IsDone, IsElsewhere, IsIn, IsPutAt, Puts, Spares, SparesNodes, Stay, all_good, is_good, node_line};
 ghost use Rattle.udfs_extraction.specs.Manifests.{IsManifest, PutsNoted, notes_text};
-ghost use Rattle.udfs_extraction.specs.ShortNames.{own_name};
 ghost use Rattle.udfs_extraction.specs.Refused.{NodesStop};
 
 use crate::choosing::all_are_nodes;
@@ -69,11 +68,11 @@ pub struct Done {
 
 /// What became of the nodes of a volume.
 #[derive(Drop)]
-struct Told {
+pub struct Told {
     /// Whether no file and no folder failed.
-    good: bool,
+    pub good: bool,
     /// Whether the output took all lines.
-    heard: bool,
+    pub heard: bool,
     /// How many there are of each sort.
     totals: Totals,
     /// The files that were written, with their digests, where these are wanted.
@@ -90,10 +89,11 @@ pub fn still_good(good: bool, fate: Fate) -> bool
     }
 }
 
-/// Goes through the nodes after the root, in order. Where the output fails, it goes on, but prints no more.
-fn put_nodes<F: Files, O: Sink>(
+/// Goes through the nodes after the root, in order; `word` stands before their paths in what is printed. Where the output fails, it goes on, but prints no more.
+pub fn put_nodes<F: Files, O: Sink>(
     alloc: Global,
     listing: &Listing<'_>,
+    word: &str,
     only: &[&str],
     fill: Fill,
     short: bool,
@@ -103,7 +103,7 @@ fn put_nodes<F: Files, O: Sink>(
     files: &mut F,
     out: &mut O,
 ) -> Result<Told, AllocError>
-    ensures put { (heard : Bool) × (fates : List Fate) × Puts (own_name short (listing_now listing.now)) (IsDone (texts only.now)
+    ensures put { (heard : Bool) × (fates : List Fate) × Puts (node_line word.now short (listing_now listing.now)) (IsDone (texts only.now)
         (IsPutAt F.Files F.Output.stream files.new listing.now.table.now (listing_now listing.now) fill short folder.now))
         (listing_now listing.now).nodes (O.stream out.old) (O.stream out.new) heard fates ×
         IfOk result (λ told. (length fates ≡ length (drop 1 (listing_now listing.now).nodes)) × (told.heard ≡ heard) × (told.good ≡ all_good fates) ×
@@ -129,13 +129,22 @@ fn put_nodes<F: Files, O: Sink>(
         let node = node_at(listing, index);
         note(&mut manifest, done, index)?;
         good = still_good(good, done.fate);
-        heard = tell(alloc, heard, done.fate, &node.path, &target.own, out)?;
-        remark_on_fate(alloc, listing, node, done.fate, &mut totals, files);
+        heard = tell(alloc, heard, done.fate, word, &node.path, &target.own, out)?;
+        remark_on_fate(alloc, listing, word, node, done.fate, &mut totals, files);
         note_time(
-            alloc, node, index, only, done.fate, folder, place, &mut made, times, files,
+            alloc, word, node, index, only, done.fate, folder, place, &mut made, times, files,
         );
     }
-    set_folder_times(alloc, listing, made.as_slice(), short, folder, times, files);
+    set_folder_times(
+        alloc,
+        listing,
+        word,
+        made.as_slice(),
+        short,
+        folder,
+        times,
+        files,
+    );
     Ok(Told {
         good,
         heard,
@@ -198,7 +207,7 @@ pub fn put_report<F: Files, O: Sink>(
                 return Err(Refusal::Folder);
             }
             let told = match put_nodes(
-                alloc, listing, only, fill, short, digest, folder, times, files, out,
+                alloc, listing, "", only, fill, short, digest, folder, times, files, out,
             ) {
                 Ok(told) => told,
                 Err(AllocError) => return Err(Refusal::Memory(AllocError)),

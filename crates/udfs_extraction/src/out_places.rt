@@ -1,13 +1,15 @@
-//! Where a manifest and lost files go: found before anything is read or made.
+//! Where a manifest, lost files and lost folders go: found before anything is read or made.
 
-ghost use Rattle.std.specs.Prelude.{◌≡◌, ◌⊎◌, IfOk, IfErr, MatchOption, OnOk, alloc_error, option_map, string_bytes};
+ghost use Rattle.std.specs.Prelude.{◌≡◌, ◌⊎◌, ◌++◌, IfOk, IfErr, MatchOption, OnOk, alloc_error, option_map, string_bytes};
+ghost use Rattle.udfs_words.specs.Requests.{texts};
 ghost use Rattle.udfs_common.specs.Volumes.{IsNoVolume};
-ghost use Rattle.udfs_extraction.specs.ByRequest.{HaveFreePlaces, IsLostFree, IsManifestFree, IsPlace};
+ghost use Rattle.udfs_extraction.specs.ByRequest.{HaveFreePlaces, IsLostFree, IsManifestFree, IsPlace, IsTreesFree, more_others, some_folder, some_path};
 ghost use Rattle.udfs_extraction.specs.Refused.{IsPlaceRefused, IsUnbegun};
 
+use crate::bare_paths::bare;
 use crate::manifest_place::find_manifest;
 use crate::unnamed_place::find_new_folder;
-use std::alloc::Global;
+use std::alloc::{AllocError, Global};
 use udfs_common::files::Files;
 use udfs_common::known::Known;
 use udfs_common::refusal::Refusal;
@@ -49,17 +51,96 @@ fn find_lost_folder<F: Files>(
         return Ok(());
     };
     match request.manifest {
-        None => find_new_folder(alloc, &[request.folder], lost, files),
-        Some(manifest) => find_new_folder(alloc, &[request.folder, manifest], lost, files),
+        None => find_new_folder(alloc, &[bare(request.folder)], bare(lost), files),
+        Some(manifest) => find_new_folder(
+            alloc,
+            &[bare(request.folder), manifest],
+            bare(lost),
+            files,
+        ),
     }
 }
 
-/// Where the manifest goes, every link followed, if one is asked for. The manifest is judged first, and then the folder for lost files.
+/// Adds a path, if there is one.
+fn push_some<'a>(paths: &mut Vec<&'a str>, path: Option<&'a str>) -> Result<(), AllocError>
+    ensures { OnOk result (texts paths.new.items ≡ texts paths.old.items ++ some_path path.entry) }
+{
+    match path {
+        None => Ok(()),
+        Some(path) => {
+            paths.push(path)?;
+            Ok(())
+        }
+    }
+}
+
+/// Adds the path of a folder, if there is one.
+fn push_folder<'a>(paths: &mut Vec<&'a str>, path: Option<&'a str>) -> Result<(), AllocError>
+    ensures { OnOk result (texts paths.new.items ≡ texts paths.old.items ++ some_folder path.entry) }
+{
+    match path {
+        None => Ok(()),
+        Some(path) => {
+            paths.push(bare(path))?;
+            Ok(())
+        }
+    }
+}
+
+/// The paths that may not lead to the folder for lost folders.
+fn other_paths<'a>(alloc: Global, request: &ExtractRequest<'a>) -> Result<Vec<&'a str>, AllocError>
+    ensures { IfOk result (λ paths. texts paths.items ≡ more_others request.now) }
+{
+    let mut paths = Vec::new(alloc);
+    paths.push(bare(request.folder))?;
+    push_some(&mut paths, request.manifest)?;
+    push_folder(&mut paths, request.lost)?;
+    Ok(paths)
+}
+
+/// Judges where the folder for lost folders is to be made, if they are asked for.
+fn find_trees_folder<F: Files>(
+    alloc: Global,
+    request: &ExtractRequest<'_>,
+    files: &F,
+) -> Result<(), Refusal>
+    ensures free { OnOk result (IsTreesFree ⟦<F as Known>⟧.reach files.now request.now) }
+    ensures why { IfErr result (λ refusal. (refusal ≡ Refusal.Memory alloc_error) ⊎ MatchOption request.now.trees ⊥ (λ path. refusal ≡ Refusal.LostSpared)) }
+{
+    let Some(trees) = request.trees else {
+        return Ok(());
+    };
+    match other_paths(alloc, request) {
+        Ok(others) => find_new_folder(alloc, &others, bare(trees), files),
+        Err(AllocError) => Err(Refusal::Memory(AllocError)),
+    }
+}
+
+/// Judges where the folders for what is lost are to be made, as far as they are asked for.
+fn find_lost_folders<F: Files>(
+    alloc: Global,
+    request: &ExtractRequest<'_>,
+    files: &F,
+) -> Result<(), Refusal>
+    ensures free { OnOk result (IsLostFree ⟦<F as Known>⟧.reach files.now request.now × IsTreesFree ⟦<F as Known>⟧.reach files.now request.now) }
+    ensures why { IfErr result (λ refusal. (refusal ≡ Refusal.Memory alloc_error) ⊎ MatchOption request.now.lost ⊥ (λ path. refusal ≡ Refusal.LostSpared) ⊎ MatchOption request.now.trees ⊥ (λ path. refusal ≡ Refusal.LostSpared)) }
+{
+    match find_lost_folder(alloc, request, files) {
+        Ok(()) => {}
+        Err(refusal) => return Err(refusal),
+    }
+    match find_trees_folder(alloc, request, files) {
+        Ok(()) => Ok(()),
+        Err(refusal) => Err(refusal),
+    }
+}
+
+/// Where the manifest goes, every link followed, if one is asked for. The manifest is judged first, and then the folders for what is lost.
 ///
 /// # Errors
 ///
 /// `Spared` where the manifest would take the place of an input, or of a file that is no manifest, or might come into the way of the files; where that could not be
-/// found out, what is wrong with the inputs, or else `Output`. `LostSpared` where the folder for lost files is there. `Memory` if memory runs out.
+/// found out, what is wrong with the inputs, or else `Output`. `LostSpared` where a folder for what is lost is there. `Memory` if memory runs out.
 pub fn find_places<F: Files>(
     alloc: Global,
     request: &ExtractRequest<'_>,
@@ -73,7 +154,7 @@ pub fn find_places<F: Files>(
         Ok(place) => place,
         Err(refusal) => return Err(refusal),
     };
-    match find_lost_folder(alloc, request, files) {
+    match find_lost_folders(alloc, request, files) {
         Ok(()) => Ok(place),
         Err(refusal) => Err(refusal),
     }

@@ -163,6 +163,18 @@ pub fn place_of(
     Ok(Place { text, own })
 }
 
+/// Where the first node of a listing is written: at no name at all, where it is the root of a walk.
+pub fn first_place(alloc: Global, listing: &Listing<'_>, short: bool) -> Result<Place, AllocError>
+    requires { 0 < length listing.now.nodes.items }
+    ensures text { IfOk result (λ place. (n : NodeFields) → slice_get (listing_now listing.now).nodes 0 ≡ Some n → string_bytes place.text ≡ names_text (placed short (listing_now listing.now) 0 n)) }
+    ensures names { IfOk result (λ place. (names : List (List ℕ)) × (string_bytes place.text ≡ names_text names)) }
+    ensures own { IfOk result (λ place. (n : NodeFields) → slice_get (listing_now listing.now).nodes 0 ≡ Some n → place.own ≡ own_name short (listing_now listing.now) n) }
+{
+    let text = place_text(alloc, listing, 0, short, &[])?;
+    let own = own_name(alloc, listing, 0, short)?;
+    Ok(Place { text, own })
+}
+
 /// The index from which a walk goes on to `index`: `at`, or where `at` is greater, 0, that of the root, and then `way` is cleared.
 fn begin(way: &mut Vec<usize>, at: usize, index: usize) -> usize
     ensures before { result ≤ index }

@@ -12,24 +12,31 @@ use udfs_reading::{Sink, WriteFault, write_all};
 use udfs_salvage::push_names;
 use udfs_walk::Path;
 
-/// A keyword, the path of a node and a line feed.
-fn line_of(alloc: Global, word: &str, names: &Path) -> Result<String, AllocError>
-    ensures { IfOk result (λ text. string_bytes text ≡ line (word.now ++ names_text names.now)) }
+/// A keyword, the word before paths, the path of a node and a line feed.
+fn line_of(alloc: Global, keyword: &str, word: &str, names: &Path) -> Result<String, AllocError>
+    ensures { IfOk result (λ text. string_bytes text ≡ line (keyword.now ++ word.now ++ names_text names.now)) }
 {
-    let mut text = String::from_str(alloc, word)?;
+    let mut text = String::from_str(alloc, keyword)?;
+    text.push_str(word)?;
     push_names(&mut text, names)?;
     text.push('\n')?;
     Ok(text)
 }
 
 /// The line of a node that was written, with its short name where it has one.
-fn written_line(alloc: Global, names: &Path, own: &Option<Name>) -> Result<String, AllocError>
-    ensures { IfOk result (λ text. string_bytes text ≡ written_line names.now own.now) }
+fn written_line(
+    alloc: Global,
+    word: &str,
+    names: &Path,
+    own: &Option<Name>,
+) -> Result<String, AllocError>
+    ensures { IfOk result (λ text. string_bytes text ≡ written_line word.now names.now own.now) }
 {
     match own {
-        None => line_of(alloc, "written ", names),
+        None => line_of(alloc, "written ", word, names),
         Some(short) => {
             let mut text = String::from_str(alloc, "written ")?;
+            text.push_str(word)?;
             push_names(&mut text, names)?;
             text.push_str(" as ")?;
             short.write_escaped(&mut text)?;
@@ -39,16 +46,17 @@ fn written_line(alloc: Global, names: &Path, own: &Option<Name>) -> Result<Strin
     }
 }
 
-/// Prints what became of a node, if the output took all before it, and returns whether it took this too. Where memory runs out, nothing is printed.
+/// Prints what became of a node, with a word before its path, if the output took all before it, and returns whether it took this too. Where memory runs out, nothing is printed.
 pub fn tell<O: Sink>(
     alloc: Global,
     heard: bool,
     fate: Fate,
+    word: &str,
     names: &Path,
     own: &Option<Name>,
     out: &mut O,
 ) -> Result<bool, AllocError>
-    ensures lines { IfOk result (λ still. TellsOn heard still (O.stream out.old) (O.stream out.new) (fate_line fate names.now own.now)) }
+    ensures lines { IfOk result (λ still. TellsOn heard still (O.stream out.old) (O.stream out.new) (fate_line word.now fate names.now own.now)) }
     ensures memory { OnErr result (out.new ≡ out.old) }
 {
     if !heard {
@@ -56,9 +64,9 @@ pub fn tell<O: Sink>(
     }
     let line = match fate {
         Fate::Made | Fate::Passed => return Ok(true),
-        Fate::Written => written_line(alloc, names, own)?,
-        Fate::Failed | Fate::Left => line_of(alloc, "failed ", names)?,
-        Fate::Skipped => line_of(alloc, "skipped ", names)?,
+        Fate::Written => written_line(alloc, word, names, own)?,
+        Fate::Failed | Fate::Left => line_of(alloc, "failed ", word, names)?,
+        Fate::Skipped => line_of(alloc, "skipped ", word, names)?,
     };
     match write_all(out, line.as_bytes()) {
         Ok(()) => Ok(true),

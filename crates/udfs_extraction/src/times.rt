@@ -45,10 +45,16 @@ fn miss<F: Files>(line: Result<String, AllocError>, times: &Times, files: &F) {
     }
 }
 
-/// What is said of a file or a folder whose time could not be set.
-fn of_node<F: Files>(alloc: Global, node: &Node, files: &F) -> Result<String, AllocError> {
+/// What is said of a file or a folder whose time could not be set, with a word before its path.
+fn of_node<F: Files>(
+    alloc: Global,
+    word: &str,
+    node: &Node,
+    files: &F,
+) -> Result<String, AllocError> {
     let reason = Said(files.reason());
     let mut line = String::from_str(alloc, "time of ")?;
+    line.push_str(word)?;
     if push_shown_path(&mut line, &node.path).is_err() {
         return Err(AllocError);
     }
@@ -81,6 +87,7 @@ fn set_time<F: Files>(stamp: Stamp, path: &str, times: &Times, files: &F) -> boo
 /// Sets the time of what was made for a node at a place in a folder.
 fn set_node_time<F: Files>(
     alloc: Global,
+    word: &str,
     node: &Node,
     folder: &str,
     place: &str,
@@ -93,7 +100,7 @@ fn set_node_time<F: Files>(
     match path_in(alloc, folder, place) {
         Ok(path) => {
             if !set_time(stamp, path.as_str(), times, files) {
-                miss(of_node(alloc, node, files), times, files);
+                miss(of_node(alloc, word, node, files), times, files);
             }
         }
         Err(AllocError) => times.lack(),
@@ -123,6 +130,22 @@ pub fn set_lost_time<F: Files>(
     }
 }
 
+/// Sets the time of the file that was written at a place for a node, if one was and times are to be set.
+pub fn set_written_time<F: Files>(
+    alloc: Global,
+    word: &str,
+    node: &Node,
+    fate: Fate,
+    folder: &str,
+    place: &str,
+    times: &Times,
+    files: &F,
+) {
+    if fate == Fate::Written && times.are_kept() {
+        set_node_time(alloc, word, node, folder, place, times, files);
+    }
+}
+
 /// Whether a folder was made for a node with this fate: for its own sake, or for what is below it.
 fn is_folder_made(
     alloc: Global,
@@ -141,6 +164,7 @@ fn is_folder_made(
 /// index: its time is set when all is made, since what is put into it changes it.
 pub fn note_time<F: Files>(
     alloc: Global,
+    word: &str,
     node: &Node,
     index: usize,
     only: &[&str],
@@ -154,9 +178,7 @@ pub fn note_time<F: Files>(
     if !times.are_kept() {
         return;
     }
-    if fate == Fate::Written {
-        set_node_time(alloc, node, folder, place, times, files);
-    }
+    set_written_time(alloc, word, node, fate, folder, place, times, files);
     match is_folder_made(alloc, only, node, fate) {
         Ok(true) => {
             if made.push(index).is_err() {
@@ -173,6 +195,7 @@ pub fn note_time<F: Files>(
 fn set_folder_time<F: Files>(
     alloc: Global,
     listing: &Listing<'_>,
+    word: &str,
     at: usize,
     index: usize,
     short: bool,
@@ -188,6 +211,7 @@ fn set_folder_time<F: Files>(
         Ok(place) => {
             set_node_time(
                 alloc,
+                word,
                 node_at(listing, index),
                 folder,
                 place.as_str(),
@@ -209,6 +233,7 @@ fn set_folder_time<F: Files>(
 pub fn set_folder_times<F: Files>(
     alloc: Global,
     listing: &Listing<'_>,
+    word: &str,
     made: &[usize],
     short: bool,
     folder: &str,
@@ -222,10 +247,10 @@ pub fn set_folder_times<F: Files>(
     let mut at = 0;
     for index in made {
         at = set_folder_time(
-            alloc, listing, at, *index, short, folder, &mut way, times, files,
+            alloc, listing, word, at, *index, short, folder, &mut way, times, files,
         );
     }
     if let Some(root) = listing.nodes.first() {
-        set_node_time(alloc, root, folder, "", times, files);
+        set_node_time(alloc, word, root, folder, "", times, files);
     }
 }

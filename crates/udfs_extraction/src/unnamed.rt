@@ -282,7 +282,7 @@ fn put_entries<F: Files, O: Sink>(
 }
 
 /// Where the volume opens, makes a folder and brings its name to the disk. Returns `false` where that failed, and else `true`.
-fn make_if_open<F: Files>(volume: &Volume, folder: &str, files: &mut F) -> bool
+pub fn make_if_open<F: Files>(volume: &Volume, folder: &str, files: &mut F) -> bool
     ensures cause { result ≡ false → Fails F.faults }
     ensures others { (q : List ℕ) → F.holds files.new q ≡ F.holds files.old q }
     ensures crash { Goes F.moment F.may_leave F.left_since files.old files.new Same }
@@ -323,18 +323,20 @@ fn put_lost<F: Files, O: Sink>(
     Ok(told.good)
 }
 
-/// The entries that no name leads to, where lost files are asked for; and else none, though there may be some.
+/// The entries that no name leads to, where lost files or lost folders are asked for; and else none, though there may be some.
 pub fn lost_entries(
     alloc: Global,
     listing: &Listing<'_>,
     lost: Option<&str>,
+    trees: Option<&str>,
 ) -> Result<Vec<Unnamed>, Refusal>
-    ensures entries { IfOk result (λ entries. MatchOption lost.entry ⊤ (λ folder. AreUnnamed listing.now entries.items)) }
+    ensures lost { IfOk result (λ entries. MatchOption lost.entry ⊤ (λ folder. AreUnnamed listing.now entries.items)) }
+    ensures trees { IfOk result (λ entries. MatchOption trees.entry ⊤ (λ folder. AreUnnamed listing.now entries.items)) }
     ensures refused { IfErr result (λ refusal. refusal ≡ Refusal.Memory alloc_error) }
 {
-    match lost {
-        None => Ok(Vec::new(alloc)),
-        Some(_) => unnamed_in(alloc, listing),
+    match (lost, trees) {
+        (None, None) => Ok(Vec::new(alloc)),
+        _ => unnamed_in(alloc, listing),
     }
 }
 

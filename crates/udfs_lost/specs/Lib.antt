@@ -8,3 +8,4 @@ pub mod LostTrees
 pub mod LostFiles
 pub mod Parents
 pub mod Subtrees
+pub mod PlacedVolumes

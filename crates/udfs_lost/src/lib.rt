@@ -2,8 +2,8 @@
 //! Lost folders with their names: directories that no known name leads to, the trees below them, and lost files.
 //!
 //! [`lost_roots`] finds the folders from which to walk, [`lost_trees`] their nodes, [`lost_files`] the files that no such tree
-//! names, and [`parent`] the directory in which a folder says that it is. The laws in [`laws`] say what a lost tree tells of
-//! the tree of its volume.
+//! names, and [`parent`] the directory in which a folder says that it is. [`placed_volume`] finds what a lost folder needs of a
+//! volume whose root is not known. The laws in [`laws`] say what a lost tree tells of the tree of its volume.
 #![tactic(auto)]
 
 mod entries;
@@ -13,6 +13,7 @@ pub mod laws;
 pub mod links;
 mod met;
 pub mod parents;
+pub mod placed;
 mod search;
 pub mod trees;
 
@@ -20,4 +21,5 @@ pub use files::lost_files;
 pub use folders::lost_roots;
 pub use links::link_count;
 pub use parents::parent;
+pub use placed::{PlacedVolume, placed_volume};
 pub use trees::{LostTree, lost_trees};

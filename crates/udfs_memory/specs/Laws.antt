@@ -1,5 +1,5 @@
 -- The laws of the clock of a log.
-use Rattle.std.specs.Prelude.{◌≡◌, ◌⊎◌, ℕ, ◌≤◌, List, [], ◌∷◌, length}
+use Rattle.std.specs.Prelude.{ℕ, ◌≤◌, List, [], ◌∷◌, length}
 use Rattle.std.proofs.Common.{inl, inr, arith}
 use Rattle.udfs_files.specs.Disk.{Disk}
 use Rattle.udfs_memory.specs.declared.memory.Event.{Event}

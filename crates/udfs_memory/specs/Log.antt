@@ -1,5 +1,5 @@
 -- What a log of calls says of files: what they hold, and what a crash may leave. The newest call is first.
-use Rattle.std.specs.Prelude.{◌≡◌, ◌≢◌, ◌⊎◌, ℕ, ◌≤◌, List, [], ◌∷◌, length, Option, Some, None, if◌then◌else◌, bytes_eq, ⊤}
+use Rattle.std.specs.Prelude.{◌≡◌, ◌≢◌, ◌⊎◌, ℕ, ◌≤◌, List, [], ◌∷◌, length, Option, Some, None, if◌then◌else◌, bytes_eq}
 use Rattle.udfs_files.specs.Disk.{Disk, Gone, SameBut, Moved, After, folder_of}
 use Rattle.udfs_memory.specs.declared.memory.Event.{Event}
 use Rattle.udfs_memory.specs.declared.memory.Event.TheVariants.{Begun, Written, Renamed, Removed, Named}

@@ -3,7 +3,7 @@ use Rattle.std.specs.Prelude.{◌≡◌, ◌≢◌, ◌⊎◌, ℕ, Bool, true, 
 use Rattle.std.proofs.Common.{inl, inr, ⊎_elim, refl, sym, ◌∙◌, ap, subst, Bor}
 use Rattle.std.proofs.lemmas.Bool.{cases_Bool}
 use Rattle.std.proofs.lemmas.Slice.Eq.{bytes_eq-Decides}
-use Rattle.udfs_files.specs.Disk.{Disk, Gone, SameBut, Moved, After, folder_of}
+use Rattle.udfs_files.specs.Disk.{Disk, SameBut, After, folder_of}
 use Rattle.udfs_memory.specs.declared.memory.Event.{Event}
 use Rattle.udfs_memory.specs.declared.memory.Event.TheVariants.{Begun, Written, Renamed, Removed, Named}
 use Rattle.udfs_memory.specs.Log.{held, may_be_kept, crash_outcome}

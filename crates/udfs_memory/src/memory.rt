@@ -4,6 +4,8 @@ ghost use Rattle.std.proofs.Common.{refl};
 ghost use Rattle.std.specs.Prelude.{◌≡◌, ℕ, List, Option, length, true, Some, None, IfOk, OnOk, OnErr, IsErr, [], ◌∷◌, take, ◌≤◌, bytes_eq, ⊤};
 ghost use Rattle.udfs_memory.specs.Log.{held, may_be_kept, crash_outcome, outcome_since, search_result};
 ghost use Rattle.udfs_memory.specs.Survivors.{absent_kept as log_absent_kept, lost, lost_may_be, option_now, beside};
+ghost use Rattle.udfs_memory.specs.Devices.{IsFolder, IsNoFile};
+ghost use Rattle.udfs_files.specs.declared.files.Kind.{Kind};
 ghost use Rattle.udfs_memory.specs.Laws.{counts_now as log_counts_now, least, only_now as log_only_now};
 ghost use Rattle.std.proofs.Common.{false, inl};
 ghost use Rattle.udfs_files.specs.Disk.{folder_of, has_slash};
@@ -178,7 +180,8 @@ pub struct Memory {
 impl Memory {
     /// No file at all, on sound devices.
     pub fn new(alloc: Global) -> Memory
-        ensures { result.log.items ≡ [] }
+        ensures no_file { result.log.items ≡ [] }
+        ensures no_folder { result.folders.items ≡ [] }
     {
         Memory {
             alloc,
@@ -304,13 +307,29 @@ impl Memory {
     }
 
     /// Whether the folder is there.
-    pub fn has_folder(&self, path: &str) -> bool {
+    pub fn has_folder(&self, path: &str) -> bool
+        ensures { result ≡ true → IsFolder self.now.folders.items path.now }
+    {
         for folder in &self.folders {
             if folder.as_str() == path {
                 return true;
             }
         }
         false
+    }
+
+    /// What is at a path. Paths that begin with `dev/` are devices, and folders are no files.
+    fn kind(&self, path: &str) -> Kind
+        ensures other { result ≡ Kind.Other → IsNoFile self.now.folders.items path.now }
+        ensures absent { result ≡ Kind.Absent → held self.now.log.items path.now ≡ Some None }
+    {
+        if path.starts_with("dev/") || self.has_folder(path) {
+            return Kind::Other;
+        }
+        if self.is_absent(path) {
+            return Kind::Absent;
+        }
+        Kind::Regular
     }
 
     /// Whether the path is in a folder that is there. Paths without a `/` are, and devices.
@@ -349,7 +368,7 @@ impl Files for Memory {
 
     ghost is_no_link = { λ _ _. ⊤ };
 
-    ghost in_place = { λ _ _. ⊤ };
+    ghost in_place = { λ m p. IsNoFile m.folders.items p };
 
     ghost shut = { λ _ _. ⊤ };
 
@@ -397,7 +416,7 @@ impl Files for Memory {
 
     /// Paths that begin with `dev/` are devices, and folders are no files: neither is read at positions.
     fn open_stored(&self, path: &str) -> Result<Option<MemoryStored>, DeviceFault> {
-        if path.starts_with("dev/") || self.has_folder(path) {
+        if self.kind(path) == Kind::Other {
             return Ok(None);
         }
         match find(&self.log, path.as_bytes()) {
@@ -412,13 +431,7 @@ impl Files for Memory {
         alloc: Global,
         path: &str,
     ) -> Result<Result<Target, DeviceFault>, AllocError> {
-        let kind = if path.starts_with("dev/") || self.has_folder(path) {
-            Kind::Other
-        } else if self.is_absent(path) {
-            Kind::Absent
-        } else {
-            Kind::Regular
-        };
+        let kind = self.kind(path);
         let path = String::from_str(alloc, path)?;
         Ok(Ok(Target { path, kind }))
     }

@@ -6,7 +6,9 @@ use Rattle.serde_json.specs.Data.{boolean, string}
 use Rattle.serde_json.specs.Written.{compact_text}
 use Rattle.udfs_volume.specs.Layout.{Layout}
 use Rattle.udfs_salvage.specs.Texts.{revision_text}
-use Rattle.udfs_overview.specs.SummaryJson.{disc_data, fault_data, files_data, folders_data, holes_data, is_at_least, label_data, open_data, others_data, profile_name, remarks_data, unnamed_data}
+use Rattle.udfs_lawfulness.specs.declared.answers.Lawfulness.{Lawfulness}
+use Rattle.udfs_overview.specs.Guarantees.{guarantee_text}
+use Rattle.udfs_overview.specs.SummaryJson.{disc_data, fault_data, files_data, folders_data, guarantee_data, guarantee_state, holes_data, is_at_least, label_data, open_count, open_data, others_data, profile_name, remarks_data, unnamed_data}
 use Rattle.udfs_overview.specs.SummaryPieces.{ends_piece, nodes_piece, whole_piece}
 use Rattle.udfs_overview.specs.declared.disc_tallies.DiscTally.{DiscTally}
 use Rattle.udfs_overview.specs.declared.disc_tallies.UnnamedTally.{UnnamedTally}
@@ -75,31 +77,41 @@ pub remarks_pieces : (f : Figures) → (codes "{\"moved_folders\":" ++ decimal f
 unfolding remarks_data serde_json_on_literals
 remarks_pieces f = three_pairs (codes "{\"moved_folders\":") (decimal f.moved) (codes ",\"spares_disagree\":") (compact_text (boolean f.spares_disagree)) (codes ",\"with_streams\":") (decimal f.streams) (codes "}")
 
-holes_row : (a d f p e : List ℕ) → a ++ d ++ (f ++ p) ++ e ≡ a ++ (d ++ (f ++ (p ++ e)))
-holes_row a d f p e = simp append_assoc
+guarantee_row : (f1 d1 f2 d2 f3 d3 e : List ℕ) → (f1 ++ d1) ++ (f2 ++ d2) ++ (f3 ++ d3) ++ e ≡ f1 ++ (d1 ++ (f2 ++ (d2 ++ (f3 ++ (d3 ++ e)))))
+guarantee_row f1 d1 f2 d2 f3 d3 e = simp append_assoc
 
-pub holes_pieces : (f : Figures) → codes "{\"disc\":" ++ compact_text (disc_data f.last f.disc) ++ (codes ",\"profile\":" ++ compact_text (string (profile_name f.profile))) ++ codes ",\"state\":\"holes\"}" ≡ compact_text (holes_data f)
+pub guarantee_pieces : (a : Lawfulness) → (codes "{\"not_known\":" ++ decimal (open_count a)) ++ (codes ",\"state\":" ++ compact_text (string (guarantee_state a))) ++ (codes ",\"text\":" ++ compact_text (string (guarantee_text a))) ++ codes "}" ≡ compact_text (guarantee_data a)
+unfolding guarantee_data serde_json_on_literals
+guarantee_pieces a =
+    guarantee_row (codes "{\"not_known\":") (decimal (open_count a)) (codes ",\"state\":") (compact_text (string (guarantee_state a))) (codes ",\"text\":") (compact_text (string (guarantee_text a))) (codes "}")
+
+holes_row : (a d g w f p e : List ℕ) → a ++ d ++ (g ++ w) ++ (f ++ p) ++ e ≡ a ++ (d ++ (g ++ (w ++ (f ++ (p ++ e)))))
+holes_row a d g w f p e = simp append_assoc
+
+pub holes_pieces : (f : Figures) (a : Lawfulness) → codes "{\"disc\":" ++ compact_text (disc_data f.last f.disc) ++ (codes ",\"guarantee\":" ++ compact_text (guarantee_data a))
+    ++ (codes ",\"profile\":" ++ compact_text (string (profile_name f.profile))) ++ codes ",\"state\":\"holes\"}" ≡ compact_text (holes_data f a)
 unfolding holes_data serde_json_on_literals
-holes_pieces f = holes_row (codes "{\"disc\":") (compact_text (disc_data f.last f.disc)) (codes ",\"profile\":") (compact_text (string (profile_name f.profile))) (codes ",\"state\":\"holes\"}")
+holes_pieces f a =
+    holes_row (codes "{\"disc\":") (compact_text (disc_data f.last f.disc)) (codes ",\"guarantee\":") (compact_text (guarantee_data a)) (codes ",\"profile\":") (compact_text (string (profile_name f.profile))) (codes ",\"state\":\"holes\"}")
 
-fault_row : (a d f n g p e : List ℕ) → a ++ d ++ (f ++ n) ++ (g ++ p) ++ e ≡ a ++ (d ++ (f ++ (n ++ (g ++ (p ++ e)))))
-fault_row a d f n g p e = simp append_assoc
+fault_row : (a d f n h w g p e : List ℕ) → a ++ d ++ (f ++ n) ++ (h ++ w) ++ (g ++ p) ++ e ≡ a ++ (d ++ (f ++ (n ++ (h ++ (w ++ (g ++ (p ++ e)))))))
+fault_row a d f n h w g p e = simp append_assoc
 
-pub fault_pieces : (f : Figures) (name : List ℕ) → codes "{\"disc\":" ++ compact_text (disc_data f.last f.disc) ++ (codes ",\"fault\":" ++ compact_text (string name))
-    ++ (codes ",\"profile\":" ++ compact_text (string (profile_name f.profile))) ++ codes ",\"state\":\"fault\"}" ≡ compact_text (fault_data f name)
+pub fault_pieces : (f : Figures) (name : List ℕ) (a : Lawfulness) → codes "{\"disc\":" ++ compact_text (disc_data f.last f.disc) ++ (codes ",\"fault\":" ++ compact_text (string name))
+    ++ (codes ",\"guarantee\":" ++ compact_text (guarantee_data a)) ++ (codes ",\"profile\":" ++ compact_text (string (profile_name f.profile))) ++ codes ",\"state\":\"fault\"}" ≡ compact_text (fault_data f name a)
 unfolding fault_data serde_json_on_literals
-fault_pieces f name =
-    fault_row (codes "{\"disc\":") (compact_text (disc_data f.last f.disc)) (codes ",\"fault\":") (compact_text (string name)) (codes ",\"profile\":") (compact_text (string (profile_name f.profile))) (codes ",\"state\":\"fault\"}")
+fault_pieces f name a =
+    fault_row (codes "{\"disc\":") (compact_text (disc_data f.last f.disc)) (codes ",\"fault\":") (compact_text (string name)) (codes ",\"guarantee\":") (compact_text (guarantee_data a)) (codes ",\"profile\":") (compact_text (string (profile_name f.profile))) (codes ",\"state\":\"fault\"}")
 
-open_row : (a1 a2 b1 b2 c1 c2 f1 f2 g1 g2 l1 l2 o1 o2 p1 p2 r1 r2 v1 v2 u1 u2 e : List ℕ)
-    → ((a1 ++ a2) ++ (b1 ++ b2) ++ c1 ++ c2) ++ (f1 ++ f2 ++ g1 ++ g2 ++ l1 ++ l2 ++ o1 ++ o2) ++ ((p1 ++ p2) ++ r1 ++ r2 ++ (v1 ++ v2) ++ u1 ++ u2 ++ e)
-    ≡ a1 ++ (a2 ++ (b1 ++ (b2 ++ (c1 ++ (c2 ++ (f1 ++ (f2 ++ (g1 ++ (g2 ++ (l1 ++ (l2 ++ (o1 ++ (o2 ++ (p1 ++ (p2 ++ (r1 ++ (r2 ++ (v1 ++ (v2 ++ (u1 ++ (u2 ++ e)))))))))))))))))))))
-open_row a1 a2 b1 b2 c1 c2 f1 f2 g1 g2 l1 l2 o1 o2 p1 p2 r1 r2 v1 v2 u1 u2 e = simp append_assoc
+open_row : (a1 a2 b1 b2 c1 c2 f1 f2 g1 g2 h1 h2 l1 l2 o1 o2 p1 p2 r1 r2 v1 v2 u1 u2 e : List ℕ)
+    → ((a1 ++ a2) ++ (b1 ++ b2) ++ c1 ++ c2) ++ (f1 ++ f2 ++ g1 ++ g2 ++ (h1 ++ h2) ++ l1 ++ l2 ++ o1 ++ o2) ++ ((p1 ++ p2) ++ r1 ++ r2 ++ (v1 ++ v2) ++ u1 ++ u2 ++ e)
+    ≡ a1 ++ (a2 ++ (b1 ++ (b2 ++ (c1 ++ (c2 ++ (f1 ++ (f2 ++ (g1 ++ (g2 ++ (h1 ++ (h2 ++ (l1 ++ (l2 ++ (o1 ++ (o2 ++ (p1 ++ (p2 ++ (r1 ++ (r2 ++ (v1 ++ (v2 ++ (u1 ++ (u2 ++ e)))))))))))))))))))))))
+open_row a1 a2 b1 b2 c1 c2 f1 f2 g1 g2 h1 h2 l1 l2 o1 o2 p1 p2 r1 r2 v1 v2 u1 u2 e = simp append_assoc
 
-pub open_pieces : (f : Figures) (l : Layout) → whole_piece f ++ nodes_piece f l ++ ends_piece f l ≡ compact_text (open_data f l)
+pub open_pieces : (f : Figures) (l : Layout) (a : Lawfulness) → whole_piece f ++ nodes_piece f l a ++ ends_piece f l ≡ compact_text (open_data f l a)
 unfolding whole_piece nodes_piece ends_piece open_data serde_json_on_literals
-open_pieces f l =
+open_pieces f l a =
     open_row (codes "{\"all_whole\":") (compact_text (boolean f.all_whole)) (codes ",\"at_least\":") (compact_text (boolean (is_at_least f.tally))) (codes ",\"disc\":") (compact_text (disc_data f.last f.disc))
-    (codes ",\"files\":") (compact_text (files_data f.tally)) (codes ",\"folders\":") (compact_text (folders_data f.tally)) (codes ",\"label\":") (compact_text (label_data l.label))
+    (codes ",\"files\":") (compact_text (files_data f.tally)) (codes ",\"folders\":") (compact_text (folders_data f.tally)) (codes ",\"guarantee\":") (compact_text (guarantee_data a)) (codes ",\"label\":") (compact_text (label_data l.label))
     (codes ",\"others\":") (compact_text (others_data f.tally)) (codes ",\"profile\":") (compact_text (string (profile_name f.profile))) (codes ",\"remarks\":") (compact_text (remarks_data f))
     (codes ",\"revision\":") (compact_text (string (revision_text l.revision))) (codes ",\"state\":\"ok\",\"unnamed\":") (compact_text (unnamed_data f.unnamed)) (codes "}")

@@ -19,6 +19,7 @@ pub mod VolumeLines
 pub mod TornLists
 pub mod TornFiles
 pub mod UnreadLists
+pub mod Guarantees
 pub mod Disagreements
 pub mod Repeating
 pub mod NextCommands

@@ -1,7 +1,7 @@
 -- The summary of a report.
 --     folders_line tally path      the line of the folders, and where names may be missing
 --     next_lines words rules table last report        what to do next
---     summary_text words rules table last report      all lines
+--     summary_text words rules table last report answer      all lines, where this is known of its lawfulness
 use Rattle.std.specs.Prelude.{ℕ, ◌-◌, ◌==◌, ◌&&◌, Bool, List, [], ◌∷◌, ◌++◌, Option, Some, None, codes, find, length, option_map, if◌then◌else◌}
 use Rattle.udfs_lattice.specs.Tables.{Table, state_of}
 use Rattle.udfs_lattice.specs.Volumes.{Blocks}
@@ -11,8 +11,10 @@ use Rattle.udfs_volume.specs.declared.profiles.Profile.TheVariants as profile
 use Rattle.udfs_walk.specs.NodeFields.{NodeFields}
 use Rattle.udfs_salvage.specs.Found.{Found}
 use Rattle.udfs_salvage.specs.Reports.{Report, all_whole}
+use Rattle.udfs_lawfulness.specs.declared.answers.Lawfulness.{Lawfulness}
 use Rattle.udfs_overview.specs.Disagreements.{apart_lines}
 use Rattle.udfs_overview.specs.DiscTallies.{disc_of, unnamed_of}
+use Rattle.udfs_overview.specs.Guarantees.{guarantee_line}
 use Rattle.udfs_overview.specs.LeftOut.{left_out_line, left_out_types}
 use Rattle.udfs_overview.specs.MovedTags.{moved_count, moved_line}
 use Rattle.udfs_overview.specs.Narrow.{narrow}
@@ -101,7 +103,7 @@ wide_lines g last other = next_label ++ widening_text other ++ codes "\n        
 
 -- of a volume with a fault: it does not open by these rules, whatever is read again
 abbrev pub fault_lines : GivenWords → ℕ → Widening → List ℕ
-fault_lines g last wide.No = codes "Next       no block to read again helps:\n           man udfsalvage says what this fault means\n"
+fault_lines g last wide.No = codes "Next       no block to read again helps:\n           man udfsalvage-errors says what this fault means\n"
 fault_lines g last wide.Wants = wide_lines g last wide.Wants
 fault_lines g last (wide.Reads revision) = wide_lines g last (wide.Reads revision)
 
@@ -124,9 +126,10 @@ next_by g rules table last r (n ∷ ns) = again_lines g rules last (disc_of tabl
 unfoldable pub next_lines : GivenWords → Profile → Table → ℕ → Report → List ℕ
 next_lines g rules table last r = next_by g rules table last r r.reread
 
--- all lines of a report by the rules of a profile, of a disc that is read with these arguments
-unfoldable pub summary_text : GivenWords → Profile → Table → ℕ → Report → List ℕ
-summary_text g rules table last r =
-    volume_line r.volume last ++ apart_lines rules (state_of table) last ++ found_lines table r.volume r ++ wider_line (wider_count rules (state_of table) last r.nodes) ++ disc_line (disc_of table last r.reread) ++ unread_text (unread_paths r.nodes)
+-- all lines of a report by the rules of a profile, of a disc that is read with these arguments, where this answers whether it is lawful
+unfoldable pub summary_text : GivenWords → Profile → Table → ℕ → Report → Lawfulness → List ℕ
+summary_text g rules table last r answer =
+    volume_line r.volume last ++ apart_lines rules (state_of table) last ++ found_lines table r.volume r ++ wider_line (wider_count rules (state_of table) last r.nodes) ++ (guarantee_line answer ++ disc_line (disc_of table last r.reread))
+    ++ unread_text (unread_paths r.nodes)
     ++ torn_text (torn_rows (state_of table) r.nodes)
     ++ next_lines g rules table last r

@@ -1,7 +1,8 @@
 -- The figures of a summary as a JSON object. Keys are in byte order.
 --     figures_of rules table last report      all that a summary counts, by the definitions of its lines
---     summary_json rules table last report    the object of a report, and a line feed
-use Rattle.std.specs.Prelude.{ℕ, ◌+◌, ◌*◌, ◌==◌, ◌&&◌, Bool, not, List, ◌++◌, codes}
+--     guarantee_data answer                   whether the guarantee holds
+--     summary_json rules table last report answer    the object of a report, and a line feed
+use Rattle.std.specs.Prelude.{ℕ, ◌+◌, ◌*◌, ◌==◌, ◌&&◌, Bool, not, List, ◌++◌, codes, length}
 use Rattle.serde_json.specs.Data.{Data, null, boolean, string, object, Members, member, no_members}
 use Rattle.serde_json.specs.Written.{compact_text}
 use Rattle.udfs_lattice.specs.Tables.{Table, state_of}
@@ -16,7 +17,10 @@ use Rattle.udfs_salvage.specs.Found.{Found}
 use Rattle.udfs_salvage.specs.JsonNodes.{count}
 use Rattle.udfs_salvage.specs.Reports.{Report}
 use Rattle.udfs_salvage.specs.Texts.{revision_text}
+use Rattle.udfs_lawfulness.specs.declared.answers.Lawfulness.{Lawfulness}
+use Rattle.udfs_lawfulness.specs.declared.answers.Lawfulness.TheVariants as answer
 use Rattle.udfs_overview.specs.DiscTallies.{disc_of, unnamed_of}
+use Rattle.udfs_overview.specs.Guarantees.{guarantee_text}
 use Rattle.udfs_overview.specs.MovedTags.{moved_count}
 use Rattle.udfs_overview.specs.SafeNames.{safe_name}
 use Rattle.udfs_overview.specs.Spares.{spares_disagree}
@@ -105,14 +109,35 @@ abbrev pub profile_name : Profile → List ℕ
 profile_name Strict = codes "strict"
 profile_name Wide = codes "wide"
 
+-- how many blocks that are not known decide whether the volume is lawful
+abbrev pub open_count : Lawfulness → ℕ
+open_count answer.Lawful = 0
+open_count (answer.Unlawful why) = 0
+open_count (answer.Open blocks) = length blocks.items
+
+-- whether the guarantee holds, in a word
+abbrev pub guarantee_state : Lawfulness → List ℕ
+guarantee_state answer.Lawful = codes "holds"
+guarantee_state (answer.Unlawful why) = codes "fails"
+guarantee_state (answer.Open blocks) = codes "open"
+
+-- whether the guarantee holds
+unfoldable pub guarantee_data : Lawfulness → Data
+guarantee_data a = object (
+    member (codes "not_known") (count (open_count a))
+    (member (codes "state") (string (guarantee_state a))
+    (member (codes "text") (string (guarantee_text a))
+    no_members)))
+
 -- of a volume that opens
-unfoldable pub open_data : Figures → Layout → Data
-open_data f l = object (
+unfoldable pub open_data : Figures → Layout → Lawfulness → Data
+open_data f l a = object (
     member (codes "all_whole") (boolean f.all_whole)
     (member (codes "at_least") (boolean (is_at_least f.tally))
     (member (codes "disc") (disc_data f.last f.disc)
     (member (codes "files") (files_data f.tally)
     (member (codes "folders") (folders_data f.tally)
+    (member (codes "guarantee") (guarantee_data a)
     (member (codes "label") (label_data l.label)
     (member (codes "others") (others_data f.tally)
     (member (codes "profile") (string (profile_name f.profile))
@@ -120,31 +145,33 @@ open_data f l = object (
     (member (codes "revision") (string (revision_text l.revision))
     (member (codes "state") (string (codes "ok"))
     (member (codes "unnamed") (unnamed_data f.unnamed)
-    no_members))))))))))))
+    no_members)))))))))))))
 
 -- of a volume that lacks blocks before it opens
-unfoldable pub holes_data : Figures → Data
-holes_data f = object (
+unfoldable pub holes_data : Figures → Lawfulness → Data
+holes_data f a = object (
     member (codes "disc") (disc_data f.last f.disc)
+    (member (codes "guarantee") (guarantee_data a)
     (member (codes "profile") (string (profile_name f.profile))
     (member (codes "state") (string (codes "holes"))
-    no_members)))
-
--- of a volume with this fault
-unfoldable pub fault_data : Figures → List ℕ → Data
-fault_data f name = object (
-    member (codes "disc") (disc_data f.last f.disc)
-    (member (codes "fault") (string name)
-    (member (codes "profile") (string (profile_name f.profile))
-    (member (codes "state") (string (codes "fault"))
     no_members))))
 
--- by what the volume is: of one that does not open, its files are not counted
-abbrev pub summary_data : Answer Found → Figures → Data
-summary_data (found o) f = open_data f o.layout
-summary_data (holes blocks) f = holes_data f
-summary_data (faulty fault) f = fault_data f (volume_fault_name fault)
+-- of a volume with this fault
+unfoldable pub fault_data : Figures → List ℕ → Lawfulness → Data
+fault_data f name a = object (
+    member (codes "disc") (disc_data f.last f.disc)
+    (member (codes "fault") (string name)
+    (member (codes "guarantee") (guarantee_data a)
+    (member (codes "profile") (string (profile_name f.profile))
+    (member (codes "state") (string (codes "fault"))
+    no_members)))))
 
--- the object of a report, and a line feed
-unfoldable pub summary_json : Profile → Table → ℕ → Report → List ℕ
-summary_json rules table last r = compact_text (summary_data r.volume (figures_of rules table last r)) ++ codes "\n"
+-- by what the volume is: of one that does not open, its files are not counted
+abbrev pub summary_data : Answer Found → Figures → Lawfulness → Data
+summary_data (found o) f a = open_data f o.layout a
+summary_data (holes blocks) f a = holes_data f a
+summary_data (faulty fault) f a = fault_data f (volume_fault_name fault) a
+
+-- the object of a report, where this answers whether it is lawful, and a line feed
+unfoldable pub summary_json : Profile → Table → ℕ → Report → Lawfulness → List ℕ
+summary_json rules table last r a = compact_text (summary_data r.volume (figures_of rules table last r) a) ++ codes "\n"

@@ -10,17 +10,19 @@ ghost use Rattle.udfs_overview.specs.DiscTallies.{disc_of};
 ghost use Rattle.udfs_overview.specs.Repeating.{given_now};
 ghost use Rattle.udfs_overview.specs.Sentences.{sentence};
 ghost use Rattle.udfs_overview.specs.Summaries.{again_lines, counts_lines, extract_lines, fault_lines, folders_counts, folders_line, found_lines, is_all_whole, missing_in, missing_line, names_missing, next_lines, no_need_lines, nodes_lines, summary_text, torn_folder, wide_lines};
+ghost use Rattle.udfs_overview.specs.Guarantees.{guarantee_line};
 ghost use Rattle.udfs_overview.specs.LeftOut.{left_out_line};
 ghost use Rattle.udfs_overview.specs.Spares.{spares_disagree, spares_line};
 ghost use Rattle.udfs_overview.specs.MovedTags.{moved_count, moved_line};
 ghost use Rattle.udfs_overview.specs.NodeWidenings.{wider_count, wider_line};
 ghost use Rattle.udfs_overview.specs.Streams.{stream_count, streams_line};
-ghost use Rattle.udfs_overview.specs.SummaryTexts.{files_line, others_line, unnamed_line};
+ghost use Rattle.udfs_overview.specs.SummaryTexts.{disc_line, files_line, others_line, unnamed_line};
 ghost use Rattle.udfs_overview.specs.UnreadLists.{unread_paths, unread_text};
 ghost use Rattle.udfs_overview.specs.TornLists.{torn_rows, torn_text};
 
 use crate::disagreements::push_apart;
 use crate::disc_tallies::{DiscTally, UnnamedTally, count_disc, count_unnamed};
+use crate::guarantees::push_guarantee_line;
 use crate::left_out::{left_out_types, push_left_out};
 use crate::moved_tags::{count_moved, push_moved};
 use crate::next_commands::{Margins, Pass, push_extract, push_needed_steps, push_summary_by};
@@ -37,6 +39,7 @@ use crate::unread_lines::{push_unread, unread_in};
 use crate::volume_lines::push_volume;
 use crate::widenings::{Widening, push_widening, widening_by};
 use std::alloc::Global;
+use udfs_lawfulness::Lawfulness;
 use udfs_osta::OutOfMemory;
 use udfs_reading::Sink;
 use udfs_salvage::{RunError, Survey, Volume, flush};
@@ -322,7 +325,7 @@ fn push_fault_lines(
 {
     match widening {
         Widening::No => text.push_str(
-            "Next       no block to read again helps:\n           man udfsalvage says what this fault means\n",
+            "Next       no block to read again helps:\n           man udfsalvage-errors says what this fault means\n",
         ),
         Widening::Wants | Widening::Reads(_) => push_wide_lines(text, given, last, widening),
     }
@@ -388,6 +391,19 @@ fn push_next(
     }
 }
 
+/// Whether the guarantee holds, and the lines of the blocks.
+fn push_state(
+    alloc: Global,
+    text: &mut String,
+    answer: &Lawfulness,
+    disc: &DiscTally,
+) -> Result<(), OutOfMemory>
+    ensures { OnOk result (string_bytes text.new ≡ string_bytes text.old ++ (guarantee_line answer.now ++ disc_line disc.now)) }
+{
+    push_guarantee_line(alloc, text, answer)?;
+    push_disc(text, disc)
+}
+
 /// All lines.
 #[tactic(auto, unfolding(crate::specs::Summaries::summary_text))]
 fn push_summary(
@@ -395,15 +411,16 @@ fn push_summary(
     text: &mut String,
     given: &Given<'_>,
     survey: &Survey<'_>,
+    answer: &Lawfulness,
 ) -> Result<(), OutOfMemory>
-    ensures { OnOk result (string_bytes text.new ≡ string_bytes text.old ++ summary_text (given_now given.now) survey.now.profile survey.now.table.now survey.now.last (survey_now survey.now)) }
+    ensures { OnOk result (string_bytes text.new ≡ string_bytes text.old ++ summary_text (given_now given.now) survey.now.profile survey.now.table.now survey.now.last (survey_now survey.now) answer.now) }
 {
     push_volume(text, &survey.volume, survey.last)?;
     push_apart(alloc, text, survey)?;
     push_found_if_open(alloc, text, survey)?;
     push_wider_nodes(alloc, text, survey)?;
     let disc = count_disc(survey);
-    push_disc(text, &disc)?;
+    push_state(alloc, text, answer, &disc)?;
     push_all_unread(alloc, text, survey)?;
     push_top(alloc, text, survey)?;
     push_next(alloc, text, given, survey, &disc)
@@ -411,8 +428,8 @@ fn push_summary(
 
 /// Writes the summary of the report that a survey represents, of a disc that is read with these arguments: what the volume is, whether known anchors or
 /// known copies of its descriptors differ, how many files are complete, damaged or could not be looked at, how many files and folders are whole, torn, links, of a type
-/// that is not written or without a name, how many files have named streams, whether sparing copies disagree, the blocks of the disc, the torn files of which most is lost, and what
-/// to do next, as commands. A volume that does not open has a line that says why, that of the blocks, and what to do next. The blocks and holes of one
+/// that is not written or without a name, how many files have named streams, whether sparing copies disagree, whether the guarantee holds by this answer, the blocks of the disc,
+/// the torn files of which most is lost, and what to do next, as commands. A volume that does not open has a line that says why, that of the guarantee, that of the blocks, and what to do next. The blocks and holes of one
 /// node are held at a time.
 ///
 /// # Errors
@@ -422,12 +439,13 @@ pub fn write_summary<W: Sink>(
     alloc: Global,
     given: &Given<'_>,
     survey: &Survey<'_>,
+    answer: &Lawfulness,
     sink: &mut W,
 ) -> Result<(), RunError>
     ensures { Prints (W.stream sink.old) (W.stream sink.new)
-        (summary_text (given_now given.now) survey.now.profile survey.now.table.now survey.now.last (survey_now survey.now)) result }
+        (summary_text (given_now given.now) survey.now.profile survey.now.table.now survey.now.last (survey_now survey.now) answer.now) result }
 {
     let mut text = String::new(alloc);
-    push_summary(alloc, &mut text, given, survey)?;
+    push_summary(alloc, &mut text, given, survey, answer)?;
     flush(&mut text, sink)
 }

@@ -10,16 +10,19 @@ ghost use Rattle.udfs_salvage.specs.Found.{volume_now};
 ghost use Rattle.udfs_salvage.specs.Printing.{Prints};
 ghost use Rattle.udfs_salvage.specs.Surveys.{survey_now};
 ghost use Rattle.udfs_salvage.specs.Texts.{revision_text};
-ghost use Rattle.udfs_overview.specs.SummaryJson.{disc_data, fault_data, files_data, folders_data, holes_data, is_at_least, label_data, open_data, others_data, profile_name, remarks_data, summary_data, summary_json, unnamed_data};
+ghost use Rattle.udfs_overview.specs.Guarantees.{guarantee_text};
+ghost use Rattle.udfs_overview.specs.SummaryJson.{disc_data, fault_data, files_data, folders_data, guarantee_data, guarantee_state, holes_data, is_at_least, label_data, open_count, open_data, others_data, profile_name, remarks_data, summary_data, summary_json, unnamed_data};
 ghost use Rattle.udfs_overview.specs.SummaryPieces.{ends_piece, nodes_piece, whole_piece};
 
 use crate::disc_tallies::{DiscTally, UnnamedTally};
+use crate::guarantees::push_guarantee;
 use crate::node_objects::push_quoted;
 use crate::safe_names::push_safe_name;
 use crate::summary_figures::Figures;
 use crate::tallies::Tally;
 use std::alloc::Global;
 use std::fmt::Write;
+use udfs_lawfulness::Lawfulness;
 use udfs_osta::{Label, OutOfMemory};
 use udfs_reading::Sink;
 use udfs_salvage::{RunError, Survey, Volume, flush, revision_name};
@@ -201,6 +204,89 @@ fn push_at_least(text: &mut String, front: &str, tally: &Tally) -> Result<(), Ou
     push_truth(text, front, is_at_least(tally))
 }
 
+/// How many blocks that are not known decide whether the volume is lawful.
+fn open_count(answer: &Lawfulness) -> usize
+    ensures { result ≡ open_count answer.now }
+{
+    match answer {
+        Lawfulness::Lawful => 0,
+        Lawfulness::Unlawful(_) => 0,
+        Lawfulness::Open(blocks) => blocks.len(),
+    }
+}
+
+/// Whether the guarantee holds, in a word.
+fn guarantee_state(answer: &Lawfulness) -> &'static str
+    ensures { result.now ≡ guarantee_state answer.now }
+{
+    match answer {
+        Lawfulness::Lawful => "holds",
+        Lawfulness::Unlawful(_) => "fails",
+        Lawfulness::Open(_) => "open",
+    }
+}
+
+/// This word, behind other text.
+fn push_state(
+    alloc: Global,
+    text: &mut String,
+    front: &str,
+    answer: &Lawfulness,
+) -> Result<(), OutOfMemory>
+    ensures { OnOk result (string_bytes text.new ≡ string_bytes text.old ++ (front.now ++ compact_text (string (guarantee_state answer.now)))) }
+{
+    push_word(alloc, text, front, guarantee_state(answer))
+}
+
+/// Whether the guarantee holds, as a sentence, behind other text.
+fn push_told(
+    alloc: Global,
+    text: &mut String,
+    front: &str,
+    answer: &Lawfulness,
+) -> Result<(), OutOfMemory>
+    ensures { OnOk result (string_bytes text.new ≡ string_bytes text.old ++ (front.now ++ compact_text (string (guarantee_text answer.now)))) }
+{
+    let mut shown = String::new(alloc);
+    push_guarantee(&mut shown, answer)?;
+    text.push_str(front)?;
+    push_quoted(text, shown)
+}
+
+/// How many blocks decide it, behind other text.
+fn push_open_count(text: &mut String, front: &str, answer: &Lawfulness) -> Result<(), OutOfMemory>
+    ensures { OnOk result (string_bytes text.new ≡ string_bytes text.old ++ (front.now ++ decimal (open_count answer.now))) }
+{
+    push_number(text, front, open_count(answer) as u128)
+}
+
+/// Whether the guarantee holds.
+fn push_guarantee_object(
+    alloc: Global,
+    text: &mut String,
+    answer: &Lawfulness,
+) -> Result<(), OutOfMemory>
+    ensures { OnOk result (string_bytes text.new ≡ string_bytes text.old ++ compact_text (guarantee_data answer.now)) }
+{
+    push_open_count(text, "{\"not_known\":", answer)?;
+    push_state(alloc, text, ",\"state\":", answer)?;
+    push_told(alloc, text, ",\"text\":", answer)?;
+    push_text(text, "}")
+}
+
+/// The same, behind other text.
+fn push_guarantee_behind(
+    alloc: Global,
+    text: &mut String,
+    front: &str,
+    answer: &Lawfulness,
+) -> Result<(), OutOfMemory>
+    ensures { OnOk result (string_bytes text.new ≡ string_bytes text.old ++ (front.now ++ compact_text (guarantee_data answer.now))) }
+{
+    text.push_str(front)?;
+    push_guarantee_object(alloc, text, answer)
+}
+
 /// The object of a volume that opens, up to its files.
 #[tactic(auto, unfolding(crate::specs::SummaryPieces::whole_piece))]
 fn push_whole(text: &mut String, figures: &Figures) -> Result<(), OutOfMemory>
@@ -219,13 +305,15 @@ fn push_nodes(
     text: &mut String,
     figures: &Figures,
     parts: &VolumeParts,
+    answer: &Lawfulness,
 ) -> Result<(), OutOfMemory>
-    ensures { OnOk result (string_bytes text.new ≡ string_bytes text.old ++ nodes_piece figures.now (parts_now parts.now)) }
+    ensures { OnOk result (string_bytes text.new ≡ string_bytes text.old ++ nodes_piece figures.now (parts_now parts.now) answer.now) }
 {
     text.push_str(",\"files\":")?;
     push_files(text, &figures.tally)?;
     text.push_str(",\"folders\":")?;
     push_folders(text, &figures.tally)?;
+    push_guarantee_behind(alloc, text, ",\"guarantee\":", answer)?;
     text.push_str(",\"label\":")?;
     push_label(alloc, text, &parts.label)?;
     text.push_str(",\"others\":")?;
@@ -257,20 +345,27 @@ fn push_open(
     text: &mut String,
     figures: &Figures,
     parts: &VolumeParts,
+    answer: &Lawfulness,
 ) -> Result<(), OutOfMemory>
-    ensures { OnOk result (string_bytes text.new ≡ string_bytes text.old ++ compact_text (open_data figures.now (parts_now parts.now))) }
+    ensures { OnOk result (string_bytes text.new ≡ string_bytes text.old ++ compact_text (open_data figures.now (parts_now parts.now) answer.now)) }
 {
     push_whole(text, figures)?;
-    push_nodes(alloc, text, figures, parts)?;
+    push_nodes(alloc, text, figures, parts, answer)?;
     push_ends(alloc, text, figures, parts)
 }
 
 /// The object of a volume that lacks blocks before it opens.
-fn push_holes(alloc: Global, text: &mut String, figures: &Figures) -> Result<(), OutOfMemory>
-    ensures { OnOk result (string_bytes text.new ≡ string_bytes text.old ++ compact_text (holes_data figures.now)) }
+fn push_holes(
+    alloc: Global,
+    text: &mut String,
+    figures: &Figures,
+    answer: &Lawfulness,
+) -> Result<(), OutOfMemory>
+    ensures { OnOk result (string_bytes text.new ≡ string_bytes text.old ++ compact_text (holes_data figures.now answer.now)) }
 {
     push_text(text, "{\"disc\":")?;
     push_disc(text, figures.last, &figures.disc)?;
+    push_guarantee_behind(alloc, text, ",\"guarantee\":", answer)?;
     push_profile(alloc, text, ",\"profile\":", figures.profile)?;
     push_text(text, ",\"state\":\"holes\"}")
 }
@@ -281,12 +376,14 @@ fn push_fault(
     text: &mut String,
     figures: &Figures,
     fault: VolumeFault,
+    answer: &Lawfulness,
 ) -> Result<(), OutOfMemory>
-    ensures { OnOk result (string_bytes text.new ≡ string_bytes text.old ++ compact_text (fault_data figures.now (volume_fault_name fault))) }
+    ensures { OnOk result (string_bytes text.new ≡ string_bytes text.old ++ compact_text (fault_data figures.now (volume_fault_name fault) answer.now)) }
 {
     push_text(text, "{\"disc\":")?;
     push_disc(text, figures.last, &figures.disc)?;
     push_fault_name(alloc, text, ",\"fault\":", fault)?;
+    push_guarantee_behind(alloc, text, ",\"guarantee\":", answer)?;
     push_profile(alloc, text, ",\"profile\":", figures.profile)?;
     push_text(text, ",\"state\":\"fault\"}")
 }
@@ -297,28 +394,34 @@ fn push_volume(
     text: &mut String,
     figures: &Figures,
     volume: &Volume,
+    answer: &Lawfulness,
 ) -> Result<(), OutOfMemory>
-    ensures { OnOk result (string_bytes text.new ≡ string_bytes text.old ++ compact_text (summary_data (volume_now volume.now) figures.now)) }
+    ensures { OnOk result (string_bytes text.new ≡ string_bytes text.old ++ compact_text (summary_data (volume_now volume.now) figures.now answer.now)) }
 {
     match volume {
-        Volume::Open(opened) => push_open(alloc, text, figures, &opened.parts),
-        Volume::Holes(_) => push_holes(alloc, text, figures),
-        Volume::Fault(fault) => push_fault(alloc, text, figures, *fault),
+        Volume::Open(opened) => push_open(alloc, text, figures, &opened.parts, answer),
+        Volume::Holes(_) => push_holes(alloc, text, figures, answer),
+        Volume::Fault(fault) => push_fault(alloc, text, figures, *fault, answer),
     }
 }
 
 /// The object of the report that a survey represents, and a line feed.
 #[tactic(auto, unfolding(crate::specs::SummaryJson::summary_json))]
-fn push_summary(alloc: Global, text: &mut String, survey: &Survey<'_>) -> Result<(), OutOfMemory>
-    ensures { OnOk result (string_bytes text.new ≡ string_bytes text.old ++ summary_json survey.now.profile survey.now.table.now survey.now.last (survey_now survey.now)) }
+fn push_summary(
+    alloc: Global,
+    text: &mut String,
+    survey: &Survey<'_>,
+    answer: &Lawfulness,
+) -> Result<(), OutOfMemory>
+    ensures { OnOk result (string_bytes text.new ≡ string_bytes text.old ++ summary_json survey.now.profile survey.now.table.now survey.now.last (survey_now survey.now) answer.now) }
 {
     let figures = Figures::of(alloc, survey)?;
-    push_volume(alloc, text, &figures, &survey.volume)?;
+    push_volume(alloc, text, &figures, &survey.volume, answer)?;
     text.push_str("\n")
 }
 
 /// Writes the figures of the summary of the report that a survey represents as one JSON object on a line, by the definitions of the summary's lines. Of a volume
-/// that does not open it has the blocks of the disc, the profile, and the fault where it is one.
+/// that does not open it has the blocks of the disc, whether the guarantee holds, the profile, and the fault where it is one.
 ///
 /// # Errors
 ///
@@ -326,12 +429,13 @@ fn push_summary(alloc: Global, text: &mut String, survey: &Survey<'_>) -> Result
 pub fn write_summary_json<W: Sink>(
     alloc: Global,
     survey: &Survey<'_>,
+    answer: &Lawfulness,
     sink: &mut W,
 ) -> Result<(), RunError>
     ensures { Prints (W.stream sink.old) (W.stream sink.new)
-        (summary_json survey.now.profile survey.now.table.now survey.now.last (survey_now survey.now)) result }
+        (summary_json survey.now.profile survey.now.table.now survey.now.last (survey_now survey.now) answer.now) result }
 {
     let mut text = String::new(alloc);
-    push_summary(alloc, &mut text, survey)?;
+    push_summary(alloc, &mut text, survey, answer)?;
     flush(&mut text, sink)
 }

@@ -125,7 +125,7 @@ fn push_holes(text: &mut String, blocks: &[u32]) -> Result<(), OutOfMemory>
 }
 
 /// The description of a volume's fault.
-fn fault_words(fault: VolumeFault) -> &'static str
+pub(crate) fn fault_words(fault: VolumeFault) -> &'static str
     ensures { result.now ≡ fault_words fault }
 {
     match fault {

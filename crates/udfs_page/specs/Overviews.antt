@@ -1,6 +1,6 @@
 -- The summary at the head of the page.
 --     title_html volume                what the page is of: the volume's name, where it opens
---     overview_html rules table last r   what is found of a volume, and the blocks of its disc, a division a line
+--     overview_html rules table last r answer   what is found of a volume, whether it is lawful by this answer, and the blocks of its disc, a division a line
 use Rattle.std.specs.Prelude.{ℕ, ◌-◌, ◌==◌, ◌&&◌, nat_le, List, [], ◌++◌, Option, Some, None, codes, length, if◌then◌else◌}
 use Rattle.udfs_lattice.specs.Tables.{Table, state_of}
 use Rattle.udfs_lattice.specs.Volumes.{Blocks}
@@ -8,9 +8,13 @@ use Rattle.udfs_volume.specs.declared.profiles.Profile.{Profile}
 use Rattle.udfs_volume.specs.Answers.{Answer, found, holes, faulty}
 use Rattle.udfs_salvage.specs.Found.{Found}
 use Rattle.udfs_salvage.specs.Reports.{Report}
+use Rattle.udfs_lawfulness.specs.declared.answers.Lawfulness.{Lawfulness}
+use Rattle.udfs_lawfulness.specs.declared.answers.Lawfulness.TheVariants as answer
+use Rattle.udfs_lawfulness.specs.declared.answers.Why.{Why}
 use Rattle.udfs_overview.specs.Disagreements.{apart_lines}
 use Rattle.udfs_overview.specs.DiscTallies.{disc_of, unnamed_of}
 use Rattle.udfs_overview.specs.Figures.{grouped}
+use Rattle.udfs_overview.specs.Guarantees.{guarantee_line, why_place, why_words}
 use Rattle.udfs_overview.specs.LeftOut.{left_out_line, left_out_types}
 use Rattle.udfs_overview.specs.MovedTags.{moved_count, moved_line}
 use Rattle.udfs_overview.specs.NodeWidenings.{wider_count, wider_line}
@@ -82,7 +86,17 @@ volume_html blocks (found f) last r = opened_html (tally_of blocks r.nodes) f la
 volume_html blocks (holes unread) last r = html_lines (volume_line (holes unread) last)
 volume_html blocks (faulty f) last r = html_lines (volume_line (faulty f) last)
 
+-- of a volume that is not lawful: why, and where
+abbrev pub unlawful_html : Why → List ℕ
+unlawful_html w = markup (codes "Guarantee  does not hold: ") ++ html_text (why_words w) ++ markup (codes ": ") ++ shown_name (why_place w) ++ next_line
+
+-- whether the guarantee holds
+abbrev pub guarantee_html : Lawfulness → List ℕ
+guarantee_html answer.Lawful = html_lines (guarantee_line answer.Lawful)
+guarantee_html (answer.Unlawful w) = unlawful_html w
+guarantee_html (answer.Open blocks) = html_lines (guarantee_line (answer.Open blocks))
+
 -- all lines
-unfoldable pub overview_html : Profile → Table → ℕ → Report → List ℕ
-overview_html rules table last r =
-    markup (codes "<div class=s>\n<div>") ++ volume_html (state_of table) r.volume last r ++ html_lines (apart_lines rules (state_of table) last) ++ html_lines (moved_line (moved_count (state_of table) r) ++ wider_line (wider_count rules (state_of table) last r.nodes)) ++ html_lines (disc_line (disc_of table last r.reread)) ++ markup (codes "</div>\n</div>\n")
+unfoldable pub overview_html : Profile → Table → ℕ → Report → Lawfulness → List ℕ
+overview_html rules table last r a =
+    markup (codes "<div class=s>\n<div>") ++ volume_html (state_of table) r.volume last r ++ html_lines (apart_lines rules (state_of table) last) ++ html_lines (moved_line (moved_count (state_of table) r) ++ wider_line (wider_count rules (state_of table) last r.nodes)) ++ guarantee_html a ++ html_lines (disc_line (disc_of table last r.reread)) ++ markup (codes "</div>\n</div>\n")

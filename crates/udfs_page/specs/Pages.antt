@@ -1,5 +1,5 @@
 -- The page of a report.
---     page_html words called rules table last report     all of it
+--     page_html words called rules table last report answer     all of it, where this answers whether the volume is lawful
 use Rattle.std.specs.Prelude.{ℕ, ◌+◌, List, [], ◌++◌, codes, length, take}
 use Rattle.udfs_lattice.specs.Tables.{Table, state_of}
 use Rattle.udfs_lattice.specs.Volumes.{Blocks}
@@ -8,6 +8,7 @@ use Rattle.udfs_space.specs.Places.{view}
 use Rattle.udfs_walk.specs.NodeFields.{NodeFields}
 use Rattle.udfs_salvage.specs.Found.{Found}
 use Rattle.udfs_salvage.specs.Reports.{Report}
+use Rattle.udfs_lawfulness.specs.declared.answers.Lawfulness.{Lawfulness}
 use Rattle.udfs_volume.specs.declared.profiles.Profile.{Profile}
 use Rattle.udfs_overview.specs.Repeating.{GivenWords}
 use Rattle.udfs_overview.specs.TornLists.{by_loss, shown_rows, torn_rows}
@@ -39,9 +40,9 @@ files_html blocks (holes unread) r = []
 files_html blocks (faulty f) r = []
 
 -- what the page says of the disc: what it is, what is known of it, and what to do next
-abbrev pub disc_html : GivenWords → CalledWords → Profile → Table → ℕ → Report → List ℕ
-disc_html g called rules table last r = overview_html rules table last r ++ picture_html (arcs_of table r.reread last) (last + 1) ++ next_html g called rules table last r
+abbrev pub disc_html : GivenWords → CalledWords → Profile → Table → ℕ → Report → Lawfulness → List ℕ
+disc_html g called rules table last r answer = overview_html rules table last r answer ++ picture_html (arcs_of table r.reread last) (last + 1) ++ next_html g called rules table last r
 
 -- all of it, of a report by the rules of a profile, where these arguments were given and the page is called so
-unfoldable pub page_html : GivenWords → CalledWords → Profile → Table → ℕ → Report → List ℕ
-page_html g called rules table last r = head_text called.title (title_html r.volume) ++ disc_html g called rules table last r ++ lacking_html (state_of table) r.nodes ++ files_html (state_of table) r.volume r ++ markup (codes "</body>\n</html>\n")
+unfoldable pub page_html : GivenWords → CalledWords → Profile → Table → ℕ → Report → Lawfulness → List ℕ
+page_html g called rules table last r answer = head_text called.title (title_html r.volume) ++ disc_html g called rules table last r answer ++ lacking_html (state_of table) r.nodes ++ files_html (state_of table) r.volume r ++ markup (codes "</body>\n</html>\n")

@@ -8,6 +8,7 @@ ghost use Rattle.udfs_salvage.specs.Surveys.{survey_now};
 ghost use Rattle.udfs_lattice.specs.Tables.{state_of};
 ghost use Rattle.udfs_overview.specs.Disagreements.{apart_lines};
 ghost use Rattle.udfs_overview.specs.DiscTallies.{disc_of};
+ghost use Rattle.udfs_overview.specs.Guarantees.{guarantee_line, why_place, why_words};
 ghost use Rattle.udfs_overview.specs.LeftOut.{left_out_line};
 ghost use Rattle.udfs_overview.specs.MovedTags.{moved_count, moved_line};
 ghost use Rattle.udfs_overview.specs.NodeWidenings.{wider_count, wider_line};
@@ -18,17 +19,19 @@ ghost use Rattle.udfs_overview.specs.TornLists.{shown_path};
 ghost use Rattle.udfs_overview.specs.VolumeLines.{label_text, volume_line};
 ghost use Rattle.udfs_page.specs.Escapes.{html_lines, html_text};
 ghost use Rattle.udfs_page.specs.Markups.{shown_name};
-ghost use Rattle.udfs_page.specs.Overviews.{counted_html, folder_counts_html, folders_html, found_html, missing_html, names_missing_html, next_line, open_html, opened_html, other_folders_html, overview_html, title_html, volume_html};
+ghost use Rattle.udfs_page.specs.Overviews.{counted_html, folder_counts_html, folders_html, found_html, guarantee_html, missing_html, names_missing_html, next_line, open_html, opened_html, other_folders_html, overview_html, title_html, unlawful_html, volume_html};
 
 use crate::escapes::{push_html, push_lines};
 use crate::markups::{push_markup, push_shown};
 use std::alloc::Global;
+use udfs_lawfulness::{Lawfulness, Why};
 use udfs_osta::{Label, OutOfMemory};
 use udfs_overview::{
     Tally, UnnamedTally, count_disc, count_moved, count_nodes, count_unnamed, count_wider,
     first_torn_folder, left_out_types, push_apart, push_disc, push_disc_size, push_files,
-    push_grouped, push_label, push_left_out, push_moved, push_others, push_revision, push_sentence,
-    push_shown_path, push_unnamed, push_volume, push_wider,
+    push_grouped, push_guarantee_line, push_label, push_left_out, push_moved, push_others,
+    push_revision, push_sentence, push_shown_path, push_unnamed, push_volume, push_why_place,
+    push_why_words, push_wider,
 };
 use udfs_salvage::{OpenVolume, Survey, Volume};
 use udfs_walk::Path;
@@ -326,19 +329,74 @@ fn push_volume_of(alloc: Global, text: &mut String, survey: &Survey<'_>) -> Resu
     }
 }
 
+/// Why a volume is not lawful.
+fn push_why(alloc: Global, text: &mut String, why: &Why) -> Result<(), OutOfMemory>
+    ensures { OnOk result (string_bytes text.new ≡ string_bytes text.old ++ html_text (why_words why.now)) }
+{
+    let mut words = String::new(alloc);
+    push_why_words(&mut words, why)?;
+    push_html(text, &words)
+}
+
+/// Where that is, by itself.
+fn push_where(alloc: Global, text: &mut String, why: &Why) -> Result<(), OutOfMemory>
+    ensures { OnOk result (string_bytes text.new ≡ string_bytes text.old ++ shown_name (why_place why.now)) }
+{
+    let mut place = String::new(alloc);
+    push_why_place(&mut place, why)?;
+    push_shown(text, &place)
+}
+
+/// Why a volume is not lawful, and where.
+fn push_unlawful(alloc: Global, text: &mut String, why: &Why) -> Result<(), OutOfMemory>
+    ensures { OnOk result (string_bytes text.new ≡ string_bytes text.old ++ unlawful_html why.now) }
+{
+    push_markup(text, "Guarantee  does not hold: ")?;
+    push_why(alloc, text, why)?;
+    push_markup(text, ": ")?;
+    push_where(alloc, text, why)?;
+    push_next_line(text)
+}
+
+/// Whether the guarantee holds, as the summary has it.
+fn push_guarantee_lines(
+    alloc: Global,
+    text: &mut String,
+    answer: &Lawfulness,
+) -> Result<(), OutOfMemory>
+    ensures { OnOk result (string_bytes text.new ≡ string_bytes text.old ++ html_lines (guarantee_line answer.now)) }
+{
+    let mut lines = String::new(alloc);
+    push_guarantee_line(alloc, &mut lines, answer)?;
+    push_lines(text, &lines)
+}
+
+/// Whether the guarantee holds.
+fn push_guarantee(alloc: Global, text: &mut String, answer: &Lawfulness) -> Result<(), OutOfMemory>
+    ensures { OnOk result (string_bytes text.new ≡ string_bytes text.old ++ guarantee_html answer.now) }
+{
+    match answer {
+        Lawfulness::Lawful => push_guarantee_lines(alloc, text, answer),
+        Lawfulness::Unlawful(why) => push_unlawful(alloc, text, why),
+        Lawfulness::Open(_) => push_guarantee_lines(alloc, text, answer),
+    }
+}
+
 /// All lines.
 #[tactic(auto, unfolding(crate::specs::Overviews::overview_html))]
 pub(crate) fn push_overview(
     alloc: Global,
     text: &mut String,
     survey: &Survey<'_>,
+    answer: &Lawfulness,
 ) -> Result<(), OutOfMemory>
-    ensures { OnOk result (string_bytes text.new ≡ string_bytes text.old ++ overview_html survey.now.profile survey.now.table.now survey.now.last (survey_now survey.now)) }
+    ensures { OnOk result (string_bytes text.new ≡ string_bytes text.old ++ overview_html survey.now.profile survey.now.table.now survey.now.last (survey_now survey.now) answer.now) }
 {
     push_markup(text, "<div class=s>\n<div>")?;
     push_volume_of(alloc, text, survey)?;
     push_apart_lines(alloc, text, survey)?;
     push_moved_lines(alloc, text, survey)?;
+    push_guarantee(alloc, text, answer)?;
     push_disc_lines(alloc, text, survey)?;
     push_markup(text, "</div>\n</div>\n")
 }

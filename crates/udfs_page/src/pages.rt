@@ -6,6 +6,7 @@ ghost use Rattle.udfs_lattice.specs.Tables.{Table, state_of};
 ghost use Rattle.udfs_volume.specs.declared.profiles.Profile.{Profile};
 ghost use Rattle.udfs_salvage.specs.Found.{volume_now};
 ghost use Rattle.udfs_salvage.specs.Reports.{Report};
+ghost use Rattle.udfs_lawfulness.specs.declared.answers.Lawfulness.{Lawfulness};
 ghost use Rattle.udfs_salvage.specs.Printing.{PassesOn, Prints};
 ghost use Rattle.udfs_salvage.specs.Surveys.{survey_now};
 ghost use Rattle.udfs_page.specs.Arcs.{arcs_of};
@@ -31,6 +32,7 @@ use crate::trees::put_tree;
 use crate::unread_tables::push_unread;
 use std::alloc::Global;
 use udfs_lattice::BlockTable;
+use udfs_lawfulness::Lawfulness;
 use udfs_osta::OutOfMemory;
 use udfs_overview::{Given, torn_files, unread_in};
 use udfs_reading::Sink;
@@ -74,10 +76,11 @@ fn push_about_disc(
     given: &Given<'_>,
     called: &Called<'_>,
     survey: &Survey<'_>,
+    answer: &Lawfulness,
 ) -> Result<(), OutOfMemory>
-    ensures { OnOk result (string_bytes text.new ≡ string_bytes text.old ++ disc_html (given_now given.now) (called_now called.now) survey.now.profile survey.now.table.now survey.now.last (survey_now survey.now)) }
+    ensures { OnOk result (string_bytes text.new ≡ string_bytes text.old ++ disc_html (given_now given.now) (called_now called.now) survey.now.profile survey.now.table.now survey.now.last (survey_now survey.now) answer.now) }
 {
-    push_overview(alloc, text, survey)?;
+    push_overview(alloc, text, survey, answer)?;
     push_arcs(alloc, text, survey.table, survey.last, &survey.reread)?;
     push_next(alloc, text, given, called, survey)
 }
@@ -136,12 +139,13 @@ fn push_front(
     given: &Given<'_>,
     called: &Called<'_>,
     survey: &Survey<'_>,
+    answer: &Lawfulness,
 ) -> Result<(), OutOfMemory>
-    ensures { OnOk result (string_bytes text.new ≡ string_bytes text.old ++ (head_text (called_now called.now).title (title_html (volume_now survey.now.volume)) ++ disc_html (given_now given.now) (called_now called.now) survey.now.profile survey.now.table.now survey.now.last (survey_now survey.now)
+    ensures { OnOk result (string_bytes text.new ≡ string_bytes text.old ++ (head_text (called_now called.now).title (title_html (volume_now survey.now.volume)) ++ disc_html (given_now given.now) (called_now called.now) survey.now.profile survey.now.table.now survey.now.last (survey_now survey.now) answer.now
         ++ lacking_html (state_of survey.now.table.now) (survey_now survey.now).nodes)) }
 {
     push_head(alloc, text, called.title, &survey.volume)?;
-    push_about_disc(alloc, text, given, called, survey)?;
+    push_about_disc(alloc, text, given, called, survey, answer)?;
     push_lacking(alloc, text, survey)
 }
 
@@ -153,17 +157,18 @@ fn put_page<W: Sink>(
     given: &Given<'_>,
     called: &Called<'_>,
     survey: &Survey<'_>,
+    answer: &Lawfulness,
 ) -> Result<(), RunError>
     ensures { PassesOn (W.stream sink.old) (W.stream sink.new) (string_bytes text.old) (string_bytes text.new)
-        (page_html (given_now given.now) (called_now called.now) survey.now.profile survey.now.table.now survey.now.last (survey_now survey.now)) result }
+        (page_html (given_now given.now) (called_now called.now) survey.now.profile survey.now.table.now survey.now.last (survey_now survey.now) answer.now) result }
 {
-    push_front(alloc, text, given, called, survey)?;
+    push_front(alloc, text, given, called, survey, answer)?;
     put_about_files(alloc, text, sink, survey)?;
     push_markup(text, "</body>\n</html>\n")?;
     Ok(())
 }
 
-/// Writes the page of the report that a survey represents, where these arguments were given and the page is called so: a whole HTML file, with what is found of the volume, the disc as a picture, what to do
+/// Writes the page of the report that a survey represents, where these arguments were given and the page is called so: a whole HTML file, with what is found of the volume, whether the guarantee holds by this answer, the disc as a picture, what to do
 /// next, what was not read, the torn files of which most is lost, and all files inside their folders. No name can begin or end an element in it. It is written in pieces: the
 /// blocks and holes of one node are held at a time, and no more text of the nodes than a piece and that of one of them.
 ///
@@ -175,17 +180,18 @@ pub fn write_page<W: Sink>(
     given: &Given<'_>,
     called: &Called<'_>,
     survey: &Survey<'_>,
+    answer: &Lawfulness,
     sink: &mut W,
 ) -> Result<(), RunError>
     ensures { Prints (W.stream sink.old) (W.stream sink.new)
-        (page_html (given_now given.now) (called_now called.now) survey.now.profile survey.now.table.now survey.now.last (survey_now survey.now)) result }
+        (page_html (given_now given.now) (called_now called.now) survey.now.profile survey.now.table.now survey.now.last (survey_now survey.now) answer.now) result }
 {
     let mut text = String::new(alloc);
-    put_page(alloc, &mut text, sink, given, called, survey)?;
+    put_page(alloc, &mut text, sink, given, called, survey, answer)?;
     flush(&mut text, sink)
 }
 
 /// Each page begins with the mark by which it is known. This is a law about pages; the call does nothing.
 pub fn pages_begin_so()
-    ensures { (given : GivenWords) → (called : CalledWords) → (rules : Profile) → (table : Table) → (last : ℕ) → (report : Report) → (rest : List ℕ) × (page_html given called rules table last report ≡ page_mark ++ rest) }
+    ensures { (given : GivenWords) → (called : CalledWords) → (rules : Profile) → (table : Table) → (last : ℕ) → (report : Report) → (answer : Lawfulness) → (rest : List ℕ) × (page_html given called rules table last report answer ≡ page_mark ++ rest) }
 {}

@@ -23,16 +23,19 @@ const BYTES: u64 = 1 << 44;
 #[derive(Drop)]
 pub struct IndexBlocks<'i, 'a, S: Stored> {
     index: &'i Index<'a, S>,
+    /// The inputs of the index: while they are held, its blocks can be read.
+    inputs: &'a [S],
     unread: Cell<Option<Unread>>,
 }
 
 impl<'i, 'a, S: Stored> IndexBlocks<'i, 'a, S> {
-    /// The blocks of this index.
-    pub fn new(index: &'i Index<'a, S>) -> IndexBlocks<'i, 'a, S>
+    /// The blocks of this index, which has taken these inputs.
+    pub fn new(index: &'i Index<'a, S>, inputs: &'a [S]) -> IndexBlocks<'i, 'a, S>
         ensures { (t : Table) → AreAllTold S.content → IsTable t → ⟦<Index<'a, S> as Taker<Cursor<'a, S>>>⟧.took index.now t → ⟦<IndexBlocks<'i, 'a, S> as ReportStore>⟧.holds result t }
     {
         IndexBlocks {
             index,
+            inputs,
             unread: Cell::new(None),
         }
     }

@@ -10,6 +10,8 @@ use Rattle.std.specs.Prelude.{◌≡◌, ◌⊎◌, ℕ, Bool, List, Option, all
 use Rattle.udfs_files.specs.Disk.{Fails}
 use Rattle.udfs_lattice.specs.Tables.{Table, state_of}
 use Rattle.udfs_salvage.specs.Reports.{Report, IsReportBy, all_whole}
+use Rattle.udfs_lawfulness.specs.Lawfulness.{IsDecided}
+use Rattle.udfs_lawfulness.specs.declared.answers.Lawfulness.{Lawfulness}
 use Rattle.udfs_page.specs.Heads.{page_mark}
 use Rattle.udfs_page.specs.Naming.{CalledWords}
 use Rattle.udfs_page.specs.Pages.{page_html}
@@ -28,11 +30,13 @@ use Rattle.udfs_reports.specs.Telling.{IsRefusedPut}
 abbrev pub called_by : PageRequest → CalledWords
 called_by r = record { title = option_map (λ text. text.now) r.title; out = r.out.now }
 
--- these bytes are the page that is asked for of the table's report, and whether there are nodes and all are whole
+-- these bytes are the page that is asked for of the table's report, with an answer that is true of the disc, and whether there are nodes and all are whole
 pub record IsPageOf (r : PageRequest) (last : ℕ) (whole : Bool) (bytes : List ℕ) (table : Table) : Type 0 where
   pub report : Report
   pub is_report : IsReportBy r.volume.profile (state_of table) last report
-  pub is : bytes ≡ page_html (given_by r.volume r.size) (called_by r) r.volume.profile table last report
+  pub answer : Lawfulness
+  pub decided : IsDecided r.volume.profile (state_of table) last answer
+  pub is : bytes ≡ page_html (given_by r.volume r.size) (called_by r) r.volume.profile table last report answer
   pub says : whole ≡ all_whole report.nodes
 
 -- a page takes the place of no input (`files`, and `parts`: the images and mapfiles among them), and, unless what is there may be no file (`in_place`), of no file but a page

@@ -38,7 +38,7 @@ use Rattle.udfs_common.specs.Guarding.{IsFreeMap, IsSparedMap, MayNotBeSeen}
 use Rattle.udfs_common.specs.Puts.{PutFails}
 use Rattle.udfs_common.specs.Reach.{Reach}
 use Rattle.udfs_common.specs.Refusing.{IsUnput}
-use Rattle.udfs_common.specs.Volumes.{IsNoVolume, OfVolume}
+use Rattle.udfs_common.specs.Volumes.{IsNoVolume, IsVolumeUnread, OfToldVolume, OfVolume}
 use Rattle.udfs_common.specs.declared.refusal.Refusal.{Refusal}
 use Rattle.udfs_common.specs.declared.refusal.Refusal.TheVariants.{Memory, Output, Spared}
 use Rattle.udfs_reports.specs.Comparing.{compared}
@@ -120,11 +120,12 @@ IsRefusedDomain Unmade r last old new refusal table = ((new ≡ old) × IsUntold
 module _ {F I M S W : Type 0} (reach : Reach F I M S W) (old : F) where
   -- the numbers that are asked for were printed
   abbrev pub PrintsNumbers : RereadRequest → Stream → Stream → Bool → Type 0
-  PrintsNumbers r before after whole = OfVolume reach old r.volume (λ last. TellsNumbers (texts r.only.items) r.volume.profile last before after whole)
+  PrintsNumbers r before after whole = OfToldVolume reach old r.volume (λ last. TellsNumbers (texts r.only.items) r.volume.profile last before after whole)
 
-  -- it is not known where the disc ends, or the inputs were not joined, and nothing was printed; or nothing was, or a beginning
+  -- it is not known where the disc ends, or the inputs were not joined, or not read again, and nothing was printed; or nothing was, or a beginning
   abbrev pub PrintsNoNumbers : RereadRequest → Stream → Stream → Refusal → Type 0
-  PrintsNoNumbers r before after refusal = ((after ≡ before) × IsNoVolume reach old r.volume refusal) ⊎ OfVolume reach old r.volume (λ last. IsRefusedNumbers (texts r.only.items) r.volume.profile last before after refusal)
+  PrintsNoNumbers r before after refusal =
+      ((after ≡ before) × (IsNoVolume reach old r.volume refusal ⊎ IsVolumeUnread reach old r.volume refusal)) ⊎ OfToldVolume reach old r.volume (λ last. IsRefusedNumbers (texts r.only.items) r.volume.profile last before after refusal)
 
   -- the mapfile of what was read of the disc, and its line
   abbrev pub IsMap : RereadRequest → Stream → Stream → Bool → List ℕ → Type 0

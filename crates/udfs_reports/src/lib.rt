@@ -2,6 +2,7 @@
 //! The commands that report on a volume: `report`, `reread`, `list`, `summary` and `page`.
 #![tactic(auto)]
 
+mod changes;
 mod comparing;
 pub mod giving;
 pub mod list;
@@ -11,5 +12,6 @@ mod paths;
 pub mod report;
 pub mod reread;
 pub mod reread_map;
+mod stored_reread;
 pub mod summary;
 pub mod telling;

@@ -23,9 +23,11 @@ use udfs_common::refusal::Refusal;
 use udfs_common::volumes::{joined_volume, unwritten_volume};
 use udfs_files::{Job, Stage};
 use udfs_lattice::BlockTable;
+use udfs_lawfulness::Lawfulness;
 use udfs_overview::Given;
 use udfs_page::{Called, write_page};
 use udfs_reading::Sink;
+use udfs_remarks::guarantees::judged;
 use udfs_remarks::looking::surveyed;
 use udfs_salvage::{RunError, Survey};
 use udfs_words::request::PageRequest;
@@ -53,6 +55,8 @@ struct PageText<'a, 'r> {
     called: &'a Called<'a>,
     /// What was found.
     survey: &'a Survey<'r>,
+    /// Whether the volume is lawful.
+    answer: &'a Lawfulness,
 }
 
 impl<'a, 'r> Job for PageText<'a, 'r> {
@@ -60,12 +64,19 @@ impl<'a, 'r> Job for PageText<'a, 'r> {
 
     type Refusal = PageError;
 
-    ghost wrote = { λ job old new. Appends old new (page_html (given_now job.given.now) (called_now job.called.now) job.survey.now.profile job.survey.now.table.now job.survey.now.last (survey_now job.survey.now)) };
+    ghost wrote = { λ job old new. Appends old new (page_html (given_now job.given.now) (called_now job.called.now) job.survey.now.profile job.survey.now.table.now job.survey.now.last (survey_now job.survey.now) job.answer.now) };
 
     ghost blames_sink = { λ _ error. error ≡ page_error.NotWritten };
 
     fn write_to<W: Sink>(&self, sink: &mut W) -> Result<(), PageError> {
-        match write_page(self.alloc, self.given, self.called, self.survey, sink) {
+        match write_page(
+            self.alloc,
+            self.given,
+            self.called,
+            self.survey,
+            self.answer,
+            sink,
+        ) {
             Ok(()) => Ok(()),
             Err(RunError::Write) => Err(PageError::NotWritten),
             // Its only other error is out of memory.
@@ -97,10 +108,11 @@ fn put_page<F: Files>(
     given: &Given<'_>,
     called: &Called<'_>,
     survey: &Survey<'_>,
+    answer: &Lawfulness,
     path: &str,
     files: &mut F,
 ) -> Result<(), Refusal>
-    ensures puts { PutsAs ⟦<F as Known>⟧.reach (λ said bytes. bytes ≡ page_html (given_now given.now) (called_now called.now) survey.now.profile survey.now.table.now survey.now.last (survey_now survey.now)) path.now files.old files.new result }
+    ensures puts { PutsAs ⟦<F as Known>⟧.reach (λ said bytes. bytes ≡ page_html (given_now given.now) (called_now called.now) survey.now.profile survey.now.table.now survey.now.last (survey_now survey.now) answer.now) path.now files.old files.new result }
     ensures why { IfErr result (IsUnput (PutFails ⟦<F as Known>⟧.reach path.now files.old)) }
 {
     let page = PageText {
@@ -108,6 +120,7 @@ fn put_page<F: Files>(
         given,
         called,
         survey,
+        answer,
     };
     match put_job(alloc, &page, path, files) {
         Ok(Ok(())) => Ok(()),
@@ -133,12 +146,16 @@ fn page_of<F: Files>(
         Ok(survey) => survey,
         Err(refusal) => return Err(refusal),
     };
+    let answer = match judged(alloc, table, last, request.volume.profile) {
+        Ok(answer) => answer,
+        Err(refusal) => return Err(refusal),
+    };
     let given = given_by(&request.volume, request.size);
     let called = Called {
         title: request.title,
         out: request.out,
     };
-    match put_page(alloc, &given, &called, &survey, request.out, files) {
+    match put_page(alloc, &given, &called, &survey, &answer, request.out, files) {
         Ok(()) => Ok(survey.all_whole()),
         Err(refusal) => Err(refusal),
     }

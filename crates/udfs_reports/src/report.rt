@@ -11,6 +11,7 @@ use udfs_common::refusal::Refusal;
 use udfs_files::Stage;
 use udfs_lattice::BlockTable;
 use udfs_reading::Sink;
+use udfs_remarks::guarantees::remark_on_guarantee;
 use udfs_remarks::looking::surveyed;
 use udfs_remarks::no_reports::refused_run;
 use udfs_remarks::remarks::remark_on;
@@ -60,6 +61,7 @@ impl Telling for ReportAs {
         match write_as(alloc, &survey, self.form, out) {
             Ok(()) => {
                 remark_on(alloc, &survey, files);
+                remark_on_guarantee(alloc, &survey, files);
                 Ok(survey.all_whole())
             }
             Err(error) => Err(refused_run(error)),

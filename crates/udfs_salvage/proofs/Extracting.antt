@@ -4,6 +4,7 @@ use Rattle.std.specs.Prelude.{slice_get, IsErrOf, MatchOption, Result, Ok, Err}
 use Rattle.std.proofs.lemmas.Option.{get_or_from_slice_get}
 use Rattle.udfs_volume.specs.declared.profiles.Profile.{Profile}
 use Rattle.udfs_lattice.specs.Volumes.{Blocks}
+use Rattle.udfs_tag.specs.declared.layouts.LongAd.{LongAd}
 use Rattle.udfs_volume.specs.Answers.{found}
 use Rattle.udfs_space.specs.Places.{view}
 use Rattle.udfs_file.specs.declared.cells.Cell.{Cell}
@@ -14,7 +15,9 @@ use Rattle.udfs_walk.specs.Routes.{Walked}
 use Rattle.udfs_walk.specs.declared.standings.Standing.{Standing}
 use Rattle.udfs_walk.specs.declared.standings.Standing.TheVariants.{Whole, Torn, Loop, Fault}
 use Rattle.udfs_walk.proofs.PublicLaws.{node_has_cells}
+use Rattle.udfs_tree.specs.Cells.{HasCellsAt}
 use Rattle.udfs_salvage.specs.Found.{Found}
+use Rattle.udfs_salvage.specs.WalkedNodes.{AreNodesFrom}
 use Rattle.udfs_salvage.specs.Reports.{Report, IsReportBy, ReportsBy, ReportsNodes}
 use Rattle.udfs_salvage.specs.Extraction.{Extracts, HasCellsInBy, is_offered}
 use Rattle.udfs_salvage.specs.declared.extraction.Fill.{Fill}
@@ -48,6 +51,18 @@ report_cells P blocks last i r f n fill is opens at offered = (
 
     there : (end : Walked) × (slice_get listed.nodes_are.walks i ≡ Some end) × (n.icb ≡ end.address) × ((cs : List Cell) × HasCells (view blocks f.space) end.address cs)
     there = node_has_cells (view blocks f.space) f.root r.nodes listed.nodes_are i n at (offered_body n.standing n.size fill offered)
+
+-- the cells of a node that was found from any root
+pub walked_cells : (blocks : Blocks) (f : Found) (root : LongAd) (r : Report) (i : ℕ) (n : NodeFields) (fill : Fill) → AreNodesFrom blocks f root r → slice_get r.nodes i ≡ Some n → is_offered n.standing n.size fill ≡ true
+    → (cs : List Cell) × HasCellsAt (view blocks f.space) root i cs × HasCells (view blocks f.space) n.icb cs
+walked_cells blocks f root r i n fill is at offered = (
+  there.3.0,
+  record { walks = is.nodes_are.walks; walk = is.nodes_are.walk; end = there.0; at = there.1; has_cells = there.3.1 },
+  subst (λ a. HasCells (view blocks f.space) a there.3.0) (sym there.2) there.3.1,
+)
+  where
+    there : (end : Walked) × (slice_get is.nodes_are.walks i ≡ Some end) × (n.icb ≡ end.address) × ((cs : List Cell) × HasCells (view blocks f.space) end.address cs)
+    there = node_has_cells (view blocks f.space) root r.nodes is.nodes_are i n at (offered_body n.standing n.size fill offered)
 
 none_some : {A : Type 0} (x : A) (o : Option A) → o ≡ None → o ≡ Some x → ⊥
 none_some x o e h = let z : ⊥ = cc in z

@@ -19,6 +19,7 @@ pub mod Surveys
 pub mod Listings
 pub mod JsonPieces
 pub mod UnnamedExtraction
+pub mod WalkedNodes
 pub mod KeptLists
 pub mod Choosing
 pub mod InLine

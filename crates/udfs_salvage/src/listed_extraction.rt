@@ -2,6 +2,7 @@
 
 ghost use Rattle.std.specs.Prelude.{◌≡◌, ◌<◌, ◌↔◌, ℕ, Bool, true, false, List, [], Some, length, slice_get, IsErrOf, OnOk};
 ghost use Rattle.udfs_lattice.specs.Tables.{state_of};
+ghost use Rattle.udfs_tag.specs.declared.layouts.LongAd.{LongAd};
 ghost use Rattle.udfs_space.specs.Places.{view};
 ghost use Rattle.udfs_file.specs.declared.cells.Cell.{Cell};
 ghost use Rattle.udfs_volume.specs.Answers.{found};
@@ -10,12 +11,14 @@ ghost use Rattle.udfs_walk.specs.NodeBodies.{MayTakeMemory};
 ghost use Rattle.udfs_walk.specs.NodeFields.{NodeFields};
 ghost use Rattle.udfs_walk.specs.declared.answers.Unnamed.{Unnamed};
 ghost use Rattle.udfs_walk.specs.declared.standings.Standing.TheVariants.{Whole};
+ghost use Rattle.udfs_tree.specs.Cells.{HasCellsAt};
 ghost use Rattle.udfs_salvage.specs.Extraction.{Extracts, HasCellsInBy, fill_byte, filled, is_offered};
 ghost use Rattle.udfs_salvage.specs.Found.{Found, volume_now};
 ghost use Rattle.udfs_salvage.specs.Listings.{AreUnnamed, listing_now};
 ghost use Rattle.udfs_salvage.specs.Reports.{IsReportBy};
 ghost use Rattle.udfs_salvage.specs.TreeReports.{FillsFileBy, WritesFileBy};
 ghost use Rattle.udfs_salvage.specs.UnnamedExtraction.{HasUnnamedCellsBy, is_lost_file};
+ghost use Rattle.udfs_salvage.specs.WalkedNodes.{AreNodesFrom};
 
 use crate::extraction::{ExtractError, Fill, fill_byte, is_offered, write_at};
 use crate::listings::Listing;
@@ -26,7 +29,7 @@ use udfs_reading::{Outgoing, Sink};
 use udfs_walk::Unnamed;
 
 /// Writes the bytes of the node at this index, counted from 0 and below the number of nodes, of a listing that [`list_volume_by`](crate::list_volume_by)
-/// returned, as [`extract_by`](crate::extract_by) writes those of a report's node. They go through `out`, which holds no bytes before the call, and none
+/// returned, as [`extract_by`](crate::extract_by) writes those of a report's node; or of one whose nodes are those below a lost folder of its volume. They go through `out`, which holds no bytes before the call, and none
 /// after `Ok`, so that one serves for many nodes.
 ///
 /// # Errors
@@ -48,6 +51,13 @@ pub fn write_node<W: Sink>(
         (cs : List Cell) × HasCellsInBy profile (state_of listing.now.table.now) last index cs ×
         Extracts (W.stream sink.old) (W.stream sink.new) (filled (fill_byte fill) cs) result }
     ensures not_whole { (profile : Profile) (last : ℕ) (n : NodeFields) → IsReportBy profile (state_of listing.now.table.now) last (listing_now listing.now) →
+        slice_get (listing_now listing.now).nodes index ≡ Some n → (IsErrOf result ExtractError.NotWhole ↔ (is_offered n.standing n.size fill ≡ false)) }
+    // The same of nodes that were found from another root, as those below a lost folder.
+    ensures walked { (f : Found) (root : LongAd) (n : NodeFields) → AreNodesFrom (state_of listing.now.table.now) f root (listing_now listing.now) →
+        slice_get (listing_now listing.now).nodes index ≡ Some n → is_offered n.standing n.size fill ≡ true →
+        (cs : List Cell) × HasCellsAt (view (state_of listing.now.table.now) f.space) root index cs ×
+        Extracts (W.stream sink.old) (W.stream sink.new) (filled (fill_byte fill) cs) result }
+    ensures unfit { (f : Found) (root : LongAd) (n : NodeFields) → AreNodesFrom (state_of listing.now.table.now) f root (listing_now listing.now) →
         slice_get (listing_now listing.now).nodes index ≡ Some n → (IsErrOf result ExtractError.NotWhole ↔ (is_offered n.standing n.size fill ≡ false)) }
     // Of a whole node they are those of the volume's file at its path, for every lawful volume with which the table agrees.
     ensures tree { (profile : Profile) (last : ℕ) (n : NodeFields) → IsReportBy profile (state_of listing.now.table.now) last (listing_now listing.now) →

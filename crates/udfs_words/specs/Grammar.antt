@@ -105,9 +105,13 @@ title_rule = option_rule (codes "title") false
 abbrev pub unnamed_rule : Rule
 unnamed_rule = option_rule (codes "unnamed") false
 
--- `extract (--last N | --size BYTES | --size-of MAPFILE) [--profile PROFILE] --to DIR [--fill] [--only PATH]... [--manifest FILE] [--unnamed DIR] [--times] [--short-names] [--force] IN...`
+-- `--lost DIR`
+abbrev pub lost_rule : Rule
+lost_rule = option_rule (codes "lost") false
+
+-- `extract (--last N | --size BYTES | --size-of MAPFILE) [--profile PROFILE] --to DIR [--fill] [--only PATH]... [--manifest FILE] [--unnamed DIR] [--lost DIR] [--deleted] [--times] [--short-names] [--force] IN...`
 abbrev pub extract_app : Given → App
-extract_app given = with_inputs (with_rule (with_rule (with_rule (with_rule (with_rule (with_rule (with_rule (with_rule (with_profile (codes "extract") given.needs_last) (value_rule (codes "to"))) (flag_rule (codes "fill"))) only_rule) manifest_rule) unnamed_rule) (flag_rule (codes "times"))) (flag_rule (codes "short-names"))) (flag_rule (codes "force"))) given.pairs
+extract_app given = with_inputs (with_rule (with_rule (with_rule (with_rule (with_rule (with_rule (with_rule (with_rule (with_rule (with_rule (with_profile (codes "extract") given.needs_last) (value_rule (codes "to"))) (flag_rule (codes "fill"))) only_rule) manifest_rule) unnamed_rule) lost_rule) (flag_rule (codes "deleted"))) (flag_rule (codes "times"))) (flag_rule (codes "short-names"))) (flag_rule (codes "force"))) given.pairs
 
 -- `forget --out FILE (--conflicts | --blocks LIST)... [--force] IN...`
 abbrev pub forget_app : Given → App

@@ -105,12 +105,12 @@ abbrev pub IsSomePage : Request → Type 0
 IsSomePage (request.Page r) = Reads r.volume (codes "all.tab") (Block 1000) Strict × (r.out.now ≡ codes "/dev/stdout") × (option_map (λ text. text.now) r.size ≡ None) × (option_map (λ text. text.now) r.title ≡ Some (codes "Box"))
 IsSomePage _ = ⊥
 
--- `udfsalvage extract --last 1000 --to files --fill --only /a --only /b --manifest sums --times all.tab`
+-- `udfsalvage extract --last 1000 --to files --fill --only /a --only /b --manifest sums --lost found --deleted --times all.tab`
 abbrev pub extract_line : List Text
-extract_line = codes "udfsalvage" ∷ codes "extract" ∷ codes "--last" ∷ codes "1000" ∷ codes "--to" ∷ codes "files" ∷ codes "--fill" ∷ codes "--only" ∷ codes "/a" ∷ codes "--only" ∷ codes "/b" ∷ codes "--manifest" ∷ codes "sums" ∷ codes "--times" ∷ codes "all.tab" ∷ []
+extract_line = codes "udfsalvage" ∷ codes "extract" ∷ codes "--last" ∷ codes "1000" ∷ codes "--to" ∷ codes "files" ∷ codes "--fill" ∷ codes "--only" ∷ codes "/a" ∷ codes "--only" ∷ codes "/b" ∷ codes "--manifest" ∷ codes "sums" ∷ codes "--lost" ∷ codes "found" ∷ codes "--deleted" ∷ codes "--times" ∷ codes "all.tab" ∷ []
 
--- two files or folders, torn ones too, with their times and a manifest, and no lost files
+-- two files or folders, torn ones too, with their times and a manifest, and lost folders, deleted ones too, but no files by their blocks alone
 abbrev pub IsSomeExtract : Request → Type 0
 IsSomeExtract (request.Extract r) = Reads r.volume (codes "all.tab") (Block 1000) Strict × (r.folder.now ≡ codes "files") × (texts r.only.items ≡ codes "/a" ∷ codes "/b" ∷ []) × (r.fill ≡ true) × (r.short_names ≡ false) × (r.times ≡ true) ×
-    (option_map (λ path. path.now) r.manifest ≡ Some (codes "sums")) × (option_map (λ path. path.now) r.lost ≡ None)
+    (option_map (λ path. path.now) r.manifest ≡ Some (codes "sums")) × (option_map (λ path. path.now) r.lost ≡ None) × (option_map (λ path. path.now) r.trees ≡ Some (codes "found")) × (r.deleted ≡ true)
 IsSomeExtract _ = ⊥

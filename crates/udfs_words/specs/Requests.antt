@@ -155,6 +155,8 @@ pub record IsExtract (words : Found) (request : ExtractRequest) : Type 0 where
   pub times : IsPicked words (codes "times") true false request.times
   pub manifest : option_map (λ path. path.now) request.manifest ≡ optional_text words (codes "manifest")
   pub lost : option_map (λ path. path.now) request.lost ≡ optional_text words (codes "unnamed")
+  pub trees : option_map (λ path. path.now) request.trees ≡ optional_text words (codes "lost")
+  pub deleted : IsPicked words (codes "deleted") true false request.deleted
 
 -- by the command
 abbrev pub IsRequest : List ℕ → Found → Request → Type 0

@@ -2,11 +2,11 @@
 
 ghost use Rattle.std.specs.Prelude.{◌≡◌, ◌∷◌, ◌++◌, [], false, IfOk, codes};
 ghost use Rattle.clap.specs.Words.{rule_of};
-ghost use Rattle.udfs_words.specs.Grammar.{blocks_rule, flag_rule, group_rule, inputs_rule, last_rule, letter_rule, manifest_rule, mapfile_rule, null_rule, only_rule, option_rule, out_rule, pairs_rule, profile_rule, size_of_rule, size_rule, title_rule, unnamed_rule, value_rule};
+ghost use Rattle.udfs_words.specs.Grammar.{blocks_rule, flag_rule, group_rule, inputs_rule, last_rule, letter_rule, lost_rule, manifest_rule, mapfile_rule, null_rule, only_rule, option_rule, out_rule, pairs_rule, profile_rule, size_of_rule, size_rule, title_rule, unnamed_rule, value_rule};
 
 use crate::words::{
-    BLOCKS, FORCE, GROUP, INPUTS, LAST, MANIFEST, MAPFILE, NULL, ONLY, OUT, PAIRS, PROFILE, QUIET,
-    SIZE, SIZE_OF, TITLE, TO, UNNAMED, VERBOSE,
+    BLOCKS, FORCE, GROUP, INPUTS, LAST, LOST, MANIFEST, MAPFILE, NULL, ONLY, OUT, PAIRS, PROFILE,
+    QUIET, SIZE, SIZE_OF, TITLE, TO, UNNAMED, VERBOSE,
 };
 use clap::{Arg, ArgAction, value_parser};
 use std::alloc::{AllocError, Global};
@@ -245,6 +245,19 @@ pub fn lost_folder<'a>(alloc: Global) -> Arg<'a>
         UNNAMED,
         "DIR",
         "Write whole files without a name too, by{n}their blocks, into this new folder",
+        false,
+    )
+}
+
+/// The folder for lost folders and lost files.
+pub fn lost_trees<'a>(alloc: Global) -> Arg<'a>
+    ensures { (rule_of result ≡ lost_rule) × (result.global ≡ false) }
+{
+    option(
+        alloc,
+        LOST,
+        "DIR",
+        "Write lost folders too, with the names in{n}them, and lost files, into this new folder",
         false,
     )
 }

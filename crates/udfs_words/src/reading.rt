@@ -328,6 +328,8 @@ fn read_extract<'a>(alloc: Global, words: &ArgMatches<'a>) -> Result<Request<'a>
         times: is_set(words, TIMES),
         manifest: read_optional(words, MANIFEST),
         lost: read_optional(words, UNNAMED),
+        trees: read_optional(words, LOST),
+        deleted: is_set(words, DELETED),
     }))
 }
 

@@ -162,6 +162,10 @@ pub struct ExtractRequest<'a> {
     pub manifest: Option<&'a str>,
     /// The path of a new folder for files that have lost their names.
     pub lost: Option<&'a str>,
+    /// The path of a new folder for lost folders, with the names in them, and for files that no such folder names.
+    pub trees: Option<&'a str>,
+    /// What was deleted is one of these.
+    pub deleted: bool,
 }
 
 /// What the program is asked to do.

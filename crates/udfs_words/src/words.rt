@@ -8,8 +8,8 @@ ghost use Rattle.udfs_words.specs.Grammar.{extract_app, forget_app, image_app, l
 
 use crate::arguments::{
     blocks, disc_size, domain, flag, folder, force, group, image_file, image_map, inputs, joining,
-    last, lost_folder, manifest, null, only, page_file, pair_inputs, profile, quiet, size_map,
-    table_file, title, verbose,
+    last, lost_folder, lost_trees, manifest, null, only, page_file, pair_inputs, profile, quiet,
+    size_map, table_file, title, verbose,
 };
 use clap::Command;
 use std::alloc::{AllocError, Global};
@@ -95,10 +95,10 @@ pub const PATHS: &str = "paths";
 /// The id of the flag for a first line with the columns' names among the matches.
 pub const HEADER: &str = "header";
 
-/// The id of the flag for listing what is lost among the matches.
+/// The id of what is lost among the matches: a flag of `list`, and the folder for it of `extract`.
 pub const LOST: &str = "lost";
 
-/// The id of the flag for listing what was deleted among the matches.
+/// The id of the flag for taking what was deleted for lost among the matches.
 pub const DELETED: &str = "deleted";
 
 /// The id of the flag for saying more among the matches.
@@ -255,7 +255,7 @@ fn bare_extract<'a>(alloc: Global) -> Command<'a>
         )
 }
 
-/// `extract (--last N | --size BYTES | --size-of MAPFILE) [--profile PROFILE] --to DIR [--fill] [--only PATH]... [--manifest FILE] [--unnamed DIR] [--times] [--short-names] [--force] IN...`
+/// `extract (--last N | --size BYTES | --size-of MAPFILE) [--profile PROFILE] --to DIR [--fill] [--only PATH]... [--manifest FILE] [--unnamed DIR] [--lost DIR] [--deleted] [--times] [--short-names] [--force] IN...`
 fn extract<'a>(alloc: Global, given: Given) -> Result<Command<'a>, AllocError>
     ensures { IfOk result (λ command. app_of command ≡ extract_app given) }
 {
@@ -273,6 +273,8 @@ fn extract<'a>(alloc: Global, given: Given) -> Result<Command<'a>, AllocError>
         ))?
         .arg(manifest(alloc))?
         .arg(lost_folder(alloc))?
+        .arg(lost_trees(alloc))?
+        .arg(flag(alloc, DELETED, "With --lost: write deleted ones there too"))?
         .arg(flag(alloc, TIMES, "Set the times that the volume has"))?
         .arg(flag(
             alloc,

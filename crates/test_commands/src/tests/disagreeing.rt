@@ -12,7 +12,7 @@ then error
 write 600 20 \x30
 but
 $ report -v --last 600 disc.tab
-remarked anchors differ: block 256 opens another state of the disc than block 600: the volume is not lawful, and the guarantee does not hold for it\n
+remarked anchors differ: block 256 opens another state of the disc than block 600: the volume is not lawful, and the guarantee does not hold for it\nThe guarantee does not hold: two anchors name different extents: blocks 256 and 600\n
 
 write 600 20 \x30
 but
@@ -47,7 +47,7 @@ file-has p.html <div>Anchors    anchors differ: block 256 opens another state of
 write 600 20 \x30
 but 256
 $ report -v --last 600 disc.tab
-remarked
+remarked Nothing seen contradicts the standard; 1 block that could is not known\n
 ";
 
 #[test]
@@ -64,7 +64,7 @@ then error
 write 48 240 \x01\x02
 but
 $ report -v --last 600 disc.tab
-remarked copies of the volume's descriptors differ: the volume is not lawful, and the guarantee does not hold for it\n
+remarked copies of the volume's descriptors differ: the volume is not lawful, and the guarantee does not hold for it\nThe guarantee does not hold: two copies of a volume descriptor differ: blocks 32 and 48\n
 
 write 48 240 \x01\x02
 but
@@ -100,7 +100,7 @@ write 32 240 P\x02
 but
 $ report -v --last 600 disc.tab
 status 1
-remarked copies of the volume's descriptors differ: the volume is not lawful, and the guarantee does not hold for it\nvolume: UDF 1.50: add --profile wide\n
+remarked copies of the volume's descriptors differ: the volume is not lawful, and the guarantee does not hold for it\nvolume: UDF 1.50: add --profile wide\nThe guarantee does not hold: the volume does not open: the volume is not of a UDF revision that the rules take\n
 
 write 32 240 P\x02
 but

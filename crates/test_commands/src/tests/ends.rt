@@ -206,7 +206,7 @@ but 33 49
 $ page --size-of a.map --out p.html disc.tab
 status 1
 error
-file-has p.html <div>does not open: blocks 33 and 49 are needed</div>\n<div>Disc       599 known   2 not known   0 in conflict</div>\n
+file-has p.html <div>does not open: blocks 33 and 49 are needed</div>\n<div>Guarantee  nothing seen contradicts the standard;</div>\n<div>           2 blocks that could are not known</div>\n<div>Disc       599 known   2 not known   0 in conflict</div>\n
 
 = a_mapfile_that_gives_none
 # One that is not there, or is no mapfile of a pass, is refused before an input is opened; one that ends where no disc does gives a number out of range.

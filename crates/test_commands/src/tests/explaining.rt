@@ -206,10 +206,10 @@ then status 1
 then error
 
 $ report -v --last 600 disc.tab
-remarked the volume does not open: blocks 33 and 49 are needed\n
+remarked the volume does not open: blocks 33 and 49 are needed\nNothing seen contradicts the standard; 2 blocks that could are not known\n
 
 $ report --json --verbose --last 600 disc.tab
-remarked the volume does not open: blocks 33 and 49 are needed\n
+remarked the volume does not open: blocks 33 and 49 are needed\nNothing seen contradicts the standard; 2 blocks that could are not known\n
 
 $ list -v --last 600 disc.tab
 remarked the volume does not open: blocks 33 and 49 are needed\n
@@ -237,7 +237,7 @@ but
 
 $ report -v --last 600 disc.tab
 status 0
-remarked
+remarked The guarantee holds: nothing on this disc contradicts the standard\n
 
 = a_revision_is_named
 # The revision of a volume that is not read is named, and the rules that read it; 2.50 has none, and a domain of another name no revision.
@@ -247,7 +247,7 @@ write 32 240 \0\x02
 write 48 240 \0\x02
 but
 $ report -v --last 600 disc.tab
-remarked volume: UDF 2.00 (a camcorder or recorder disc): add --profile wide\n
+remarked volume: UDF 2.00 (a camcorder or recorder disc): add --profile wide\nThe guarantee does not hold: the volume does not open: the volume is not of a UDF revision that the rules take\n
 
 write 32 240 \x02\x01
 write 48 240 \x02\x01
@@ -259,7 +259,7 @@ write 32 240 P\x02
 write 48 240 P\x02
 but
 $ report -v --last 600 disc.tab
-remarked volume: UDF 2.50, which is not read\n
+remarked volume: UDF 2.50, which is not read\nThe guarantee does not hold: the volume does not open: the volume is not of a UDF revision that the rules take\n
 
 write 32 240 `\x02
 write 48 240 `\x02
@@ -279,11 +279,11 @@ then status 1
 
 but 256
 $ report -v --last 5000 disc.tab
-remarked the volume does not open: blocks 256, 4744 and 5000 are needed; no block after 600 is known: is --last right?\n
+remarked the volume does not open: blocks 256, 4744 and 5000 are needed; no block after 600 is known: is --last right?\nNothing seen contradicts the standard; 3 blocks that could are not known\n
 
 but 256 344 600
 $ report -v --last 600 disc.tab
-remarked the volume does not open: blocks 256, 344 and 600 are needed\n
+remarked the volume does not open: blocks 256, 344 and 600 are needed\nNothing seen contradicts the standard; 3 blocks that could are not known\n
 
 = sparing_copies_that_disagree
 # The second copy of the sparing table, in block 200, maps the packet elsewhere.
@@ -294,13 +294,13 @@ disc sparable
 write 200 60 \xb0
 but
 $ report -v --last 600 disc.tab
-remarked sparing copies disagree: the volume is not lawful, and files in spared packets may be old\n
+remarked sparing copies disagree: the volume is not lawful, and files in spared packets may be old\nThe guarantee does not hold: two copies of the sparing table differ: blocks 100 and 200\n
 
 disc sparable
 write 200 60 \xb0
 but
 $ report --json -v --last 600 disc.tab
-remarked sparing copies disagree: the volume is not lawful, and files in spared packets may be old\n
+remarked sparing copies disagree: the volume is not lawful, and files in spared packets may be old\nThe guarantee does not hold: two copies of the sparing table differ: blocks 100 and 200\n
 
 disc sparable
 write 200 60 \xb0
@@ -318,7 +318,7 @@ disc sparable
 write 200 60 \xb0
 but 200
 $ report -v --last 600 disc.tab
-remarked
+remarked Nothing seen contradicts the standard; 1 block that could is not known\n
 ";
 
 #[test]

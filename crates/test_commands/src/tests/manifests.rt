@@ -134,6 +134,10 @@ $ extract --last 600 --to out --manifest out disc.tab absent.tab --ddrescue p.im
 
 $ extract --last 600 --to out --manifest out/m disc.tab absent.tab --ddrescue p.img p.map
 
+$ extract --last 600 --to out/ --manifest out disc.tab absent.tab --ddrescue p.img p.map
+
+$ extract --last 600 --to m.unfinished --manifest m disc.tab absent.tab --ddrescue p.img p.map
+
 $ extract --last 600 --to out --manifest p.img disc.tab absent.tab --ddrescue p.img p.map
 
 $ extract --last 600 --to out --manifest p.map disc.tab absent.tab --ddrescue p.img p.map

@@ -15,7 +15,7 @@ then file-begins p.html «MARK»
 then file-has p.html <title>TEST</title>
 then file-has p.html <div><bdi>TEST</bdi>   UDF 1.50, type 1   601 blocks, 1.2 MB</div>\n
 then file-has p.html <div>1 file is complete, 1 damaged;</div>\n<div>1 block is worth reading again</div>\n<div>Files      1 whole (2 B)</div>\n<div>           1 torn (2.0 kB of 5.0 kB lost)</div>\n
-then file-has p.html <div>Disc       600 known   1 not known   0 in conflict</div>\n<div>           1 of these is needed, in 1 place</div>\n
+then file-has p.html <div>Guarantee  holds: nothing on this disc contradicts the standard</div>\n<div>Disc       600 known   1 not known   0 in conflict</div>\n<div>           1 of these is needed, in 1 place</div>\n
 then file-has p.html <title>blocks 278 to 278: needed</title></path>
 then file-has p.html <title>blocks 277 to 277: known</title></path>\n
 then file-has p.html --mapfile want.map disc.tab\nddrescue -d -r3 -b2048 -m want.map /dev/sr0 p600.img p600.map\nudfsalvage merge --out disc.tab disc.tab --ddrescue p600.img p600.map\n</pre>\n
@@ -55,7 +55,7 @@ but 272
 $ page --last 600 --out p.html disc.tab
 status 1
 file-has p.html <title>a disc that does not open</title>
-file-has p.html <div>does not open: block 272 is needed</div>\n
+file-has p.html <div>does not open: block 272 is needed</div>\n<div>Guarantee  nothing seen contradicts the standard;</div>\n<div>           1 block that could is not known</div>\n
 file-has p.html --mapfile want.map disc.tab\n
 file-lacks p.html udfsalvage extract
 file-lacks p.html <h2>All files</h2>
@@ -68,6 +68,7 @@ write 48 240 \0\x02
 but
 $ page --last 600 --out p.html disc.tab
 status 1
+file-has p.html <div>Guarantee  does not hold: the volume does not open: <bdi>the volume is not of a UDF revision that the rules take</bdi></div>\n
 file-has p.html <p>UDF 2.00 (a camcorder or recorder disc): add --profile wide.</p>\n<pre>udfsalvage page --last 600 --profile wide --out p.html disc.tab\n</pre>\n
 file-lacks p.html udfsalvage extract
 

@@ -144,7 +144,7 @@ then error
 
 $ report -v --last 600 --profile wide disc.tab
 out UDFREPORT1 last 600\nprofile wide\nknown 601 conflict 0\nvolume ok revision 2.00 map type1\nlabel name TEST\nnode 0 whole directory 120 2001-07-04T09:30:00.000000Z /\nnode 1 whole file 5000 2001-07-04T09:30:00.000000Z /A\nnode 2 whole file 2 2001-07-04T09:30:00.000000Z /B\nend\n
-remarked
+remarked The guarantee holds: nothing on this disc contradicts the standard\n
 
 $ extract -v --last 600 --profile wide --to out disc.tab
 out written /A\nwritten /B\n
@@ -157,7 +157,7 @@ out /A\n/B\n
 remarked
 
 $ summary --last 600 --profile wide disc.tab
-out TEST   UDF 2.00, type 1   601 blocks, 1.2 MB\n2 files are complete\nFiles      2 whole (5.0 kB)\nFolders    1 whole\nDisc       601 known   0 not known   0 in conflict\nNext       All is whole. Write it out:\n           udfsalvage extract --last 600 --profile wide --to files disc.tab\n
+out TEST   UDF 2.00, type 1   601 blocks, 1.2 MB\n2 files are complete\nFiles      2 whole (5.0 kB)\nFolders    1 whole\nGuarantee  holds: nothing on this disc contradicts the standard\nDisc       601 known   0 not known   0 in conflict\nNext       All is whole. Write it out:\n           udfsalvage extract --last 600 --profile wide --to files disc.tab\n
 
 = a_torn_movie_by_the_wide_rules
 # The second block of A is not known.
@@ -177,7 +177,7 @@ out written /A\nwritten /B\n
 has out/A text «2048*a»«2048*\0»«904*c»
 
 $ summary --last 600 --profile wide disc.tab
-out TEST   UDF 2.00, type 1   601 blocks, 1.2 MB\n1 file is complete, 1 damaged;\n1 block is worth reading again\nFiles      1 whole (2 B)\n           1 torn (2.0 kB of 5.0 kB lost)\nFolders    1 whole\nDisc       600 known   1 not known   0 in conflict\n           1 of these is needed, in 1 place\nTorn       41.0 %  /A   2.0 kB of 5.0 kB lost\nNext       udfsalvage reread --last 600 --profile wide --mapfile want.map disc.tab\n           ddrescue -d -r3 -b2048 -m want.map /dev/sr0 p600.img p600.map\n           udfsalvage merge --out disc.tab disc.tab --ddrescue p600.img p600.map\n
+out TEST   UDF 2.00, type 1   601 blocks, 1.2 MB\n1 file is complete, 1 damaged;\n1 block is worth reading again\nFiles      1 whole (2 B)\n           1 torn (2.0 kB of 5.0 kB lost)\nFolders    1 whole\nGuarantee  holds: nothing on this disc contradicts the standard\nDisc       600 known   1 not known   0 in conflict\n           1 of these is needed, in 1 place\nTorn       41.0 %  /A   2.0 kB of 5.0 kB lost\nNext       udfsalvage reread --last 600 --profile wide --mapfile want.map disc.tab\n           ddrescue -d -r3 -b2048 -m want.map /dev/sr0 p600.img p600.map\n           udfsalvage merge --out disc.tab disc.tab --ddrescue p600.img p600.map\n
 
 = a_movie_without_a_name
 # The directory is not known, so no name leads to A and B.
@@ -230,7 +230,7 @@ out UDFREPORT1 last 600\nprofile wide\nknown 601 conflict 0\nvolume ok revision 
 
 $ summary --last 600 --profile wide disc.tab
 status 0
-out TEST   UDF 1.50, type 1   601 blocks, 1.2 MB\n2 files are complete\nFiles      2 whole (5.0 kB)\nFolders    1 whole\nTags       1 folder has tags of another place\nDisc       601 known   0 not known   0 in conflict\nNext       All is whole. Write it out:\n           udfsalvage extract --last 600 --profile wide --to files disc.tab\n
+out TEST   UDF 1.50, type 1   601 blocks, 1.2 MB\n2 files are complete\nFiles      2 whole (5.0 kB)\nFolders    1 whole\nTags       1 folder has tags of another place\nGuarantee  holds: nothing on this disc contradicts the standard\nDisc       601 known   0 not known   0 in conflict\nNext       All is whole. Write it out:\n           udfsalvage extract --last 600 --profile wide --to files disc.tab\n
 
 = other_types_are_no_files_by_the_wide_rules
 # Type 250 is that of a metadata file.
@@ -246,7 +246,7 @@ out skipped /A\nwritten /B\n
 remarked /A: of type 250, which is not written\n1 file of a type that is not written (250)\n1 written, 1 of another type\n
 
 $ summary --last 600 --profile wide disc.tab
-out-has \nOther      1 file of a type that is not written (250)\nDisc
+out-has \nOther      1 file of a type that is not written (250)\nGuarantee
 
 = a_movie_is_left_out_by_the_strict_rules
 # The report says what it said, and a second line what is left out.
@@ -257,7 +257,7 @@ then error
 
 $ report -v --last 600 disc.tab
 out UDFREPORT1 last 600\nknown 601 conflict 0\nvolume ok revision 1.50 map type1\nlabel name TEST\nnode 0 whole directory 120 2001-07-04T09:30:00.000000Z /\nnode 1 whole other-249 5000 2001-07-04T09:30:00.000000Z /A\nnode 2 whole file 2 2001-07-04T09:30:00.000000Z /B\nend\n
-remarked 1 file of a type that is not written (249, real-time): --profile wide writes it\n
+remarked 1 file of a type that is not written (249, real-time): --profile wide writes it\nThe guarantee holds: nothing on this disc contradicts the standard\n
 
 $ report --last 600 disc.tab
 out-has \nnode 1 whole other-249 5000 2001-07-04
@@ -277,7 +277,7 @@ remarked /A: of type 249, which is not written\n1 file of a type that is not wri
 files 2
 
 $ summary --last 600 disc.tab
-out TEST   UDF 1.50, type 1   601 blocks, 1.2 MB\n1 file is complete,\n1 of a type that is not written\nFiles      1 whole (2 B)\nFolders    1 whole\nOther      1 file of a type that is not written (249, real-time): --profile wide writes it\nDisc       601 known   0 not known   0 in conflict\nNext       No block is worth reading again. Write out what is whole:\n           udfsalvage extract --last 600 --to files disc.tab\n
+out TEST   UDF 1.50, type 1   601 blocks, 1.2 MB\n1 file is complete,\n1 of a type that is not written\nFiles      1 whole (2 B)\nFolders    1 whole\nOther      1 file of a type that is not written (249, real-time): --profile wide writes it\nGuarantee  holds: nothing on this disc contradicts the standard\nDisc       601 known   0 not known   0 in conflict\nNext       No block is worth reading again. Write out what is whole:\n           udfsalvage extract --last 600 --to files disc.tab\n
 
 = what_is_said_of_files_of_other_types
 # Torn ones too, several, and none that is empty.
@@ -287,28 +287,28 @@ write 275 27 \xf9
 but 278
 $ report -v --last 600 disc.tab
 status 1
-remarked 1 file of a type that is not written (249, real-time): --profile wide writes it\n
+remarked 1 file of a type that is not written (249, real-time): --profile wide writes it\nThe guarantee holds: nothing on this disc contradicts the standard\n
 
 write 275 27 \xf9
 write 276 27 \xf9
 but
 $ report -v --last 600 disc.tab
 status 0
-remarked 2 files of a type that is not written (249, real-time): --profile wide writes them\n
+remarked 2 files of a type that is not written (249, real-time): --profile wide writes them\nThe guarantee holds: nothing on this disc contradicts the standard\n
 
 write 275 27 \xf9
 write 276 27 \0
 but
 $ report -v --last 600 disc.tab
 status 0
-remarked 2 files of types that are not written (0, not specified; 249, real-time): --profile wide writes them\n
+remarked 2 files of types that are not written (0, not specified; 249, real-time): --profile wide writes them\nThe guarantee holds: nothing on this disc contradicts the standard\n
 
 write 275 27 \x07
 write 276 27 \xf9
 but
 $ report -v --last 600 disc.tab
 status 0
-remarked 2 files of types that are not written (7, character device; 249, real-time): --profile wide writes 1 of them\n
+remarked 2 files of types that are not written (7, character device; 249, real-time): --profile wide writes 1 of them\nThe guarantee holds: nothing on this disc contradicts the standard\n
 
 write 276 27 \xf9
 write 276 56 \0
@@ -316,7 +316,7 @@ write 276 172 \0
 but
 $ report -v --last 600 disc.tab
 status 0
-remarked
+remarked The guarantee holds: nothing on this disc contradicts the standard\n
 
 write 276 27 \xf9
 write 276 56 \0
@@ -324,13 +324,13 @@ write 276 172 \0
 but
 $ summary --last 600 disc.tab
 status 0
-out-has \nOther      1 link or device\nDisc
+out-has \nOther      1 link or device\nGuarantee
 
 write 276 27 \x0c
 but
 $ report -v --last 600 disc.tab
 status 0
-remarked
+remarked The guarantee holds: nothing on this disc contradicts the standard\n
 ";
 
 #[test]

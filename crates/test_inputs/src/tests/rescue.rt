@@ -1,7 +1,6 @@
 //! Mapfiles and images of GNU ddrescue.
 
 mod images;
-mod lists;
 mod maps;
 mod pairs;
 mod texts;

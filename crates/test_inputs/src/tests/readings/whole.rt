@@ -7,8 +7,8 @@ use std::process::Abort;
 use std::test::Fail;
 use udfs_lattice::{BlockTable, Fact};
 use udfs_reading::{
-    InputError, Reader, ReadingError, ReadingFault, Writer, join_inputs, read_input, read_reading,
-    read_table, write_table, write_table_v1,
+    Reader, ReadingError, ReadingFault, Writer, join_inputs, read_input, read_reading, read_table,
+    write_table, write_table_v1,
 };
 
 /// A disputed block 300 alone, as a table file.
@@ -57,7 +57,7 @@ impl Write for Narrow {
     }
 }
 
-pub fn push_number(out: &mut Vec<u8>, n: u32) -> Result<(), AllocError> {
+fn push_number(out: &mut Vec<u8>, n: u32) -> Result<(), AllocError> {
     out.extend_from_slice(&n.to_le_bytes())
 }
 
@@ -90,45 +90,12 @@ fn written(alloc: Global, table: &BlockTable) -> Result<Vec<u8>, Fail> {
     Ok(out.into_inner())
 }
 
-pub fn join_of(alloc: Global, files: &[&[u8]]) -> Result<BlockTable, Fail> {
-    let mut inputs = Vec::new(alloc);
-    for file in files {
-        inputs.push(Reader::new(*file))?;
-    }
-    match join_inputs(alloc, inputs.as_mut_slice()) {
-        Ok(table) => Ok(table),
-        Err(e) => Err(Fail::from(e.error)),
-    }
-}
-
-fn joined(alloc: Global, files: &[&[u8]]) -> Result<Vec<u8>, Fail> {
-    written(alloc, &join_of(alloc, files)?)
-}
-
-/// The inputs together are the table of which this is the file.
-fn assert_joined(
-    rt: &impl Abort,
-    alloc: Global,
-    files: &[&[u8]],
-    expected: &[u8],
-) -> Result<(), Fail> {
-    let file = joined(alloc, files)?;
-    assert!(rt; file.as_slice() == expected, "{} files", files.len());
-    Ok(())
-}
-
 /// A fault at a record, if there is one.
-pub type Answer = Option<(ReadingFault, u32)>;
+type Answer = Option<(ReadingFault, u32)>;
 
 /// Asserts that `found`, the result for `len` bytes, is `answer`.
 pub fn assert_answer(rt: &impl Abort, len: usize, found: Answer, answer: Answer) {
     assert_eq!(rt; found, answer, "{len} bytes");
-}
-
-/// As a reading the bytes get this result.
-fn assert_reading(rt: &impl Abort, alloc: Global, bytes: &[u8], answer: Answer) {
-    let found = fault_of(read_reading(alloc, &mut Reader::new(bytes)));
-    assert_answer(rt, bytes.len(), found, answer);
 }
 
 /// As a table file the bytes get this result.
@@ -138,7 +105,7 @@ pub fn assert_table_file(rt: &impl Abort, alloc: Global, bytes: &[u8], answer: A
 }
 
 /// As an input of any kind the bytes get this result.
-pub fn assert_input(rt: &impl Abort, alloc: Global, bytes: &[u8], answer: Answer) {
+fn assert_input(rt: &impl Abort, alloc: Global, bytes: &[u8], answer: Answer) {
     let found = fault_of(read_input(alloc, &mut Reader::new(bytes)));
     assert_answer(rt, bytes.len(), found, answer);
 }
@@ -146,39 +113,6 @@ pub fn assert_input(rt: &impl Abort, alloc: Global, bytes: &[u8], answer: Answer
 /// The reading of blocks 300 and 301.
 fn pair(alloc: Global) -> Result<Vec<u8>, AllocError> {
     reading(alloc, &[(300, 0x61), (301, 0x62)])
-}
-
-/// The pair is read from a device that gives at most `most` bytes a call.
-fn assert_pair_in_pieces(
-    rt: &impl Abort,
-    alloc: Global,
-    bytes: &[u8],
-    most: usize,
-) -> Result<(), Fail> {
-    let mut source = Reader::new(Pieces {
-        rest: bytes,
-        most,
-        good: 9000,
-    });
-    let table = read_reading(alloc, &mut source)?;
-    assert_eq!(rt; table.known(), 2, "{most}");
-    assert!(rt;
-        matches!(table.state(301), Fact::Known(b) if b[2047] == 0x62),
-        "{most}"
-    );
-    Ok(())
-}
-
-#[test]
-fn reads_in_any_pieces(rt: HostRuntime) -> Result<(), Fail> {
-    let alloc = rt.alloc();
-    let bytes = pair(alloc)?;
-    assert_eq!(rt; bytes.len(), 4120);
-    static CASES: [usize; 4] = [1, 3, 4000, 5000];
-    for &most in &CASES {
-        assert_pair_in_pieces(&rt, alloc, &bytes, most)?;
-    }
-    Ok(())
 }
 
 /// The record of a cut of the two-record reading at this length.
@@ -245,162 +179,11 @@ fn a_faulty_magic_is_told_before_the_device_is_asked_again(rt: HostRuntime) {
 }
 
 #[test]
-fn names_the_faults_of_a_reading(rt: HostRuntime) -> Result<(), Fail> {
-    let alloc = rt.alloc();
-    let mut longer = pair(alloc)?;
-    longer.push(0)?;
-    assert_reading(&rt, alloc, &longer, Some((ReadingFault::Trailing, 2)));
-    let high = reading(alloc, &[(4_194_304, 0)])?;
-    assert_reading(&rt, alloc, &high, Some((ReadingFault::BlockNumber, 1)));
-    let last = reading(alloc, &[(4_194_303, 7)])?;
-    assert_reading(&rt, alloc, &last, None);
-    let size = b"UDFREAD1\x00\x04\x00\x00\x00\x00\x00\x00";
-    assert_reading(&rt, alloc, size, Some((ReadingFault::BlockSize, 0)));
-    assert_reading(&rt, alloc, DISPUTED, Some((ReadingFault::Magic, 0)));
-    Ok(())
-}
-
-/// The table file of blocks 300 and 301.
-fn pair_table(alloc: Global) -> Result<Vec<u8>, AllocError> {
-    let mut file = Vec::new(alloc);
-    file.extend_from_slice(b"UDFTABL1\x00\x08\x00\x00\x02\x00\x00\x00\x2c\x01\x00\x00\x01")?;
-    file.extend_from_slice(&[0x61; 2048])?;
-    file.extend_from_slice(b"\x2d\x01\x00\x00\x01")?;
-    file.extend_from_slice(&[0x62; 2048])?;
-    Ok(file)
-}
-
-#[test]
-fn joins_in_any_order(rt: HostRuntime) -> Result<(), Fail> {
-    let alloc = rt.alloc();
-    let expected = pair_table(alloc)?;
-    assert_eq!(rt; expected.len(), 4122);
-    let a = reading(alloc, &[(300, 0x61)])?;
-    let b = reading(alloc, &[(301, 0x62)])?;
-    assert_joined(&rt, alloc, &[&a, &b], &expected)?;
-    assert_joined(&rt, alloc, &[&b, &a], &expected)?;
-    assert_joined(&rt, alloc, &[&a, &b, &a], &expected)
-}
-
-#[test]
-fn joins_the_records_of_one_file(rt: HostRuntime) -> Result<(), Fail> {
-    let alloc = rt.alloc();
-    let expected = pair_table(alloc)?;
-    let both = reading(alloc, &[(301, 0x62), (300, 0x61), (301, 0x62)])?;
-    assert_joined(&rt, alloc, &[&both], &expected)
-}
-
-#[test]
-fn joins_what_was_joined_earlier(rt: HostRuntime) -> Result<(), Fail> {
-    let alloc = rt.alloc();
-    let expected = pair_table(alloc)?;
-    assert_joined(&rt, alloc, &[&expected], &expected)?;
-    let earlier = joined(alloc, &[&reading(alloc, &[(300, 0x61)])?])?;
-    let b = reading(alloc, &[(301, 0x62)])?;
-    assert_joined(&rt, alloc, &[&b, &earlier], &expected)
-}
-
-#[test]
-fn joins_no_record(rt: HostRuntime) -> Result<(), Fail> {
-    let alloc = rt.alloc();
-    let empty = reading(alloc, &[])?;
-    assert_joined(
-        &rt,
-        alloc,
-        &[&empty],
-        b"UDFTABL1\x00\x08\x00\x00\x00\x00\x00\x00",
-    )
-}
-
-#[test]
-fn a_dispute_stays(rt: HostRuntime) -> Result<(), Fail> {
-    let alloc = rt.alloc();
-    let first = reading(alloc, &[(300, 0x61)])?;
-    let second = reading(alloc, &[(300, 0x62)])?;
-    assert_joined(&rt, alloc, &[&first, &second, &first], DISPUTED)?;
-    assert_joined(&rt, alloc, &[DISPUTED, &first], DISPUTED)?;
-    assert_joined(&rt, alloc, &[&first, DISPUTED], DISPUTED)
-}
-
-/// The first fault that joining the inputs meets, and the input that has it.
-fn join_fault(alloc: Global, files: &[&[u8]]) -> Result<Option<InputError>, Fail> {
-    let mut inputs = Vec::new(alloc);
-    for file in files {
-        inputs.push(Reader::new(*file))?;
-    }
-    Ok(join_inputs(alloc, inputs.as_mut_slice()).err())
-}
-
-#[test]
-fn names_the_first_faulty_input(rt: HostRuntime) -> Result<(), Fail> {
-    let alloc = rt.alloc();
-    let good = reading(alloc, &[(300, 0x61)])?;
-    let found = join_fault(alloc, &[&good, good.get(..17).unwrap_or(&[]), b"UDFTABLX"])?;
-    let error = ReadingError {
-        fault: ReadingFault::Truncated,
-        number: 1,
-    };
-    assert_eq!(rt; found, Some(InputError { input: 2, error }));
-    Ok(())
-}
-
-#[test]
 fn a_table_file_is_read(rt: HostRuntime) -> Result<(), Fail> {
     let table = read_table(rt.alloc(), &mut Reader::new(DISPUTED.as_slice()))?;
     assert_eq!(rt; table.conflicts(), 1);
     assert!(rt; matches!(table.state(300), Fact::Conflict));
     Ok(())
-}
-
-#[test]
-fn a_table_file_is_cut_at_each_length(rt: HostRuntime) {
-    for len in 0..DISPUTED.len() {
-        let number = if len < 16 { 0 } else { 1 };
-        let cut = Some((ReadingFault::Truncated, number));
-        assert_table_file(&rt, rt.alloc(), &DISPUTED[..len], cut);
-    }
-}
-
-/// Asserts that a second entry with this number and state, after one of block 5 in conflict, is rejected with this fault.
-fn assert_second_entry(
-    rt: &impl Abort,
-    alloc: Global,
-    number: &[u8; 4],
-    state: u8,
-    fault: ReadingFault,
-) -> Result<(), Fail> {
-    let mut bytes = Vec::new(alloc);
-    bytes.extend_from_slice(b"UDFTABL1\x00\x08\x00\x00\x02\x00\x00\x00\x05\x00\x00\x00\x02")?;
-    bytes.extend_from_slice(number)?;
-    bytes.push(state)?;
-    assert_table_file(rt, alloc, &bytes, Some((fault, 2)));
-    assert_input(rt, alloc, &bytes, Some((fault, 2)));
-    Ok(())
-}
-
-#[test]
-fn names_the_faults_of_a_second_entry(rt: HostRuntime) -> Result<(), Fail> {
-    static ENTRIES: [(&[u8; 4], u8, ReadingFault); 5] = [
-        (b"\x05\x00\x00\x00", 2, ReadingFault::Order),
-        (b"\x04\x00\x00\x00", 2, ReadingFault::Order),
-        (b"\x00\x00\x40\x00", 2, ReadingFault::BlockNumber),
-        (b"\x06\x00\x00\x00", 3, ReadingFault::State),
-        (b"\x06\x00\x00\x00", 0, ReadingFault::State),
-    ];
-    for &(number, state, fault) in &ENTRIES {
-        assert_second_entry(&rt, rt.alloc(), number, state, fault)?;
-    }
-    Ok(())
-}
-
-#[test]
-fn names_the_faults_of_a_table_file(rt: HostRuntime) {
-    let alloc = rt.alloc();
-    let first = b"UDFTABL1\x00\x08\x00\x00\x01\x00\x00\x00\x05\x00\x00\x00\x03";
-    assert_table_file(&rt, alloc, first, Some((ReadingFault::State, 1)));
-    let more = b"UDFTABL1\x00\x08\x00\x00\x01\x00\x00\x00\x05\x00\x00\x00\x02\x02";
-    assert_table_file(&rt, alloc, more, Some((ReadingFault::Trailing, 1)));
-    assert_input(&rt, alloc, b"UDFTABLX", Some((ReadingFault::Magic, 0)));
 }
 
 /// The blocks of these records are known, each with the byte that fills it.

@@ -7,10 +7,7 @@ use std::io::Write;
 use std::test::Fail;
 use udfs_lattice::BlockTable;
 use udfs_reading::{Reader, Writer};
-use udfs_salvage::{
-    RunError, SalvageError, report_run, salvage, survey_volume, write_report, write_survey,
-    write_volume,
-};
+use udfs_salvage::{RunError, report_run, salvage, write_report, write_volume};
 use udfs_samples::{Disc, LAST};
 
 /// Takes `good` bytes, one in each call, and then fails, or takes none where `takes_none`.
@@ -70,30 +67,6 @@ fn a_report_is_written_whole(rt: HostRuntime) -> Result<(), Fail> {
     Ok(())
 }
 
-/// A survey keeps no blocks and holes of its torn nodes, and its text has them, as the report's.
-#[test]
-fn a_survey_is_written_whole(rt: HostRuntime) -> Result<(), Fail> {
-    let alloc = rt.alloc();
-    let table = Disc::type1(alloc)?.known_but(alloc, &[278, 279])?;
-    let survey = survey_volume(alloc, &table, LAST)?;
-    assert_same(&rt, survey.reread.as_slice(), [278, 279].as_slice());
-    assert!(rt; !survey.all_whole());
-    let mut text = Writer::new(Vec::new(alloc));
-    write_survey(alloc, &survey, &mut text)?;
-    let text = String::from_utf8(text.into_inner())?;
-    assert_case(
-        &rt,
-        text.as_str()
-            .contains(" /A\nmissing 278\nmissing 279\nhole 2048 2952\n"),
-        text.as_str(),
-    );
-    let report = salvage(alloc, &table, LAST)?;
-    let mut other = Writer::new(Vec::new(alloc));
-    write_report(&report, &mut other)?;
-    assert_same(&rt, other.into_inner().as_slice(), text.as_str().as_bytes());
-    Ok(())
-}
-
 #[test]
 fn a_sink_that_fails_holds_a_beginning(rt: HostRuntime) -> Result<(), Fail> {
     let alloc = rt.alloc();
@@ -117,30 +90,6 @@ fn a_sink_that_fails_holds_a_beginning(rt: HostRuntime) -> Result<(), Fail> {
         let begun = TEXT.get(..good).unwrap_or(&[]);
         assert_same_in(&rt, sink.into_inner().bytes.as_slice(), begun, good);
     }
-    Ok(())
-}
-
-#[test]
-fn a_table_without_a_report(rt: HostRuntime) -> Result<(), Fail> {
-    let alloc = rt.alloc();
-    let mut table = BlockTable::new(alloc);
-    table.put(900, &[0; 2048])?;
-    table.put(700, &[0; 2048])?;
-    table.put(699, &[0; 2048])?;
-    static FAULTS: [(u32, SalvageError); 6] = [
-        (0, SalvageError::LastRange),
-        (512, SalvageError::LastRange),
-        (4_194_304, SalvageError::LastRange),
-        (513, SalvageError::PastEnd(699)),
-        (699, SalvageError::PastEnd(700)),
-        (899, SalvageError::PastEnd(900)),
-    ];
-    for &(last, error) in &FAULTS {
-        let outcome = salvage(alloc, &table, last);
-        assert_case(&rt, matches!(outcome, Err(found) if found == error), last);
-    }
-    assert!(rt; salvage(alloc, &table, 900).is_ok());
-    assert!(rt; salvage(alloc, &table, 4_194_303).is_ok());
     Ok(())
 }
 

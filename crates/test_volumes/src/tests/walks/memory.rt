@@ -4,8 +4,9 @@ use super::told::rooted;
 use crate::tests::assert_same;
 use std::test::Fail;
 use udfs_samples::Disc;
+use udfs_space::View;
 use udfs_walk::answers::NodesError;
-use udfs_walk::unnamed_entries::unnamed;
+use udfs_walk::unnamed_entries::{bare_unnamed, unnamed};
 use udfs_walk::{nodes, reread};
 
 /// Where one allocation fails, the result is that with ample memory, or out of memory.
@@ -33,6 +34,13 @@ fn want_of_memory_is_told(rt: HostRuntime) -> Result<(), Fail> {
         assert_same(&rt, blocks.as_slice(), [276, 278, 279].as_slice());
     }
     if let Ok(entries) = unnamed(alloc, &table, &space, &nodes) {
+        assert_same(&rt, entries.len(), 0);
+    }
+    let view = View {
+        table: &table,
+        space: &space,
+    };
+    if let Ok(entries) = bare_unnamed(alloc, view, &nodes) {
         assert_same(&rt, entries.len(), 0);
     }
     Ok(())

@@ -2,7 +2,6 @@
 
 ghost use Rattle.udfs_lattice.specs.Tables.{state_of};
 
-use super::rows::{UNREAD, WHOLE};
 use super::told::{nodes_told_by, rooted, told_by};
 use crate::tests::{assert_case, assert_text};
 use std::alloc::Global;
@@ -59,6 +58,30 @@ impl<'a> BlockStore for Copied<'a> {
         }
     }
 }
+
+/// What is reported of a whole volume.
+const WHOLE: &str =
+    "whole directory 120 2001-07-04T09:30:00.000000Z \nwhole file 5000 2001-07-04T09:30:00.000000Z /A\nwhole file 2 2001-07-04T09:30:00.000000Z /B\n";
+
+/// The blocks that are not known, and what is reported then.
+static UNREAD: [(&[u32], &str); 4] = [
+    (
+        &[275, 277, 278, 279],
+        "whole directory 120 2001-07-04T09:30:00.000000Z \ntorn missing 275 unread /A\nwhole file 2 2001-07-04T09:30:00.000000Z /B\nreread 275\n",
+    ),
+    (
+        &[278],
+        "whole directory 120 2001-07-04T09:30:00.000000Z \ntorn missing 278 hole 2048 2048 file 5000 2001-07-04T09:30:00.000000Z /A\nwhole file 2 2001-07-04T09:30:00.000000Z /B\nreread 278\n",
+    ),
+    (
+        &[279, 277],
+        "whole directory 120 2001-07-04T09:30:00.000000Z \ntorn missing 277 missing 279 hole 0 2048 hole 4096 904 file 5000 2001-07-04T09:30:00.000000Z /A\nwhole file 2 2001-07-04T09:30:00.000000Z /B\nreread 277\nreread 279\n",
+    ),
+    (
+        &[274],
+        "torn missing 274 hole 0 120 directory 120 2001-07-04T09:30:00.000000Z \nunnamed 0:3 whole file 5000 2001-07-04T09:30:00.000000Z\nunnamed 0:4 whole file 2 2001-07-04T09:30:00.000000Z\nreread 274\n",
+    ),
+];
 
 /// What is reported of a table's volume, where one block can not be read; `None` if its root is not found.
 fn told_without(

@@ -12,8 +12,8 @@ use udfs_volume::Seen;
 use udfs_volume::layouts::layout;
 use udfs_walk::answers::{Node, NodesError, NodesGaveUp, Unnamed};
 use udfs_walk::standings::Standing;
-use udfs_walk::unnamed_entries::{bare_unnamed_by, unnamed};
-use udfs_walk::{bare_nodes_by, bare_reread_by, full_entries_by, full_nodes_by, nodes, reread};
+use udfs_walk::unnamed_entries::bare_unnamed_by;
+use udfs_walk::{bare_nodes_by, bare_reread_by, full_entries_by, full_nodes_by, nodes};
 
 /// The places of a table's volume, and the address of its root.
 pub fn rooted(alloc: Global, table: &BlockTable) -> Option<(Space, LongAd)> {
@@ -89,7 +89,7 @@ fn kind(
 }
 
 /// The line of a node.
-pub fn push_node(alloc: Global, text: &mut String, node: &Node) -> Result<(), AllocError> {
+fn push_node(alloc: Global, text: &mut String, node: &Node) -> Result<(), AllocError> {
     standing(alloc, text, &node.standing)?;
     kind(alloc, text, node.kind, node.size, node.stamp)?;
     text.push(' ')?;
@@ -134,21 +134,7 @@ fn lines(
     Ok(text)
 }
 
-/// All that is reported of a table's volume, or why it has no nodes.
-pub fn told(alloc: Global, table: &BlockTable) -> Result<String, Fail> {
-    let Some((space, root)) = rooted(alloc, table) else {
-        return Ok(format!(in alloc; "no root")?);
-    };
-    let all = match nodes(alloc, table, &space, root) {
-        Ok(all) => all,
-        Err(error) => return Ok(format!(in alloc; "{error}")?),
-    };
-    let entries = unnamed(alloc, table, &space, &all)?;
-    let blocks = reread(alloc, &all)?;
-    Ok(lines(alloc, &all, &entries, &blocks)?)
-}
-
-/// The same of the volume of a store of blocks.
+/// All that is reported of the volume of a store of blocks.
 pub fn told_by<B: BlockStore>(
     alloc: Global,
     view: StoreView<'_, B>,

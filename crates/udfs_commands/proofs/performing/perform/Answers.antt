@@ -49,7 +49,7 @@ pub returns-in-List-clause-failed : goal.returns-in-List-clause-failed
 returns-in-List-clause-failed g c = rw c.in-List.is (unchanged _ _ _ refl)
 
 pub returns-in-Summary-clause-done : goal.returns-in-Summary-clause-done
-returns-in-Summary-clause-done g c = rw c.in-Summary.is (rw c.given_by.ensures at c.tell-in-Summary.ensures.printed)
+returns-in-Summary-clause-done g c = rw c.in-Summary.is c.summary.ensures.printed
 
 pub returns-in-Summary-clause-left : goal.returns-in-Summary-clause-left
 returns-in-Summary-clause-left g c = rw c.in-Summary.is refl

@@ -1,4 +1,4 @@
-use Rattle.std.proofs.Common.{◌≡◌, ◌∙◌}
+use Rattle.std.proofs.Common.{◌∙◌}
 use Rattle.std.proofs.lemmas.Option.{get_or_from_slice_get}
 use Rattle.udfs_pairs.specs.AnyStored.{stored_in}
 use Rattle.udfs_common.proofs.IndexingLemmas.{at_place, fails_at, taken_at}

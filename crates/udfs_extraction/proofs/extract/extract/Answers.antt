@@ -16,7 +16,7 @@ pub returns-in-Err-find_places-clause-left : goal.returns-in-Err-find_places-cla
 returns-in-Err-find_places-clause-left g c = inl refl
 
 pub returns-in-Err-joined_volume-clause-why : goal.returns-in-Err-joined_volume-clause-why
-returns-in-Err-joined_volume-clause-why g c = inl (refl, refl, inr (inr (inr c.in-Err-joined_volume.ensures.refused)))
+returns-in-Err-joined_volume-clause-why g c = inl (refl, refl, inr (inr (inr (inr c.in-Err-joined_volume.ensures.refused))))
 
 pub returns-in-Err-joined_volume-clause-left : goal.returns-in-Err-joined_volume-clause-left
 returns-in-Err-joined_volume-clause-left g c = inl refl

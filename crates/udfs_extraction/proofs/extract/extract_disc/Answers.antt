@@ -1,6 +1,6 @@
 use Rattle.std.proofs.Common.{inl, inr, refl}
 use Rattle.udfs_salvage.specs.Listings.{listing_now}
-use Rattle.udfs_extraction.proofs.ExtractLemmas.{adding_stops, listing_stops, made}
+use Rattle.udfs_extraction.proofs.ExtractLemmas.{adding_stops, beyond_stops, listing_stops, made, unsearched}
 use Rattle.udfs_extraction.proofs.LostLemmas.{nothing_added}
 use Rattle.udfs_extraction.proofs.extract.extract_disc.Goals as goal
 
@@ -16,32 +16,76 @@ returns-in-Err-lost_entries-clause-why g c = inl (refl, refl, inl c.in-Err-lost_
 pub returns-in-Err-lost_entries-clause-spares : goal.returns-in-Err-lost_entries-clause-spares
 returns-in-Err-lost_entries-clause-spares g c = inl refl
 
+pub returns-in-Err-found_trees-clause-why : goal.returns-in-Err-found_trees-clause-why
+returns-in-Err-found_trees-clause-why g c = inr (
+  listing_now c.in-Ok.listing,
+  c.in-Ok.ensures.report,
+  inl (refl, refl, unsearched c.args.request.now _ _ _ _ c.in-Ok.ensures.of.0 c.in-Err-found_trees.ensures.refused),
+)
+
+pub returns-in-Err-found_trees-clause-spares : goal.returns-in-Err-found_trees-clause-spares
+returns-in-Err-found_trees-clause-spares g c = inl refl
+
 pub returns-in-Err-list_report-clause-why : goal.returns-in-Err-list_report-clause-why
 returns-in-Err-list_report-clause-why g c = inr (
   listing_now c.in-Ok.listing,
   c.in-Ok.ensures.report,
-  listing_stops _ _ _ _ _ _ _ _ _ _ _ _ c.in-Ok.ensures.of.0 c.in-Err-list_report.ensures.why,
+  inr (listing_stops _ _ _ _ _ _ _ _ _ _ _ _ c.in-Ok.ensures.of.0 c.in-Err-list_report.ensures.why),
 )
 
 pub returns-in-Err-list_report-clause-spares : goal.returns-in-Err-list_report-clause-spares
-returns-in-Err-list_report-clause-spares g c = inr (record { two = c.list_report.new.files; listed = c.list_report.ensures.spares; lost = nothing_added _ _ _ })
+returns-in-Err-list_report-clause-spares g c = inr (record {
+  two = c.list_report.new.files;
+  three = c.list_report.new.files;
+  listed = c.list_report.ensures.spares;
+  lost = nothing_added _ _ _;
+  trees = nothing_added _ _ _;
+})
 
-pub returns-in-Ok-add_lost-clause-made : goal.returns-in-Ok-add_lost-clause-made
-returns-in-Ok-add_lost-clause-made g c = (
+pub returns-in-Err-add_lost-clause-why : goal.returns-in-Err-add_lost-clause-why
+returns-in-Err-add_lost-clause-why g c = inr (
   listing_now c.in-Ok.listing,
   c.in-Ok.ensures.report,
-  made _ _ _ _ _ _ _ _ _ _ _ _ _ _ _ _ _ c.in-Ok.ensures.of.0 c.in-Ok-list_report.ensures.made.1 c.in-Ok-add_lost.ensures.made c.is_all_good.ensures,
+  inr (adding_stops _ _ _ _ _ _ _ _ _ _ _ _ _ _ _ _ c.in-Ok.ensures.of.0 c.in-Ok-list_report.ensures.made.1 c.in-Err-add_lost.ensures.why),
 )
 
-pub returns-in-Ok-add_lost-clause-spares : goal.returns-in-Ok-add_lost-clause-spares
-returns-in-Ok-add_lost-clause-spares g c = inr (record { two = c.list_report.new.files; listed = c.list_report.ensures.spares; lost = c.add_lost.ensures.spares })
+pub returns-in-Err-add_lost-clause-spares : goal.returns-in-Err-add_lost-clause-spares
+returns-in-Err-add_lost-clause-spares g c = inr (record {
+  two = c.list_report.new.files;
+  three = c.add_lost.new.files;
+  listed = c.list_report.ensures.spares;
+  lost = c.add_lost.ensures.spares;
+  trees = nothing_added _ _ _;
+})
+
+pub returns-in-Ok-add_trees-clause-made : goal.returns-in-Ok-add_trees-clause-made
+returns-in-Ok-add_trees-clause-made g c = (
+  listing_now c.in-Ok.listing,
+  c.in-Ok.ensures.report,
+  made _ _ _ _ _ _ _ _ _ _ _ _ _ _ _ _ _ _ _ _ _ c.in-Ok.ensures.of.0 c.in-Ok-list_report.ensures.made.1 c.in-Ok-add_lost.ensures.made c.in-Ok-add_trees.ensures.made c.is_all_good.ensures c.is_all_good-in-Ok-add_trees.ensures,
+)
+
+pub returns-in-Ok-add_trees-clause-spares : goal.returns-in-Ok-add_trees-clause-spares
+returns-in-Ok-add_trees-clause-spares g c = inr (record {
+  two = c.list_report.new.files;
+  three = c.add_lost.new.files;
+  listed = c.list_report.ensures.spares;
+  lost = c.add_lost.ensures.spares;
+  trees = c.add_trees.ensures.spares;
+})
 
 pub returns-clause-spares : goal.returns-clause-spares
-returns-clause-spares g c = inr (record { two = c.list_report.new.files; listed = c.list_report.ensures.spares; lost = c.add_lost.ensures.spares })
+returns-clause-spares g c = inr (record {
+  two = c.list_report.new.files;
+  three = c.add_lost.new.files;
+  listed = c.list_report.ensures.spares;
+  lost = c.add_lost.ensures.spares;
+  trees = c.add_trees.ensures.spares;
+})
 
 pub returns-clause-why : goal.returns-clause-why
 returns-clause-why g c = inr (
   listing_now c.in-Ok.listing,
   c.in-Ok.ensures.report,
-  adding_stops _ _ _ _ _ _ _ _ _ _ _ _ _ _ _ _ c.in-Ok.ensures.of.0 c.in-Ok-list_report.ensures.made.1 c.in-Err-add_lost.ensures.why,
+  inr (beyond_stops _ _ _ _ _ _ _ _ _ _ _ _ _ _ _ _ _ _ _ c.in-Ok.ensures.of.0 c.in-Ok-list_report.ensures.made.1 c.in-Ok-add_lost.ensures.made c.in-Err-add_trees.ensures.why),
 )

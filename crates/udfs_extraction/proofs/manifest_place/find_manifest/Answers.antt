@@ -1,5 +1,7 @@
-use Rattle.std.proofs.Common.{◌≡◌, ◌∙◌, Bor, List, None, Some, map, rules, subst, sym, ℕ, ◌++◌, codes, inl, inr}
+use Rattle.std.proofs.Common.{◌≡◌, ◌∙◌, Bor, Err, List, None, Some, ap, map, rules, subst, sym, ℕ, ◌++◌, codes, inl, inr, ⊎_elim}
 use Rattle.udfs_common.specs.Guarding.{NoneLeads}
+use Rattle.udfs_common.specs.declared.refusal.Refusal.TheVariants.{Spared}
+use Rattle.udfs_extraction.specs.BarePaths.{bare}
 use Rattle.udfs_extraction.specs.Manifests.{IsBeside, IsNear}
 use Rattle.udfs_extraction.proofs.manifest_place.find_manifest.Goals as goal
 
@@ -12,24 +14,31 @@ returns-in-Absent-clause-free g c tells =
     record {
       no_input = subst (λ p. NoneLeads (F.real c.args.files.now) p (map (λ (path : Bor (List ℕ)). path.now) c.args.inputs.now)) at (c.in-Ok.ensures.inputs tells);
       apart = subst (λ p. NoneLeads (F.real c.args.files.now) p (map (λ (path : Bor (List ℕ)). path.now) c.args.parts.now)) at (c.in-Ok.ensures.parts tells);
-      beside = subst (IsBeside c.args.folder.now) too (c.in-Ok-true.ensures.beside c.in-Ok-true.field-0-test);
+      beside = subst (IsBeside c.args.folder.now) too c.in-Ok-is_out_of_the_way.ensures.beside;
+      away = subst (IsBeside (F.real c.args.files.now (bare c.args.folder.now))) too (c.in-Ok-is_out_of_the_way.ensures.away tells);
       of_kind = λ bytes is. let bad : Some None ≡ Some (Some bytes) = sym none ∙ is in absurd (let no : ⊥ = cc in no);
     }
 
-pub returns-in-Ok-true-is_manifest-clause-free : goal.returns-in-Ok-true-is_manifest-clause-free
-returns-in-Ok-true-is_manifest-clause-free g c tells =
+pub returns-in-Ok-true-clause-free : goal.returns-in-Ok-true-clause-free
+returns-in-Ok-true-clause-free g c tells =
     let F = g.F.Files in
     let at : c.as_str.result.now ≡ F.real c.args.files.now c.args.out.now = search rules in
     let too : c.as_str-2.result.now ≡ F.real c.args.files.now c.args.out.now = search rules in
     record {
       no_input = subst (λ p. NoneLeads (F.real c.args.files.now) p (map (λ (path : Bor (List ℕ)). path.now) c.args.inputs.now)) at (c.in-Ok.ensures.inputs tells);
       apart = subst (λ p. NoneLeads (F.real c.args.files.now) p (map (λ (path : Bor (List ℕ)). path.now) c.args.parts.now)) at (c.in-Ok.ensures.parts tells);
-      beside = subst (IsBeside c.args.folder.now) too (c.in-Ok-true.ensures.beside c.in-Ok-true.field-0-test);
-      of_kind = c.in-Ok-true-is_manifest.ensures.yes c.in-Ok-true-is_manifest.field-0-test;
+      beside = subst (IsBeside c.args.folder.now) too c.in-Ok-is_out_of_the_way.ensures.beside;
+      away = subst (IsBeside (F.real c.args.files.now (bare c.args.folder.now))) too (c.in-Ok-is_out_of_the_way.ensures.away tells);
+      of_kind = c.in-Ok-true.ensures.yes c.in-Ok-true.field-0-test;
     }
 
-pub returns-in-Ok-false-clause-spared : goal.returns-in-Ok-false-clause-spared
-returns-in-Ok-false-clause-spared g c refused tells =
+pub returns-in-Err-is_out_of_the_way-clause-spared : goal.returns-in-Err-is_out_of_the_way-clause-spared
+returns-in-Err-is_out_of_the_way-clause-spared g c refused tells =
     let F = g.F.Files in
     let at : c.as_str-2.result.now ≡ F.real c.args.files.now c.args.out.now = search rules in
-    inr (inr (inl (subst (λ (p : List ℕ). IsNear c.args.folder.now p (p ++ codes ".unfinished")) at (c.in-Ok-false.ensures.near c.in-Ok-false.field-0-test))))
+    let is : c.in-Err-is_out_of_the_way.refusal ≡ Spared = cc in
+    let near = c.in-Err-is_out_of_the_way.ensures.near (ap Err is) tells in
+    ⊎_elim
+    (λ typed. inr (inr (inl (subst (λ (p : List ℕ). IsNear c.args.folder.now p (p ++ codes ".unfinished")) at typed))))
+    (λ real. inr (inr (inr (inl (subst (λ (p : List ℕ). IsNear (F.real c.args.files.now (bare c.args.folder.now)) p (p ++ codes ".unfinished")) at real)))))
+    near

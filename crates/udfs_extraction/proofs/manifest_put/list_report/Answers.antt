@@ -6,7 +6,7 @@ pub returns-in-Err-clause-spares : goal.returns-in-Err-clause-spares
 returns-in-Err-clause-spares g c = spares_unlisted _ _ _ _ _ c.make_nodes.ensures.spares
 
 pub returns-in-Err-clause-why : goal.returns-in-Err-clause-why
-returns-in-Err-clause-why g c = inl c.in-Err.ensures.why
+returns-in-Err-clause-why g c = inl (c.in-Err.ensures.why, c.make_nodes.ensures.spares)
 
 pub returns-in-Ok-add_manifest-clause-made : goal.returns-in-Ok-add_manifest-clause-made
 returns-in-Ok-add_manifest-clause-made g c = (

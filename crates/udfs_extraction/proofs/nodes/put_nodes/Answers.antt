@@ -6,7 +6,7 @@ use Rattle.udfs_salvage.specs.NodeTexts.{names_text}
 use Rattle.udfs_lattice.specs.Tables.{state_of}
 use Rattle.udfs_salvage.specs.Found.{volume_now}
 use Rattle.udfs_salvage.specs.Listings.{full_in, listing_now}
-use Rattle.udfs_extraction.specs.Extracting.{IsDone, IsPut, TellsLines, TellsOn, fate_line, fate_lines, is_good}
+use Rattle.udfs_extraction.specs.Extracting.{IsDone, IsPut, TellsLines, TellsOn, fate_line, fate_lines, is_good, node_line}
 use Rattle.udfs_extraction.specs.declared.nodes.Fate.{Fate}
 use Rattle.udfs_extraction.specs.Manifests.{AreLines, IsLine, IsNoted, notes_of, notes_text}
 use Rattle.udfs_extraction.specs.ShortNames.{IsWay, own_name, placed}
@@ -99,7 +99,7 @@ returns-in_err-heard-clause-put g c =
       record {
         each = each_map _ _ (λ k n fate. done_still F.moment F.may_leave F.left_since (map (λ (word : Bor (List ℕ)). word.now) c.args.only.now) F.tells (Fails F.faults ⊎ SinkFails g.F.Output.Sink.stream) c.args.listing.now.table.now (listing_now c.args.listing.now) c.args.fill c.args.short c.args.folder.now
             c.loop-index.files c.put_chosen.new.files (F.holds c.loop-index.files) (F.holds c.put_chosen.new.files) (g.met.F.Files.counts_now c.loop-index.files) step.stays step.crash k n fate) 1 _ put.0 put.1.each;
-        lines = subst (λ o. TellsLines c.loop-index.heard (S.stream c.args.out.now) (S.stream o) (fate_lines (own_name c.args.short (listing_now c.args.listing.now)) (drop 1 (listing_now c.args.listing.now).nodes) put.0)) (sym c.in_err-heard.ensures.memory) put.1.lines;
+        lines = subst (λ o. TellsLines c.loop-index.heard (S.stream c.args.out.now) (S.stream o) (fate_lines (node_line c.args.word.now c.args.short (listing_now c.args.listing.now)) (drop 1 (listing_now c.args.listing.now).nodes) put.0)) (sym c.in_err-heard.ensures.memory) put.1.lines;
       },
       search rules,
     )
@@ -137,6 +137,7 @@ loop-index-preserved g c =
     let n = full_in (state_of l.table.now) (volume_now l.volume) m in
     let report = listing_now l in
     let own = own_name c.args.short report in
+    let lined = node_line c.args.word.now c.args.short report in
     let seen : c.node.inside.path ≡ m.path = search rules in
     let nodes = (listing_now c.args.listing.now).nodes in
     let step = c.put_chosen.ensures in
@@ -155,10 +156,10 @@ loop-index-preserved g c =
               (each_map _ P (λ k m f. done_still F.moment F.may_leave F.left_since (map (λ (word : Bor (List ℕ)). word.now) c.args.only.now) F.tells (Fails F.faults ⊎ SinkFails g.F.Output.Sink.stream) c.args.listing.now.table.now (listing_now c.args.listing.now) c.args.fill c.args.short c.args.folder.now
               c.loop-index.files c.put_chosen.new.files (F.holds c.loop-index.files) (F.holds c.put_chosen.new.files) (g.met.F.Files.counts_now c.loop-index.files) step.stays step.crash k m f) 1 _ fates inv.put.1.each)
               (subst (λ k. P k n fate) (sym count) (c.in_ok-done.ensures.put n c.args.short c.node_at-node.ensures here));
-          lines = subst (λ t. TellsLines c.in_ok-heard.heard (S.stream c.args.out.now) (S.stream c.tell.new.out) t) (sym (lines_more own (drop 1 nodes) fates n fate at))
-              (tells_on c.loop-index.heard c.in_ok-heard.heard (S.stream c.args.out.now) (S.stream c.loop-index.out) (S.stream c.tell.new.out) (fate_lines own (drop 1 nodes) fates) (fate_line fate n.path (own n)) inv.put.1.lines
-              (subst (λ (o : Option (List ℕ)). TellsOn c.loop-index.heard c.in_ok-heard.heard (S.stream c.loop-index.out) (S.stream c.tell.new.out) (fate_line fate n.path o)) short_one
-              (subst (λ (path : List (List ℕ)). TellsOn c.loop-index.heard c.in_ok-heard.heard (S.stream c.loop-index.out) (S.stream c.tell.new.out) (fate_line fate path c.in_ok-target.target.own)) seen c.in_ok-heard.ensures.lines)));
+          lines = subst (λ t. TellsLines c.in_ok-heard.heard (S.stream c.args.out.now) (S.stream c.tell.new.out) t) (sym (lines_more lined (drop 1 nodes) fates n fate at))
+              (tells_on c.loop-index.heard c.in_ok-heard.heard (S.stream c.args.out.now) (S.stream c.loop-index.out) (S.stream c.tell.new.out) (fate_lines lined (drop 1 nodes) fates) (lined fate n) inv.put.1.lines
+              (subst (λ (o : Option (List ℕ)). TellsOn c.loop-index.heard c.in_ok-heard.heard (S.stream c.loop-index.out) (S.stream c.tell.new.out) (fate_line c.args.word.now fate n.path o)) short_one
+              (subst (λ (path : List (List ℕ)). TellsOn c.loop-index.heard c.in_ok-heard.heard (S.stream c.loop-index.out) (S.stream c.tell.new.out) (fate_line c.args.word.now fate path c.in_ok-target.target.own)) seen c.in_ok-heard.ensures.lines)));
         },
         (let more = length-append fates (fate ∷ []) in omega (arith, count, more)),
         c.still_good-good.ensures ∙ ap (λ b. if is_good fate then b else false) inv.put.3 ∙ sym (good_more fates fate),

@@ -7,5 +7,5 @@ use Rattle.udfs_overview.proofs.summary_json.push_open.Goals as goal
 
 pub returns : goal.returns
 returns c =
-    subst (λ x. OnOk c.push_ends.result (string_bytes c.push_ends.new.text ≡ string_bytes c.args.text.now ++ x)) (open_pieces c.args.figures.now (parts_now c.args.parts.now))
+    subst (λ x. OnOk c.push_ends.result (string_bytes c.push_ends.new.text ≡ string_bytes c.args.text.now ++ x)) (open_pieces c.args.figures.now (parts_now c.args.parts.now) c.args.answer.now)
     (three_behind c.push_ends.result _ _ _ _ _ _ _ c.in_ok-push_whole.ensures c.in_ok-push_nodes.ensures c.push_ends.ensures)

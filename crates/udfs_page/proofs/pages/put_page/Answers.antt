@@ -13,7 +13,7 @@ pub returns-in_err-push_front : goal.returns-in_err-push_front
 returns-in_err-push_front g c =
     let p = err_from_is_err_and c.from_residual.result c.from_residual.ensures.1 in
     let s = c.args.survey.now in
-    rw (p.1, p.2) (refused_first _ (string_bytes c.args.text.now) (page_html (given_now c.args.given.now) (called_now c.args.called.now) s.profile s.table.now s.last (survey_now s)))
+    rw (p.1, p.2) (refused_first _ (string_bytes c.args.text.now) (page_html (given_now c.args.given.now) (called_now c.args.called.now) s.profile s.table.now s.last (survey_now s) c.args.answer.now))
 
 pub returns-in_err-put_about_files : goal.returns-in_err-put_about_files
 unfolding page_html

@@ -5,7 +5,7 @@ use Rattle.udfs_walk.specs.NodeBodies.{HasCells, MayTakeMemory}
 use Rattle.udfs_salvage.specs.Found.{found_now, volume_now}
 use Rattle.udfs_salvage.specs.Listings.{full_in, listing_now}
 use Rattle.udfs_salvage.specs.Extraction.{Extracts, fill_byte, filled, is_offered}
-use Rattle.udfs_salvage.proofs.Extracting.{report_cells, not_refused, true_false}
+use Rattle.udfs_salvage.proofs.Extracting.{report_cells, not_refused, true_false, walked_cells}
 use Rattle.udfs_salvage.proofs.Founds.{found_same}
 use Rattle.udfs_salvage.proofs.ListedNodes.{same_full, same_offered}
 use Rattle.udfs_salvage.proofs.TreeBytes.{fills_file, writes_file}
@@ -35,6 +35,32 @@ returns-in-Open-clause-not_whole g c = λ profile last n is at.
     let offered : is_offered n.standing n.size c.args.fill ≡ true =
     ap (λ m. is_offered m.standing m.size c.args.fill) (sym same) ∙ same_offered b (volume_now r.volume) c.index-node.result.now.icb c.index-node.result.now.standing c.index-node.result.now.size c.args.fill ∙ sym c.is_offered.ensures ∙ c.if-not-is_offered.false in
     let written = returns-in-Open-clause-cells g c profile last n is at offered in
+    (λ e. absurd (not_refused (W.stream c.args.sink.now) (W.stream c.write_at.new.sink) (filled (fill_byte c.args.fill) written.0) c.write_at.result written.2 e), λ e. absurd (true_false (is_offered n.standing n.size c.args.fill) offered e))
+
+pub returns-in-Open-clause-walked : goal.returns-in-Open-clause-walked
+returns-in-Open-clause-walked g c = λ f root n is at offered.
+    let W = g.W.Sink in
+    let r = c.args.listing.now in
+    let b = state_of r.table.now in
+    let k = walked_cells b f root (listing_now r) c.args.index n c.args.fill is at offered in
+    let same = same_full (full_in b (volume_now r.volume)) r.nodes.items c.args.index n c.index-node.result.now at c.index-node.ensures in
+    let icb : c.node.inside.icb ≡ n.icb = ap (λ m. m.icb) c.node.view_is ∙ ap (λ m. m.icb) same in
+    let opened : found_now c.in-Open.opened ≡ f = found_same _ _ (sym (ap volume_now c.in-Open.is) ∙ is.opens) in (
+      k.0,
+      k.1,
+      subst (λ x. Extracts (W.stream c.args.sink.now) (W.stream c.write_at.new.sink) (filled x k.0) c.write_at.result) c.fill_byte-byte.ensures
+          (c.write_at.ensures.cells k.0 (subst (λ v. HasCells v c.node.inside.icb k.0) (sym c.view-view.ensures.value) (subst (λ a. HasCells (view b c.in-Open.opened.space) a k.0) (sym icb) (subst (λ h. HasCells (view b h.space) n.icb k.0) (sym opened) k.2)))),
+    )
+
+pub returns-in-Open-clause-unfit : goal.returns-in-Open-clause-unfit
+returns-in-Open-clause-unfit g c = λ f root n is at.
+    let W = g.W.Sink in
+    let r = c.args.listing.now in
+    let b = state_of r.table.now in
+    let same = same_full (full_in b (volume_now r.volume)) r.nodes.items c.args.index n c.index-node.result.now at c.index-node.ensures in
+    let offered : is_offered n.standing n.size c.args.fill ≡ true =
+    ap (λ m. is_offered m.standing m.size c.args.fill) (sym same) ∙ same_offered b (volume_now r.volume) c.index-node.result.now.icb c.index-node.result.now.standing c.index-node.result.now.size c.args.fill ∙ sym c.is_offered.ensures ∙ c.if-not-is_offered.false in
+    let written = returns-in-Open-clause-walked g c f root n is at offered in
     (λ e. absurd (not_refused (W.stream c.args.sink.now) (W.stream c.write_at.new.sink) (filled (fill_byte c.args.fill) written.0) c.write_at.result written.2 e), λ e. absurd (true_false (is_offered n.standing n.size c.args.fill) offered e))
 
 pub returns-in-Open-clause-wanted : goal.returns-in-Open-clause-wanted

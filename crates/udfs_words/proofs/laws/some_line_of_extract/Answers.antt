@@ -21,11 +21,11 @@ unfolding clap_on_literals
 named = refl
 
 -- all that is read of the line
-abbrev read : Text → List Row → Text × Option (List Text) × Option (List Text) × Option Text × Option Text × Option (List Text) × Option Text × Option (List Text) × Option Text × Option (List Text) × Option Text × Option Text × Option Text × Option Text × Option (List Text) × Option (List Text) × Option Text × Option (List Text)
-read name rows = (name, all_of (codes "input") rows, all_of (codes "ddrescue") rows, first_of (codes "size") rows, first_of (codes "profile") rows, all_of (codes "blocks") rows, one_of (codes "last") rows, all_of (codes "last") rows, first_of (codes "to") rows, all_of (codes "only") rows, one_of (codes "fill") rows, one_of (codes "short-names") rows, one_of (codes "times") rows, first_of (codes "manifest") rows, all_of (codes "manifest") rows, all_of (codes "unnamed") rows, first_of (codes "group") rows, all_of (codes "size-of") rows)
+abbrev read : Text → List Row → Text × Option (List Text) × Option (List Text) × Option Text × Option Text × Option (List Text) × Option Text × Option (List Text) × Option Text × Option (List Text) × Option Text × Option Text × Option Text × Option Text × Option (List Text) × Option (List Text) × Option Text × Option (List Text) × Option Text × Option (List Text) × Option Text
+read name rows = (name, all_of (codes "input") rows, all_of (codes "ddrescue") rows, first_of (codes "size") rows, first_of (codes "profile") rows, all_of (codes "blocks") rows, one_of (codes "last") rows, all_of (codes "last") rows, first_of (codes "to") rows, all_of (codes "only") rows, one_of (codes "fill") rows, one_of (codes "short-names") rows, one_of (codes "times") rows, first_of (codes "manifest") rows, all_of (codes "manifest") rows, all_of (codes "unnamed") rows, first_of (codes "group") rows, all_of (codes "size-of") rows, first_of (codes "lost") rows, all_of (codes "lost") rows, one_of (codes "deleted") rows)
 
-abbrev said : Text × Option (List Text) × Option (List Text) × Option Text × Option Text × Option (List Text) × Option Text × Option (List Text) × Option Text × Option (List Text) × Option Text × Option Text × Option Text × Option Text × Option (List Text) × Option (List Text) × Option Text × Option (List Text)
-said = (codes "extract", Some (codes "all.tab" ∷ []), None, None, None, None, Some (codes "1000"), Some (codes "1000" ∷ []), Some (codes "files"), Some (codes "/a" ∷ codes "/b" ∷ []), Some (codes "true"), Some (codes "false"), Some (codes "true"), Some (codes "sums"), Some (codes "sums" ∷ []), None, None, None)
+abbrev said : Text × Option (List Text) × Option (List Text) × Option Text × Option Text × Option (List Text) × Option Text × Option (List Text) × Option Text × Option (List Text) × Option Text × Option Text × Option Text × Option Text × Option (List Text) × Option (List Text) × Option Text × Option (List Text) × Option Text × Option (List Text) × Option Text
+said = (codes "extract", Some (codes "all.tab" ∷ []), None, None, None, None, Some (codes "1000"), Some (codes "1000" ∷ []), Some (codes "files"), Some (codes "/a" ∷ codes "/b" ∷ []), Some (codes "true"), Some (codes "false"), Some (codes "true"), Some (codes "sums"), Some (codes "sums" ∷ []), None, None, None, Some (codes "found"), Some (codes "found" ∷ []), Some (codes "true"))
 
 says : (name : Text) (words : Found) → IsAsked extract_line name words → read name (rows_of words) ≡ said
 unfolding clap_on_literals
@@ -45,6 +45,8 @@ by name words (request.Extract r) e is = (
   is.1.times.with_flag (one_is words (codes "times") _ (ap (λ t. t.12) e)),
   is.1.manifest ∙ optional_is words _ _ (first_is words (codes "manifest") _ (ap (λ t. t.13) e)) (given_is words (codes "manifest") _ _ (ap (λ t. t.14) e) refl),
   is.1.lost ∙ optional_none words _ (given_is words (codes "unnamed") _ _ (ap (λ t. t.15) e) refl),
+  is.1.trees ∙ optional_is words _ _ (first_is words (codes "lost") _ (ap (λ t. t.18) e)) (given_is words (codes "lost") _ _ (ap (λ t. t.19) e) refl),
+  is.1.deleted.with_flag (one_is words (codes "deleted") _ (ap (λ t. t.20) e)),
 )
 by name words _ e is = absurd (differ (ap (λ t. t.0) e) is.0 refl refl)
 

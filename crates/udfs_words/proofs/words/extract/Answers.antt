@@ -13,7 +13,9 @@ returns c =
     let six = c.in_ok-arg-4.ensures.shape c.only.ensures.1 ∙ ap₂ with_rule five c.only.ensures.0 in
     let seven = c.in_ok-arg-5.ensures.shape c.manifest.ensures.1 ∙ ap₂ with_rule six c.manifest.ensures.0 in
     let eight = c.in_ok-arg-6.ensures.shape c.lost_folder.ensures.1 ∙ ap₂ with_rule seven c.lost_folder.ensures.0 in
-    let nine = c.in_ok-arg-7.ensures.shape c.flag-2.ensures.1 ∙ ap₂ with_rule eight c.flag-2.ensures.0 in
-    let ten = c.in_ok-arg-8.ensures.shape c.flag-3.ensures.1 ∙ ap₂ with_rule nine c.flag-3.ensures.0 in
-    let eleven = c.in_ok-command.ensures.shape c.joining.ensures.1 ∙ ap₂ with_rule ten c.joining.ensures.0 in
-    IfOk-weaker c.with_inputs.result _ _ (λ m h. h ∙ ap₂ with_inputs eleven refl) c.with_inputs.ensures
+    let nine = c.in_ok-arg-7.ensures.shape c.lost_trees.ensures.1 ∙ ap₂ with_rule eight c.lost_trees.ensures.0 in
+    let ten = c.in_ok-arg-8.ensures.shape c.flag-2.ensures.1 ∙ ap₂ with_rule nine c.flag-2.ensures.0 in
+    let eleven = c.in_ok-arg-9.ensures.shape c.flag-3.ensures.1 ∙ ap₂ with_rule ten c.flag-3.ensures.0 in
+    let twelve = c.in_ok-arg-10.ensures.shape c.flag-4.ensures.1 ∙ ap₂ with_rule eleven c.flag-4.ensures.0 in
+    let thirteen = c.in_ok-command.ensures.shape c.joining.ensures.1 ∙ ap₂ with_rule twelve c.joining.ensures.0 in
+    IfOk-weaker c.with_inputs.result _ _ (λ m h. h ∙ ap₂ with_inputs thirteen refl) c.with_inputs.ensures

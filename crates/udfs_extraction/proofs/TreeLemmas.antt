@@ -1,0 +1,164 @@
+-- How lost trees are gone through, and what was written stays.
+use Rattle.std.proofs.Common.{◌≡◌, ◌⊎◌, refl, sym, ◌∙◌, ap, subst, arith, ℕ, zero, suc, ◌+◌, ◌≤◌, Bool, true, false, List, [], ◌∷◌, ◌++◌, Some, None, append_assoc, codes, drop, length, slice_get, alloc_error}
+use Rattle.std.specs.Prelude.{◌&&◌}
+use Rattle.std.specs.List.{list_all}
+use Rattle.std.proofs.lemmas.List.{append-nil}
+use Rattle.udfs_files.specs.Disk.{Disk, Fails, SinkFails}
+use Rattle.udfs_files.specs.declared.files.Files.{Ghosts}
+use Rattle.udfs_lattice.specs.Tables.{Table}
+use Rattle.udfs_reading.specs.Device.{Stream}
+use Rattle.udfs_volume.specs.Answers.{Answer}
+use Rattle.udfs_walk.specs.NodeFields.{NodeFields}
+use Rattle.udfs_lost.specs.declared.trees.LostTree.{LostTree}
+use Rattle.udfs_salvage.specs.Found.{Found}
+use Rattle.udfs_salvage.specs.NodeTexts.{names_text}
+use Rattle.udfs_salvage.specs.Reports.{Report}
+use Rattle.udfs_salvage.specs.Texts.{has_two}
+use Rattle.udfs_salvage.specs.declared.extraction.Fill.{Fill}
+use Rattle.udfs_salvage.specs.declared.extraction.Fill.TheVariants.{Refuse}
+use Rattle.udfs_common.specs.declared.refusal.Refusal.{Refusal}
+use Rattle.udfs_common.specs.declared.refusal.Refusal.TheVariants.{Memory, Output}
+use Rattle.udfs_extraction.specs.Extracting.{Each, IsDone, IsIn, IsPut, SparesNodes, TellsLines, all_good, fate_lines}
+use Rattle.udfs_extraction.specs.LostFiles.{IsUnder, SparesLost}
+use Rattle.udfs_extraction.specs.LostTrees.{EachTree, IsAllOf, IsTreePut, StopsAt, tree_path, tree_report, trees_lines}
+use Rattle.udfs_extraction.specs.declared.nodes.Fate.{Fate}
+use Rattle.udfs_extraction.proofs.LostLemmas.{safe_lost}
+use Rattle.udfs_extraction.proofs.PutNodes.{each_map, goes_wider, spares_nothing, spares_on, tells_more}
+
+-- ---- one tree
+
+-- the first node, and then the others
+pub each_first : (P : ℕ → NodeFields → Fate → Type 0) (ns : List NodeFields) (n : NodeFields) (fate : Fate) (fates : List Fate) → slice_get ns 0 ≡ Some n → P 0 n fate → Each P 1 (drop 1 ns) fates → Each P 0 ns (fate ∷ fates)
+each_first P [] n fate fates at one rest = let bad : None ≡ Some n = at in absurd (let no : ⊥ = cc in no)
+each_first P (m ∷ ns) n fate fates at one rest = let e : m ≡ n = cc in (subst (λ x. P 0 x fate) (sym e) one, rest)
+
+pub lines_first : (lined : Fate → NodeFields → List ℕ) (ns : List NodeFields) (n : NodeFields) (fate : Fate) (fates : List Fate) → slice_get ns 0 ≡ Some n → lined fate n ++ fate_lines lined (drop 1 ns) fates ≡ fate_lines lined ns (fate ∷ fates)
+lines_first lined [] n fate fates at = let bad : None ≡ Some n = at in absurd (let no : ⊥ = cc in no)
+lines_first lined (m ∷ ns) n fate fates at = let e : m ≡ n = cc in ap (λ x. lined fate x ++ fate_lines lined ns fates) (sym e)
+
+pub behind_one : (ns : List NodeFields) (n : NodeFields) (fates : List Fate) → slice_get ns 0 ≡ Some n → length fates ≡ length (drop 1 ns) → suc (length fates) ≡ length ns
+behind_one [] n fates at all = let bad : None ≡ Some n = at in absurd (let no : ⊥ = cc in no)
+behind_one (m ∷ ns) n fates at all = ap suc all
+
+-- where all are asked for, nothing is passed over
+pub all_asked : (P : ℕ → NodeFields → Fate → Type 0) (k : ℕ) (ns : List NodeFields) (fates : List Fate) → Each (IsDone (codes "/" ∷ []) P) k ns fates → Each P k ns fates
+all_asked P k ns fates each = each_map _ P (λ j n fate done. done.asked refl) k ns fates each
+
+-- ---- in the folder of all trees
+
+-- a path in the folder of a tree is one in that of all trees
+in_tree : (folder number q : List ℕ) → IsIn (folder ++ codes "/" ++ number) q → IsUnder folder q
+in_tree folder number q is = (
+  number ++ names_text is.0,
+  is.1 ∙ append_assoc (folder ++ codes "/") number (names_text is.0),
+)
+
+module _ {F I M S W : Type 0} (known : Ghosts F I M S W) where
+  -- what is spared by one that is made in the folder of a tree
+  pub spares_tree : (folder number path : List ℕ) (old new : F) → path ≡ folder ++ codes "/" ++ number → SparesNodes known path old new → SparesLost known folder old new
+  spares_tree folder number path old new is spares = record {
+    stays = spares.stays;
+    outside = λ q out. spares.outside q (λ is_in. out (under q is_in));
+    crash = λ told. goes_wider known.moment known.may_leave known.left_since old new _ _ (spares.crash told) (λ d c goes. record {
+      outside = λ q out. goes.outside q (λ is_in. out (under q is_in));
+      there = goes.there;
+    });
+  }
+    where
+      under : (q : List ℕ) → IsIn path q → IsUnder folder q
+      under q is_in = in_tree folder number q (subst (λ p. IsIn p q) is is_in)
+
+  -- nothing was begun
+  pub spares_still : (folder : List ℕ) (files : F) → SparesNodes known folder files files
+  spares_still folder files = record { stays = λ told q bytes is. is; outside = λ q out. refl; crash = λ told. spares_nothing known.moment known.may_leave known.left_since files folder (known.holds files) }
+
+  -- one call after another
+  pub spares_nodes_on : (folder : List ℕ) (old mid new : F) → SparesNodes known folder old mid → SparesNodes known folder mid new → SparesNodes known folder old new
+  spares_nodes_on folder old mid new one two = record {
+    stays = λ told q bytes is. two.stays told q bytes (one.stays told q bytes is);
+    outside = λ q out. two.outside q out ∙ one.outside q out;
+    crash = λ told. spares_on known.moment known.may_leave known.left_since old mid new folder (known.holds old) (known.holds mid) (one.stays told) (one.crash told) (two.crash told);
+  }
+
+  -- what was put stays put
+  pub tree_still : (fails : Type 0) (table : Table) (report : Report) (fill : Fill) (short : Bool) (within folder : List ℕ) (mid new : F) → ((t : ℕ) (c : Disk) → t ≤ known.moment mid → known.may_leave mid c → known.left_since mid t c) → SparesLost known within mid new
+      → (k : ℕ) (n : NodeFields) (fate : Fate) → IsPut known.tells fails table report fill short folder (known.holds mid) (known.moment mid) (known.left_since mid) k n fate
+      → IsPut known.tells fails table report fill short folder (known.holds new) (known.moment new) (known.left_since new) k n fate
+  tree_still fails table report fill short within folder mid new counts_now step k n fate put = record {
+    done = put.done;
+    written = λ is told f root from. let w = put.written is told f root from in (w.0, w.1, safe_lost known within _ _ mid new counts_now told step w.2);
+    failed = put.failed;
+  }
+
+module _ {F I M S W : Type 0} (known : Ghosts F I M S W) (output : W → Stream) where
+  -- and so do trees
+  pub trees_still : (table : Table) (volume : Answer Found) (short : Bool) (folder : List ℕ) (mid new : F) → ((t : ℕ) (c : Disk) → t ≤ known.moment mid → known.may_leave mid c → known.left_since mid t c) → SparesLost known folder mid new
+      → (tree : LostTree) (fates : List Fate) → IsTreePut known output mid table volume short folder tree fates → IsTreePut known output new table volume short folder tree fates
+  trees_still table volume short folder mid new counts_now step tree fates put =
+      each_map _ _ (λ k n fate was. tree_still known (Fails known.faults ⊎ SinkFails output) table (tree_report table volume tree) Refuse short folder (tree_path folder (has_two volume) tree.folder) mid new counts_now step k n fate was) 0 _ fates put
+
+-- ---- tree after tree
+
+-- the next of the trees
+pub next_tree : (trees : List LostTree) (k : ℕ) (tree : LostTree) (rest : List LostTree) → tree ∷ rest ≡ drop k trees → (slice_get trees k ≡ Some tree) × (rest ≡ drop (k + 1) trees)
+next_tree [] zero tree rest e = absurd (let no : ⊥ = cc in no)
+next_tree [] (suc k) tree rest e = absurd (let no : ⊥ = cc in no)
+next_tree (t ∷ trees) zero tree rest e = (let same : tree ≡ t = cc in ap (λ x. Some x) (sym same), let same : rest ≡ trees = cc in same)
+next_tree (t ∷ trees) (suc k) tree rest e = let r = next_tree trees k tree rest e in (r.0, r.1 ∙ ap (λ n. drop n (t ∷ trees)) (let z : suc (k + 1) ≡ suc k + 1 = omega arith in z))
+
+pub each_tree_map : (P Q : LostTree → List Fate → Type 0) → ((tree : LostTree) (fates : List Fate) → P tree fates → Q tree fates) → (trees : List LostTree) (all : List (List Fate)) → EachTree P trees all → EachTree Q trees all
+each_tree_map P Q to trees [] each = tt
+each_tree_map P Q to [] (fates ∷ all) each = absurd each
+each_tree_map P Q to (tree ∷ trees) (fates ∷ all) each = (to tree fates each.0, each_tree_map P Q to trees all each.1)
+
+pub each_tree_more : (P : LostTree → List Fate → Type 0) (trees : List LostTree) (all : List (List Fate)) (tree : LostTree) (fates : List Fate) → slice_get trees (length all) ≡ Some tree → EachTree P trees all → P tree fates → EachTree P trees (all ++ fates ∷ [])
+each_tree_more P [] [] tree fates at each one = let bad : None ≡ Some tree = at in absurd (let no : ⊥ = cc in no)
+each_tree_more P (t ∷ trees) [] tree fates at each one = let e : t ≡ tree = cc in (subst (λ x. P x fates) (sym e) one, tt)
+each_tree_more P [] (f ∷ all) tree fates at each one = absurd each
+each_tree_more P (t ∷ trees) (f ∷ all) tree fates at each one = (each.0, each_tree_more P trees all tree fates at each.1 one)
+
+pub trees_lines_more : (lined : LostTree → List Fate → List ℕ) (trees : List LostTree) (all : List (List Fate)) (tree : LostTree) (fates : List Fate) → slice_get trees (length all) ≡ Some tree
+    → trees_lines lined trees all ++ lined tree fates ≡ trees_lines lined trees (all ++ fates ∷ [])
+trees_lines_more lined [] [] tree fates at = let bad : None ≡ Some tree = at in absurd (let no : ⊥ = cc in no)
+trees_lines_more lined (t ∷ trees) [] tree fates at = let e : t ≡ tree = cc in ap (λ x. lined x fates) (sym e) ∙ sym (append-nil (lined t fates))
+trees_lines_more lined [] (f ∷ all) tree fates at = let bad : None ≡ Some tree = at in absurd (let no : ⊥ = cc in no)
+trees_lines_more lined (t ∷ trees) (f ∷ all) tree fates at = append_assoc (lined t f) (trees_lines lined trees all) (lined tree fates) ∙ ap (λ l. lined t f ++ l) (trees_lines_more lined trees all tree fates at)
+
+-- the lines so far, and those of the next
+pub next_lines : (lined : LostTree → List Fate → List ℕ) (trees : List LostTree) (old mid new : Stream) (all : List (List Fate)) (k : ℕ) (tree : LostTree) (heard : Bool) (fates : List Fate) → length all ≡ k → slice_get trees k ≡ Some tree
+    → TellsLines true old mid (trees_lines lined trees all) → TellsLines heard mid new (lined tree fates) → TellsLines heard old new (trees_lines lined trees (all ++ fates ∷ []))
+next_lines lined trees old mid new all k tree heard fates count at lines more =
+    subst (λ t. TellsLines heard old new t) (trees_lines_more lined trees all tree fates (subst (λ j. slice_get trees j ≡ Some tree) (sym count) at)) (tells_more heard old mid new (trees_lines lined trees all) (lined tree fates) lines more)
+
+-- the trees so far, and the next, at a later moment
+pub trees_next : (P Q : LostTree → List Fate → Type 0) (trees : List LostTree) (all : List (List Fate)) (k : ℕ) (tree : LostTree) (fates : List Fate) → ((t : LostTree) (done : List Fate) → P t done → Q t done) → length all ≡ k → slice_get trees k ≡ Some tree
+    → EachTree (IsAllOf P) trees all → Q tree fates → length fates ≡ length tree.nodes.items → EachTree (IsAllOf Q) trees (all ++ fates ∷ [])
+trees_next P Q trees all k tree fates still count at each one whole =
+    each_tree_more (IsAllOf Q) trees all tree fates (subst (λ j. slice_get trees j ≡ Some tree) (sym count) at) (each_tree_map (IsAllOf P) (IsAllOf Q) (λ t done was. (still t done was.0, was.1)) trees all each) (one, whole)
+
+-- the same where the next is there in part
+pub trees_stop : (P Q : LostTree → List Fate → Type 0) (lined : LostTree → List Fate → List ℕ) (trees : List LostTree) (old mid new : Stream) (all : List (List Fate)) (k : ℕ) (tree : LostTree) (heard : Bool) (fates : List Fate) (refusal : Refusal)
+    → ((t : LostTree) (done : List Fate) → P t done → Q t done) → length all ≡ k → slice_get trees k ≡ Some tree → EachTree (IsAllOf P) trees all → TellsLines true old mid (trees_lines lined trees all)
+    → Q tree fates → TellsLines heard mid new (lined tree fates) → (refusal ≡ Memory alloc_error) ⊎ ((refusal ≡ Output) × (heard ≡ false)) → StopsAt Q lined trees old new refusal
+trees_stop P Q lined trees old mid new all k tree heard fates refusal still count at each lines one more why = record {
+  heard = heard;
+  fates = all ++ fates ∷ [];
+  each = each_tree_more Q trees all tree fates there (each_tree_map (IsAllOf P) Q (λ t done was. still t done was.0) trees all each) one;
+  lines = next_lines lined trees old mid new all k tree heard fates count at lines more;
+  why = why;
+}
+  where
+    there : slice_get trees (length all) ≡ Some tree
+    there = subst (λ j. slice_get trees j ≡ Some tree) (sym count) at
+
+pub good_trees_more : (all : List (List Fate)) (fates : List Fate) → (list_all all_good all && all_good fates) ≡ list_all all_good (all ++ fates ∷ [])
+good_trees_more [] fates = last (all_good fates)
+  where
+    last : (b : Bool) → (true && b) ≡ (b && true)
+    last true = refl
+    last false = refl
+good_trees_more (f ∷ all) fates = and (all_good f) (list_all all_good all) (all_good fates) (list_all all_good (all ++ fates ∷ [])) (good_trees_more all fates)
+  where
+    and : (a b c d : Bool) → (b && c) ≡ d → ((a && b) && c) ≡ (a && d)
+    and true b c d e = e
+    and false b c d e = refl

@@ -1,0 +1,5 @@
+use Rattle.udfs_extraction.proofs.LawLemmas.{lost_trees_are_the_volumes as law}
+use Rattle.udfs_extraction.proofs.laws.lost_trees_are_the_volumes.Goals as goal
+
+pub returns : goal.returns
+returns c = law

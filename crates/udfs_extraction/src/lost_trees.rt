@@ -1,0 +1,289 @@
+//! Lost folders, which are written to a folder of their own with what is in them, and lost files, each in the place of such a folder.
+
+ghost use Rattle.std.specs.Prelude.{◌≡◌, ◌<◌, ◌⊎◌, ⊤, Bool, true, false, List, Some, IfErr, IfOk, MatchOption, OnErr, alloc_error, length, slice_get, string_bytes};
+ghost use Rattle.udfs_lattice.specs.Tables.{state_of};
+ghost use Rattle.udfs_walk.specs.NodeFields.{NodeFields};
+ghost use Rattle.udfs_salvage.specs.Found.{volume_now};
+ghost use Rattle.udfs_salvage.specs.Listings.{listing_now};
+ghost use Rattle.udfs_extraction.specs.ByRequest.{MakesTrees};
+ghost use Rattle.udfs_extraction.specs.Extracting.{Each, IsPutAt, SparesNodes, TellsLines, all_good, fate_lines, node_line};
+ghost use Rattle.udfs_extraction.specs.LostFiles.{SparesLost};
+ghost use Rattle.udfs_extraction.specs.LostTrees.{AreLostOf, IsTreePut, PutsTrees, StopsAt, tree_lines, tree_path, tree_word};
+ghost use Rattle.udfs_extraction.specs.Refused.{TreesStop};
+
+use crate::fate_remarks::{Totals, remark_on_fate};
+use crate::node_files::{node_at, put_node};
+use crate::nodes::{Fate, is_all_good, put_nodes, still_good};
+use crate::places::first_place;
+use crate::short_names::push_icb_number;
+use crate::spare::Spare;
+use crate::telling::tell;
+use crate::times::set_written_time;
+use crate::unnamed::make_if_open;
+use std::alloc::{AllocError, Global};
+use udfs_common::files::Files;
+use udfs_common::known::Known;
+use udfs_common::refusal::Refusal;
+use udfs_lost::LostTree;
+use udfs_reading::Sink;
+use udfs_salvage::{Fill, Listing, has_two_partitions};
+use udfs_tag::LbAddr;
+use udfs_times::Times;
+use udfs_words::request::ExtractRequest;
+
+/// What stands before the paths of a tree in what is printed: `lost:`, and the number of its folder's information control block.
+fn tree_word(alloc: Global, two: bool, folder: LbAddr) -> Result<String, AllocError>
+    ensures { IfOk result (λ word. string_bytes word ≡ tree_word two folder) }
+{
+    let mut word = String::from_str(alloc, "lost:")?;
+    push_icb_number(&mut word, two, folder)?;
+    Ok(word)
+}
+
+/// Where a tree is written: in a folder, by the number of its own folder's information control block.
+fn tree_path(alloc: Global, folder: &str, two: bool, icb: LbAddr) -> Result<String, AllocError>
+    ensures { IfOk result (λ path. string_bytes path ≡ tree_path folder.now two icb) }
+{
+    let mut path = String::from_str(alloc, folder)?;
+    path.push_str("/")?;
+    push_icb_number(&mut path, two, icb)?;
+    Ok(path)
+}
+
+/// What became of the first node of a tree.
+#[derive(Clone, Copy)]
+struct First {
+    /// What became of it.
+    fate: Fate,
+    /// Whether the output took its line.
+    heard: bool,
+}
+
+/// Makes the folder of a tree, or writes the lost file that is all of it.
+fn put_first<F: Files, O: Sink>(
+    alloc: Global,
+    listing: &Listing<'_>,
+    word: &str,
+    short: bool,
+    folder: &str,
+    times: &Times,
+    files: &mut F,
+    out: &mut O,
+) -> Result<First, AllocError>
+    requires { 0 < length listing.now.nodes.items }
+    ensures put { IfOk result (λ first. (n : NodeFields) → slice_get (listing_now listing.now).nodes 0 ≡ Some n →
+        IsPutAt F.Files F.Output.stream files.new listing.now.table.now (listing_now listing.now) Fill.Refuse short folder.now 0 n first.fate ×
+        TellsLines first.heard (O.stream out.old) (O.stream out.new) (node_line word.now short (listing_now listing.now) first.fate n)) }
+    ensures memory { OnErr result (out.new ≡ out.old) }
+    ensures spares { SparesNodes F.Files folder.now files.old files.new }
+{
+    let spare = Spare::new();
+    let target = first_place(alloc, listing, short)?;
+    let place = target.text.as_str();
+    let done = put_node(
+        alloc,
+        listing,
+        0,
+        Fill::Refuse,
+        false,
+        folder,
+        place,
+        &spare,
+        files,
+    )?;
+    let node = node_at(listing, 0);
+    let heard = tell(alloc, true, done.fate, word, &node.path, &target.own, out)?;
+    let mut totals = Totals::new();
+    remark_on_fate(alloc, listing, word, node, done.fate, &mut totals, files);
+    set_written_time(alloc, word, node, done.fate, folder, place, times, files);
+    Ok(First {
+        fate: done.fate,
+        heard,
+    })
+}
+
+/// Makes the folder of a tree, whose nodes are those of this listing, and what is in it; or writes the lost file that is all of it. Where the output fails, no more
+/// than the rest of the folder is made.
+fn put_tree<F: Files, O: Sink>(
+    alloc: Global,
+    listing: &Listing<'_>,
+    word: &str,
+    short: bool,
+    folder: &str,
+    times: &Times,
+    files: &mut F,
+    out: &mut O,
+) -> Result<bool, Refusal>
+    ensures put { (heard : Bool) × (fates : List Fate) × Each (IsPutAt F.Files F.Output.stream files.new listing.now.table.now (listing_now listing.now) Fill.Refuse short folder.now) 0 (listing_now listing.now).nodes fates ×
+        TellsLines heard (O.stream out.old) (O.stream out.new) (fate_lines (node_line word.now short (listing_now listing.now)) (listing_now listing.now).nodes fates) ×
+        IfOk result (λ good. (length fates ≡ length listing.now.nodes.items) × (heard ≡ true) × (good ≡ all_good fates)) ×
+        IfErr result (λ refusal. (refusal ≡ Refusal.Memory alloc_error) ⊎ ((refusal ≡ Refusal.Output) × (heard ≡ false))) }
+    ensures spares { SparesNodes F.Files folder.now files.old files.new }
+{
+    if listing.nodes.is_empty() {
+        return Ok(true);
+    }
+    let first = match put_first(alloc, listing, word, short, folder, times, files, out) {
+        Ok(first) => first,
+        Err(AllocError) => return Err(Refusal::Memory(AllocError)),
+    };
+    if !first.heard {
+        return Err(Refusal::Output);
+    }
+    let told = match put_nodes(
+        alloc,
+        listing,
+        word,
+        &["/"],
+        Fill::Refuse,
+        short,
+        false,
+        folder,
+        times,
+        files,
+        out,
+    ) {
+        Ok(told) => told,
+        Err(AllocError) => return Err(Refusal::Memory(AllocError)),
+    };
+    if !told.heard {
+        return Err(Refusal::Output);
+    }
+    Ok(still_good(told.good, first.fate))
+}
+
+/// Makes a tree in the folder for lost folders.
+fn put_lost_tree<F: Files, O: Sink>(
+    alloc: Global,
+    listing: &Listing<'_>,
+    icb: LbAddr,
+    short: bool,
+    folder: &str,
+    times: &Times,
+    files: &mut F,
+    out: &mut O,
+) -> Result<bool, Refusal>
+    ensures put { (heard : Bool) × (fates : List Fate) × IsTreePut F.Files F.Output.stream files.new listing.now.table.now (volume_now listing.now.volume) short folder.now (record { folder = icb; nodes = listing.now.nodes }) fates ×
+        TellsLines heard (O.stream out.old) (O.stream out.new) (tree_lines listing.now.table.now (volume_now listing.now.volume) short (record { folder = icb; nodes = listing.now.nodes }) fates) ×
+        IfOk result (λ good. (length fates ≡ length listing.now.nodes.items) × (heard ≡ true) × (good ≡ all_good fates)) ×
+        IfErr result (λ refusal. (refusal ≡ Refusal.Memory alloc_error) ⊎ ((refusal ≡ Refusal.Output) × (heard ≡ false))) }
+    ensures spares { SparesLost F.Files folder.now files.old files.new }
+{
+    let two = has_two_partitions(&listing.volume);
+    let word = match tree_word(alloc, two, icb) {
+        Ok(word) => word,
+        Err(AllocError) => return Err(Refusal::Memory(AllocError)),
+    };
+    let path = match tree_path(alloc, folder, two, icb) {
+        Ok(path) => path,
+        Err(AllocError) => return Err(Refusal::Memory(AllocError)),
+    };
+    match put_tree(
+        alloc,
+        listing,
+        word.as_str(),
+        short,
+        path.as_str(),
+        times,
+        files,
+        out,
+    ) {
+        Ok(good) => Ok(good),
+        Err(refusal) => Err(refusal),
+    }
+}
+
+/// Makes a tree in the folder for lost folders; then the listing has its nodes.
+fn put_next<F: Files, O: Sink>(
+    alloc: Global,
+    listing: &mut Listing<'_>,
+    tree: LostTree,
+    short: bool,
+    folder: &str,
+    times: &Times,
+    files: &mut F,
+    out: &mut O,
+) -> Result<bool, Refusal>
+    ensures put { (heard : Bool) × (fates : List Fate) × IsTreePut F.Files F.Output.stream files.new listing.old.table.now (volume_now listing.old.volume) short folder.now tree fates ×
+        TellsLines heard (O.stream out.old) (O.stream out.new) (tree_lines listing.old.table.now (volume_now listing.old.volume) short tree fates) ×
+        IfOk result (λ good. (length fates ≡ length tree.nodes.items) × (heard ≡ true) × (good ≡ all_good fates)) ×
+        IfErr result (λ refusal. (refusal ≡ Refusal.Memory alloc_error) ⊎ ((refusal ≡ Refusal.Output) × (heard ≡ false))) }
+    ensures same { (listing.new.volume ≡ listing.old.volume) × (listing.new.table ≡ listing.old.table) }
+    ensures spares { SparesLost F.Files folder.now files.old files.new }
+{
+    let LostTree { folder: icb, nodes } = tree;
+    listing.nodes = nodes;
+    match put_lost_tree(alloc, listing, icb, short, folder, times, files, out) {
+        Ok(good) => Ok(good),
+        Err(refusal) => Err(refusal),
+    }
+}
+
+/// Makes all trees in the folder for lost folders, and returns whether nothing failed.
+fn put_trees<F: Files, O: Sink>(
+    alloc: Global,
+    listing: Listing<'_>,
+    trees: Vec<LostTree>,
+    short: bool,
+    folder: &str,
+    times: &Times,
+    files: &mut F,
+    out: &mut O,
+) -> Result<bool, Refusal>
+    ensures put { IfOk result (PutsTrees (IsTreePut F.Files F.Output.stream files.new listing.entry.table.now (volume_now listing.entry.volume) short folder.now)
+        (tree_lines listing.entry.table.now (volume_now listing.entry.volume) short) trees.items (O.stream out.old) (O.stream out.new)) }
+    ensures why { IfErr result (StopsAt (IsTreePut F.Files F.Output.stream files.new listing.entry.table.now (volume_now listing.entry.volume) short folder.now)
+        (tree_lines listing.entry.table.now (volume_now listing.entry.volume) short) trees.items (O.stream out.old) (O.stream out.new)) }
+    ensures spares { SparesLost F.Files folder.now files.old files.new }
+{
+    let mut current = listing;
+    let mut good = true;
+    for tree in trees {
+        match put_next(alloc, &mut current, tree, short, folder, times, files, out) {
+            Ok(put) => good = is_all_good(good, put),
+            Err(refusal) => return Err(refusal),
+        }
+    }
+    Ok(good)
+}
+
+/// Writes lost folders with what is in them, and lost files, into a folder of their own, where they are asked for: each at the number of its block, and names below
+/// it as `extract` writes those of the volume. `trees` are those that [`found_trees`](crate::lost_found::found_trees) found. Returns whether nothing failed.
+///
+/// # Errors
+///
+/// `LostFolder` where the folder for them could not be made; `Output` where the output failed, and `Memory` where memory ran out: what was reported by then is made.
+pub fn add_trees<F: Files, O: Sink>(
+    alloc: Global,
+    listing: Listing<'_>,
+    trees: Vec<LostTree>,
+    request: &ExtractRequest<'_>,
+    times: &Times,
+    files: &mut F,
+    out: &mut O,
+) -> Result<bool, Refusal>
+    requires { MatchOption request.now.trees ⊤ (λ folder. AreLostOf request.now.deleted (state_of listing.table.now) (volume_now listing.volume) (listing_now listing).unnamed trees.items) }
+    ensures made { IfOk result (MakesTrees ⟦<F as Known>⟧.reach O.stream request.now files.old files.new out.old out.new listing.entry.table.now (listing_now listing.entry)) }
+    ensures why { IfErr result (λ refusal. MatchOption request.now.trees ⊥ (λ folder. TreesStop F.Files F.Output.stream request.now.deleted request.now.short_names folder.now files.new (O.stream out.old) (O.stream out.new) listing.entry.table.now (listing_now listing.entry) refusal)) }
+    ensures spares { MatchOption request.now.trees (files.new ≡ files.old) (λ folder. SparesLost F.Files folder.now files.old files.new) }
+{
+    let Some(folder) = request.trees else {
+        return Ok(true);
+    };
+    if !make_if_open(&listing.volume, folder, files) {
+        return Err(Refusal::LostFolder);
+    }
+    match put_trees(
+        alloc,
+        listing,
+        trees,
+        request.short_names,
+        folder,
+        times,
+        files,
+        out,
+    ) {
+        Ok(good) => Ok(good),
+        Err(refusal) => Err(refusal),
+    }
+}

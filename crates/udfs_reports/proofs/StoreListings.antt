@@ -1,0 +1,58 @@
+-- What a store of blocks says, it says of the table that it holds.
+use Rattle.std.proofs.Common.{◌≡◌, ap, ℕ, List, [], ◌∷◌, inl, inr, refl, subst, sym}
+use Rattle.udfs_lattice.specs.Tables.{Table, state_of}
+use Rattle.udfs_lattice.specs.Volumes.{Blocks}
+use Rattle.udfs_volume.specs.declared.profiles.Profile.{Profile}
+use Rattle.udfs_walk.specs.NodeFields.{NodeFields}
+use Rattle.udfs_salvage.proofs.InLineLists.{rereads_for_all}
+use Rattle.udfs_salvage.proofs.PublicLaws.{each_reread_for_suffices}
+use Rattle.udfs_salvage.proofs.StoreAnswers.{of_refusal}
+use Rattle.udfs_salvage.specs.Headline.{HeadlineBy}
+use Rattle.udfs_salvage.specs.InLine.{nodes_for}
+use Rattle.udfs_salvage.specs.Reports.{IsReportBy, Report}
+use Rattle.udfs_salvage.specs.Stores.{IfTold, IsRefused, IsStoreRefused}
+use Rattle.udfs_salvage.specs.declared.errors.SalvageError.{SalvageError}
+use Rattle.udfs_salvage.specs.declared.errors.SalvageError.TheVariants as errors
+use Rattle.udfs_salvage.specs.declared.errors.StoreError.{StoreError}
+use Rattle.udfs_salvage.specs.declared.errors.StoreError.TheVariants.{Salvage, Unread}
+use Rattle.udfs_remarks.specs.NoReports.{IsUntold, salvage_refusal_of}
+use Rattle.udfs_reports.specs.Paths.{IsListingFor}
+
+-- where it says of each block what the table does, its states are the table's
+pub states_same : (blocks : Blocks) (t : Table) → ((n : ℕ) → state_of t n ≡ blocks n) → blocks ≡ state_of t
+states_same blocks t held = λ i n. sym (held n) i
+
+-- it has no report: nor has the table
+refused_table : (profile : Profile) (t : Table) (last : ℕ) (e : SalvageError) → IsRefused profile (state_of t) last e → IsUntold profile last (salvage_refusal_of e) t
+refused_table profile t last errors.LastRange h = inr (record { why = errors.LastRange; because = h; no_lawful = (of_refusal {X = ℕ} profile (state_of t) last errors.LastRange h).of_no_lawful; told = refl })
+refused_table profile t last (errors.PastEnd n) h = inr (record { why = errors.PastEnd n; because = h; no_lawful = (of_refusal {X = ℕ} profile (state_of t) last (errors.PastEnd n) h).of_no_lawful; told = refl })
+refused_table profile t last errors.TooManyPaths h = inr (record { why = errors.TooManyPaths; because = h; no_lawful = (of_refusal {X = ℕ} profile (state_of t) last errors.TooManyPaths h).of_no_lawful; told = refl })
+refused_table profile t last errors.OutOfMemory h = inl refl
+
+by_error : (profile : Profile) (t : Table) (last : ℕ) (why : StoreError) → IsStoreRefused profile (state_of t) last why → IfTold (λ e. IsUntold profile last (salvage_refusal_of e) t) why
+by_error profile t last (Salvage e) h = refused_table profile t last e h
+by_error profile t last Unread h = tt
+
+pub untold_by : (profile : Profile) (blocks : Blocks) (t : Table) (last : ℕ) (why : StoreError) → blocks ≡ state_of t → IsStoreRefused profile blocks last why → IfTold (λ e. IsUntold profile last (salvage_refusal_of e) t) why
+untold_by profile blocks t last why same h = by_error profile t last why (subst (λ (bs : Blocks). IsStoreRefused profile bs last why) same h)
+
+-- without paths no node is left out
+all_for : (report : Report) (ns : List NodeFields) → nodes_for [] (record report { nodes = ns }) ≡ ns
+all_for report [] = refl
+all_for report (n ∷ ns) = ap (λ (ms : List NodeFields). n ∷ ms) (all_for report ns)
+
+-- its nodes are those of the table's report
+pub listing_for_all : (profile : Profile) (blocks : Blocks) (t : Table) (last : ℕ) (report : Report) → blocks ≡ state_of t → HeadlineBy profile blocks last report → IsReportBy profile blocks last report → IsListingFor [] profile last t report
+listing_for_all profile blocks t last report same headline is =
+    let by = subst (λ (bs : Blocks). IsReportBy profile bs last report) same is in
+    record {
+      report = report;
+      is_report = record {
+        headline = subst (λ (bs : Blocks). HeadlineBy profile bs last report) same headline;
+        may_be = λ k word at. absurd (let no : ⊥ = cc in no);
+        suffices = each_reread_for_suffices [] profile (state_of t) last report by;
+      };
+      volume = refl;
+      nodes = sym (all_for report report.nodes);
+      blocks = sym (rereads_for_all profile (state_of t) last report by);
+    }

@@ -1,0 +1,47 @@
+-- What holds of the join of a volume's inputs, where it is known what each file holds that is read at positions.
+use Rattle.std.proofs.Common.{◌≡◌, ℕ, Bool, List, [], Err, Ok, Result, inr, subst, sym}
+use Rattle.std.specs.Prelude.{IfErr, IfOk}
+use Rattle.udfs_lattice.specs.Records.{join_all}
+use Rattle.udfs_lattice.specs.Tables.{IsTable, Table}
+use Rattle.udfs_reading.specs.Device.{Stream}
+use Rattle.udfs_words.specs.Requests.{texts}
+use Rattle.udfs_words.specs.declared.request.RereadRequest.{RereadRequest}
+use Rattle.udfs_words.specs.declared.request.VolumeSource.{VolumeSource}
+use Rattle.udfs_common.specs.Reach.{Reach}
+use Rattle.udfs_common.specs.Volumes.{OfToldVolume, OfVolume}
+use Rattle.udfs_common.specs.declared.refusal.Refusal.{Refusal}
+use Rattle.udfs_reports.specs.Rereading.{IsRefusedNumbers, PrintsNoNumbers, PrintsNumbers, TellsNumbers}
+
+-- what follows of it holds too
+told_by : {F I M S W : Type 0} {reach : Reach F I M S W} {at : F} {volume : VolumeSource} {Holds : ℕ → Table → Type 0} (Gives : ℕ → Table → Type 0) → OfToldVolume reach at volume Holds → (reach.stored_told → (last : ℕ) (table : Table) → Holds last table → Gives last table) → OfToldVolume reach at volume Gives
+told_by Gives v gives = record { last = v.last; ends = v.ends; told = λ tells. let t = v.told tells in (t.0, (t.1.0, t.1.1, gives tells v.last (join_all t.1.0) t.1.2)) }
+
+-- and so does what holds of it in any case
+pub told_of : {F I M S W : Type 0} {reach : Reach F I M S W} {at : F} {volume : VolumeSource} {Holds : ℕ → Table → Type 0} → OfVolume reach at volume Holds → OfToldVolume reach at volume Holds
+told_of v = record { last = v.last; ends = v.ends; told = λ tells. (v.one_disc, v.join) }
+
+-- what holds of each table that may have been taken holds of the volume's
+pub of_taken : {F I M S W : Type 0} {reach : Reach F I M S W} {at : F} {volume : VolumeSource} (n : ℕ) (Told : Type 0) (Took : Table → Type 0) (Gives : ℕ → Table → Type 0) → (reach.stored_told → Told) →
+    OfToldVolume reach at volume (λ last table. (last ≡ n) × IsTable table × Took table) → (Told → (t : Table) → IsTable t → Took t → Gives n t) → OfToldVolume reach at volume Gives
+of_taken n Told Took Gives told v holds = told_by Gives v (λ tells last table is. subst (λ (k : ℕ). Gives k table) (sym is.0) (holds (told tells) table is.1 is.2))
+
+-- the numbers of the table that was taken are those of the volume
+pub numbers_told : {F I M S W : Type 0} (reach : Reach F I M S W) (at : F) (r : RereadRequest) (old new : Stream) (whole : Bool) (n : ℕ) (Told : Type 0) (Took : Table → Type 0) → texts r.only.items ≡ [] → (reach.stored_told → Told) →
+    OfToldVolume reach at r.volume (λ last table. (last ≡ n) × IsTable table × Took table) → (Told → (t : Table) → IsTable t → Took t → TellsNumbers [] r.volume.profile n old new whole t) → PrintsNumbers reach at r old new whole
+numbers_told reach at r old new whole n Told Took none told v numbers = of_taken n Told Took (λ last. TellsNumbers (texts r.only.items) r.volume.profile last old new whole) told v
+    (λ tells table fits took. subst (λ (only : List (List ℕ)). TellsNumbers only r.volume.profile n old new whole table) (sym none) (numbers tells table fits took))
+
+-- nor were they printed
+pub numbers_untold : {F I M S W : Type 0} (reach : Reach F I M S W) (at : F) (r : RereadRequest) (old new : Stream) (refusal : Refusal) (n : ℕ) (Told : Type 0) (Took : Table → Type 0) → texts r.only.items ≡ [] → (reach.stored_told → Told) →
+    OfToldVolume reach at r.volume (λ last table. (last ≡ n) × IsTable table × Took table) → (Told → (t : Table) → IsTable t → Took t → IsRefusedNumbers [] r.volume.profile n old new refusal t) → PrintsNoNumbers reach at r old new refusal
+numbers_untold reach at r old new refusal n Told Took none told v numbers = inr (of_taken n Told Took (λ last. IsRefusedNumbers (texts r.only.items) r.volume.profile last old new refusal) told v
+    (λ tells table fits took. subst (λ (only : List (List ℕ)). IsRefusedNumbers only r.volume.profile n old new refusal table) (sym none) (numbers tells table fits took)))
+
+-- of whichever was returned
+pub if_ok_by : {A E : Type 0} {P Q : A → Type 0} (r : Result A E) → ((a : A) → P a → Q a) → IfOk r P → IfOk r Q
+if_ok_by (Ok a) by h = by a h
+if_ok_by (Err e) by h = tt
+
+pub if_err_by : {A E : Type 0} {P Q : E → Type 0} (r : Result A E) → ((e : E) → P e → Q e) → IfErr r P → IfErr r Q
+if_err_by (Ok a) by h = tt
+if_err_by (Err e) by h = by e h
