@@ -48,7 +48,26 @@ mod words;
 use std::alloc::Global;
 use std::process::Abort;
 use std::test::Fail;
-use test_runs::faults;
+use test_runs::{Program, Taker, faults};
+use udfs_commands::run;
+use udfs_memory::Memory;
+use udfs_reading::Writer;
+
+/// The program's commands.
+pub struct Commands;
+
+impl Program for Commands {
+    fn run(
+        &self,
+        alloc: Global,
+        words: &[String],
+        memory: &mut Memory,
+        out: &mut Writer<Taker>,
+        err: &mut Writer<Taker>,
+    ) -> u8 {
+        run(alloc, words, memory, out, err)
+    }
+}
 
 /// `told` is empty: all is as a script says.
 fn assert_nothing(rt: &impl Abort, told: String) {
@@ -62,6 +81,6 @@ pub fn assert_case(rt: &impl Abort, is_so: bool, text: &str) {
 
 /// All is as a script says.
 pub fn check(rt: &impl Abort, alloc: Global, script: &'static str) -> Result<(), Fail> {
-    assert_nothing(rt, faults(alloc, script)?);
+    assert_nothing(rt, faults(alloc, &Commands, script)?);
     Ok(())
 }

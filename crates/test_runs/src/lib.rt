@@ -1,5 +1,5 @@
 // SPDX-License-Identifier: MIT OR Apache-2.0
-//! Runs of the program over files in memory, whose devices can be slow or fail, as scripts say. For tests alone.
+//! Runs of a program over files in memory, whose devices can be slow or fail, as scripts say. For tests alone.
 #![tactic(auto)]
 
 mod contents;
@@ -14,7 +14,7 @@ mod texts;
 mod trial;
 mod wants;
 
-pub use runs::words_refused;
+pub use runs::{Program, Taker};
 pub use scripts::faults;
 pub use wants::{
     files_want_memory, merge_wants_memory, page_wants_memory, short_names_want_memory,

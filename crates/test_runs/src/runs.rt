@@ -5,13 +5,25 @@ use std::cell::RefCell;
 use std::io;
 use std::io::Write;
 use std::rc::Rc;
-use udfs_commands::{refuse_words, run};
 use udfs_lattice::BlockTable;
 use udfs_memory::{Device, Memory, SOUND};
 use udfs_reading::{Writer, write_table};
 
 /// What was printed, which the test and the run share.
 pub type Shared = Rc<RefCell<Vec<u8>>>;
+
+/// What is run: the program, with its name and its arguments.
+pub trait Program {
+    /// Runs it over files in memory, and returns its status.
+    fn run(
+        &self,
+        alloc: Global,
+        words: &[String],
+        memory: &mut Memory,
+        out: &mut Writer<Taker>,
+        err: &mut Writer<Taker>,
+    ) -> u8;
+}
 
 /// What a run prints to.
 #[derive(Drop)]
@@ -73,7 +85,12 @@ impl Outcome {
 }
 
 /// Runs the program with these arguments, separated by spaces, after its name.
-pub fn ran(alloc: Global, memory: &mut Memory, words: &str) -> Result<Outcome, AllocError> {
+pub fn ran<P: Program>(
+    alloc: Global,
+    program: &P,
+    memory: &mut Memory,
+    words: &str,
+) -> Result<Outcome, AllocError> {
     let mut list: Vec<String> = Vec::new(alloc);
     list.push(String::from_str(alloc, "udfsalvage")?)?;
     for word in words.split(' ').filter(|word| !word.is_empty()) {
@@ -82,7 +99,7 @@ pub fn ran(alloc: Global, memory: &mut Memory, words: &str) -> Result<Outcome, A
     let out = Rc::new(alloc, RefCell::new(Vec::with_capacity(alloc, 4096)?))?;
     let err = Rc::new(alloc, RefCell::new(Vec::with_capacity(alloc, 4096)?))?;
     let terminal = memory.terminal;
-    let status = run(
+    let status = program.run(
         alloc,
         list.as_slice(),
         memory,
@@ -154,13 +171,4 @@ pub fn store_passes(alloc: Global, memory: &mut Memory) -> Result<(), AllocError
     memory.store("a.rd", reading(alloc, &[(300, 0x61)])?.as_slice())?;
     memory.store("b.rd", reading(alloc, &[(301, 0x62)])?.as_slice())?;
     memory.store("c.rd", reading(alloc, &[(300, 0x63)])?.as_slice())
-}
-
-/// The status, and what is printed, where the arguments were not available: memory ran out, or one of them is not text.
-pub fn words_refused(alloc: Global, wants_memory: bool) -> Result<(u8, String), AllocError> {
-    let mut err = Writer::new(Vec::new(alloc));
-    let status = refuse_words(wants_memory, &mut err);
-    let bytes = err.into_inner();
-    let text = std::str::from_utf8(bytes.as_slice()).unwrap_or("no text");
-    Ok((status, String::from_str(alloc, text)?))
 }

@@ -6,13 +6,14 @@
 //! `#` is a comment. A paragraph that begins with `* NAME` is a list, and a line `* NAME` elsewhere is replaced by the lines of the list.
 
 use crate::given::give;
+use crate::runs::Program;
 use crate::seen::see;
 use crate::texts::{first_word, number_of};
 use crate::trial::Trial;
 use std::alloc::{AllocError, Global};
 
-/// What is not as a script says: nothing where all is.
-pub fn faults(alloc: Global, script: &str) -> Result<String, AllocError> {
+/// What is not as a script says of this program: nothing where all is.
+pub fn faults<P: Program>(alloc: Global, program: &P, script: &str) -> Result<String, AllocError> {
     let script = expanded(alloc, script)?;
     let mut told = String::new(alloc);
     let mut kept = String::new(alloc);
@@ -24,7 +25,14 @@ pub fn faults(alloc: Global, script: &str) -> Result<String, AllocError> {
             head = String::from_str(alloc, paragraph)?;
             has_case = false;
         } else {
-            try_case(alloc, &mut told, &mut kept, head.as_str(), paragraph)?;
+            try_case(
+                alloc,
+                program,
+                &mut told,
+                &mut kept,
+                head.as_str(),
+                paragraph,
+            )?;
             has_case = true;
         }
     }
@@ -79,8 +87,9 @@ fn tell_if(told: &mut String, is_so: bool, head: &str, text: &str) -> Result<(),
 
 /// Tries a case, which is for each number of a range where it begins with `each FROM TO`, and for some of them where it begins with `some
 /// FROM TO`; `«n»` is the number then. It ends with the first number for which something is not so.
-fn try_case(
+fn try_case<P: Program>(
     alloc: Global,
+    program: &P,
     told: &mut String,
     kept: &mut String,
     head: &str,
@@ -92,13 +101,13 @@ fn try_case(
     };
     let (word, range) = first_word(line);
     if word != "each" && word != "some" {
-        return try_lines(alloc, told, kept, head, case, 0);
+        return try_lines(alloc, program, told, kept, head, case, 0);
     }
     let length = told.len();
     let (from, to) = first_word(range);
     for number in number_of(from)?..number_of(to)? {
         if told.len() == length && (word == "each" || is_tried(number)) {
-            try_lines(alloc, told, kept, head, rest, number)?;
+            try_lines(alloc, program, told, kept, head, rest, number)?;
         }
     }
     Ok(())
@@ -111,8 +120,9 @@ fn is_tried(number: usize) -> bool {
 }
 
 /// Tries the lines of a case, on files of its own.
-fn try_lines(
+fn try_lines<P: Program>(
     alloc: Global,
+    program: &P,
     told: &mut String,
     kept: &mut String,
     head: &str,
@@ -125,15 +135,15 @@ fn try_lines(
     trial.name("n", digits.as_str())?;
     for line in head.lines() {
         if !line.starts_with("= ") && !line.starts_with("then ") {
-            try_line(alloc, told, kept, &mut trial, line)?;
+            try_line(alloc, program, told, kept, &mut trial, line)?;
         }
     }
     for line in case.lines() {
-        try_line(alloc, told, kept, &mut trial, line)?;
+        try_line(alloc, program, told, kept, &mut trial, line)?;
     }
     for line in head.lines() {
         if let Some(seen) = line.strip_prefix("then ") {
-            try_line(alloc, told, kept, &mut trial, seen)?;
+            try_line(alloc, program, told, kept, &mut trial, seen)?;
         }
     }
     let is_none = trial.ran.is_none();
@@ -151,14 +161,15 @@ fn first_line(text: &str) -> &str {
 }
 
 /// Does what a line says, or reports that it is not so, or not understood, with the number of the case and the outcome of the last run.
-fn try_line(
+fn try_line<P: Program>(
     alloc: Global,
+    program: &P,
     told: &mut String,
     kept: &mut String,
     trial: &mut Trial,
     line: &str,
 ) -> Result<(), AllocError> {
-    if line.starts_with('#') || is_met(trial, kept, line).unwrap_or(false) {
+    if line.starts_with('#') || is_met(program, trial, kept, line).unwrap_or(false) {
         return Ok(());
     }
     let number = trial.text("«n»")?;
@@ -171,10 +182,15 @@ fn try_line(
 
 /// Does what a line says, or returns whether it is so. `$ WORDS` runs the program with these arguments; `keep` keeps the status and standard
 /// output, and `as-kept` says that they are those. `any LINES | LINES` says that all lines of one choice are so, which ` & ` parts.
-fn is_met(trial: &mut Trial, kept: &mut String, line: &str) -> Result<bool, AllocError> {
+fn is_met<P: Program>(
+    program: &P,
+    trial: &mut Trial,
+    kept: &mut String,
+    line: &str,
+) -> Result<bool, AllocError> {
     let (word, rest) = first_word(line);
     match word {
-        "$" => trial.run(rest)?,
+        "$" => trial.run(program, rest)?,
         "keep" => *kept = trial.printed()?,
         "as-kept" => return Ok(kept.as_str() == trial.printed()?.as_str()),
         "any" => return is_any(trial, rest),

@@ -2,7 +2,7 @@
 
 use crate::discs::volume;
 use crate::names::names_of;
-use crate::runs::{Outcome, ran, store_table};
+use crate::runs::{Outcome, Program, ran, store_table};
 use crate::texts::{Name, block_of, blocks_of, byte_of, bytes_of, first_word, short_of, text_of};
 use std::alloc::{AllocError, Global};
 use udfs_lattice::BlockTable;
@@ -59,14 +59,14 @@ impl Trial {
     }
 
     /// Stores the table's file if there is a table, and runs the program with these arguments, separated by spaces.
-    pub fn run(&mut self, words: &str) -> Result<(), AllocError> {
+    pub fn run<P: Program>(&mut self, program: &P, words: &str) -> Result<(), AllocError> {
         if let Some(table) = self.table.take() {
             store_table(self.alloc, &mut self.memory, &table)?;
         }
         self.calls = self.memory.calls();
         self.files = self.memory.count();
         let words = self.text(words)?;
-        self.ran = Some(ran(self.alloc, &mut self.memory, words.as_str())?);
+        self.ran = Some(ran(self.alloc, program, &mut self.memory, words.as_str())?);
         Ok(())
     }
 

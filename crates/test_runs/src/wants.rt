@@ -2,7 +2,7 @@
 //! memory and the preparation need memory too: where that runs out, the call returns an error.
 
 use crate::names::names_of;
-use crate::runs::{Outcome, ran, reading, store_table, table};
+use crate::runs::{Outcome, Program, ran, reading, store_table, table};
 use std::alloc::{AllocError, Global};
 use udfs_lattice::{BlockTable, TableError};
 use udfs_memory::Memory;
@@ -41,8 +41,13 @@ fn with_table(alloc: Global, table: Result<BlockTable, TableError>) -> Result<Me
 }
 
 /// Runs the program with the arguments, and returns an error where the files in memory ran out of memory.
-fn ran_with_memory(alloc: Global, memory: &mut Memory, words: &str) -> Result<Outcome, AllocError> {
-    let ran = ran(alloc, memory, words)?;
+fn ran_with_memory<P: Program>(
+    alloc: Global,
+    program: &P,
+    memory: &mut Memory,
+    words: &str,
+) -> Result<Outcome, AllocError> {
+    let ran = ran(alloc, program, memory, words)?;
     if memory.wanted_memory() {
         return Err(AllocError);
     }
@@ -68,13 +73,13 @@ fn has_where_told(ran: &Outcome, line: &str, memory: &Memory, path: &str, bytes:
 const OLD_TABLE: &[u8] = b"UDFTABL1\0\x08\0\0\0\0\0\0";
 
 /// A merge of a reading of two records over an old table. It is done, or fails with the line that memory ran out, and the old table stays.
-pub fn merge_wants_memory(alloc: Global) -> Result<bool, AllocError> {
+pub fn merge_wants_memory<P: Program>(alloc: Global, program: &P) -> Result<bool, AllocError> {
     let whole = table(alloc, &[(300, 0x61), (301, 0x62)])?;
     let mut memory = Memory::new(alloc);
     let two = reading(alloc, &[(300, 0x61), (301, 0x62)])?;
     memory.store("two.rd", two.as_slice())?;
     memory.store("t.tab", OLD_TABLE)?;
-    let ran = ran_with_memory(alloc, &mut memory, "merge --v1 --out t.tab two.rd")?;
+    let ran = ran_with_memory(alloc, program, &mut memory, "merge --v1 --out t.tab two.rd")?;
     if ran.status == 0 {
         return Ok(ran.is_silent() && memory.has("t.tab", whole.as_slice()));
     }
@@ -86,12 +91,12 @@ pub fn merge_wants_memory(alloc: Global) -> Result<bool, AllocError> {
 const OLD_PAGE: &[u8] = b"<!DOCTYPE html>\n<!-- a page of udfsalvage -->\nold";
 
 /// The page of the volume with one map and a torn file, over an old one. It is put, or the run fails with the line that memory ran out, and the old one stays.
-pub fn page_wants_memory(alloc: Global) -> Result<bool, AllocError> {
+pub fn page_wants_memory<P: Program>(alloc: Global, program: &P) -> Result<bool, AllocError> {
     let table = table_but(alloc, &[278]);
     let mut memory = with_table(alloc, table)?;
     memory.store("p.html", OLD_PAGE)?;
     let words = "page --last 600 --out p.html disc.tab";
-    let ran = ran_with_memory(alloc, &mut memory, words)?;
+    let ran = ran_with_memory(alloc, program, &mut memory, words)?;
     let is_old = memory.has("p.html", OLD_PAGE);
     if ran.status == 1 {
         return Ok(ran.out.is_empty() && ran.err.is_empty() && !is_old);
@@ -100,35 +105,39 @@ pub fn page_wants_memory(alloc: Global) -> Result<bool, AllocError> {
 }
 
 /// The files of the volume with one map. Each file that is reported as written has its bytes.
-pub fn files_want_memory(alloc: Global) -> Result<bool, AllocError> {
+pub fn files_want_memory<P: Program>(alloc: Global, program: &P) -> Result<bool, AllocError> {
     let a = a_bytes(alloc)?;
     let table = table_but(alloc, &[]);
     let mut memory = with_table(alloc, table)?;
     let words = "extract --last 600 --to out disc.tab";
-    let ran = ran_with_memory(alloc, &mut memory, words)?;
+    let ran = ran_with_memory(alloc, program, &mut memory, words)?;
     let has_a = has_where_told(&ran, "written /A\n", &memory, "out/A", a.as_slice());
     let has_b = has_where_told(&ran, "written /B\n", &memory, "out/B", b"Hi");
     Ok(has_a && has_b && is_told(&ran, ran.status < 2))
 }
 
 /// The files to which no name leads. Each file that is reported as written has its bytes.
-pub fn unnamed_want_memory(alloc: Global) -> Result<bool, AllocError> {
+pub fn unnamed_want_memory<P: Program>(alloc: Global, program: &P) -> Result<bool, AllocError> {
     let a = a_bytes(alloc)?;
     let table = table_but(alloc, &[274]);
     let mut memory = with_table(alloc, table)?;
     let words = "extract --last 600 --to out --unnamed lost disc.tab";
-    let ran = ran_with_memory(alloc, &mut memory, words)?;
+    let ran = ran_with_memory(alloc, program, &mut memory, words)?;
     let has_a = has_where_told(&ran, "written unnamed 3\n", &memory, "lost/3", a.as_slice());
     let has_b = has_where_told(&ran, "written unnamed 4\n", &memory, "lost/4", b"Hi");
     Ok(has_a && has_b && is_told(&ran, ran.status == 1))
 }
 
 /// The times of the files, which are all this one. Where a time is lacking, the status says so.
-pub fn times_want_memory(alloc: Global, time: Option<u64>) -> Result<bool, AllocError> {
+pub fn times_want_memory<P: Program>(
+    alloc: Global,
+    program: &P,
+    time: Option<u64>,
+) -> Result<bool, AllocError> {
     let table = table_but(alloc, &[]);
     let mut memory = with_table(alloc, table)?;
     let words = "extract --last 600 --to out --times disc.tab";
-    let ran = ran_with_memory(alloc, &mut memory, words)?;
+    let ran = ran_with_memory(alloc, program, &mut memory, words)?;
     let mut all = true;
     for path in ["out", "out/A", "out/B"] {
         all = all && memory.modified(path) == time;
@@ -137,11 +146,11 @@ pub fn times_want_memory(alloc: Global, time: Option<u64>) -> Result<bool, Alloc
 }
 
 /// A file whose name is too long: 84 times U+4E00, which has 3 bytes, and its number. A file that is reported as written has its bytes.
-pub fn short_names_want_memory(alloc: Global) -> Result<bool, AllocError> {
+pub fn short_names_want_memory<P: Program>(alloc: Global, program: &P) -> Result<bool, AllocError> {
     let a = a_bytes(alloc)?;
     let mut memory = with_table(alloc, one_long_name(alloc))?;
     let words = "extract --last 600 --to out --short-names disc.tab";
-    let ran = ran_with_memory(alloc, &mut memory, words)?;
+    let ran = ran_with_memory(alloc, program, &mut memory, words)?;
     let mut place = String::from_str(alloc, "out/")?;
     for _ in 0..84 {
         place.push_str("\u{4E00}")?;

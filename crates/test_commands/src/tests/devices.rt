@@ -1,6 +1,6 @@
 //! Devices that fail or are slow, and runs that are out of memory.
 
-use crate::tests::{assert_case, check};
+use crate::tests::{Commands, assert_case, check};
 use std::test::Fail;
 use test_runs::merge_wants_memory;
 
@@ -108,7 +108,7 @@ fn a_standard_output_that_fails_after_any_count_is_told(rt: HostRuntime) -> Resu
 fn want_of_memory_is_told(rt: HostRuntime) {
     assert_case(
         &rt,
-        !matches!(merge_wants_memory(rt.alloc()), Ok(false)),
+        !matches!(merge_wants_memory(rt.alloc(), &Commands), Ok(false)),
         "",
     );
 }

@@ -1,6 +1,6 @@
 //! What `extract` makes.
 
-use crate::tests::{assert_case, check};
+use crate::tests::{Commands, assert_case, check};
 use std::test::Fail;
 use test_runs::files_want_memory;
 
@@ -263,5 +263,9 @@ fn files_and_folders_are_written(rt: HostRuntime) -> Result<(), Fail> {
 /// an error says that memory ran out or that the folder was not made. Where the files in memory lacked memory, nothing is checked.
 #[test]
 fn want_of_memory_is_told(rt: HostRuntime) {
-    assert_case(&rt, !matches!(files_want_memory(rt.alloc()), Ok(false)), "");
+    assert_case(
+        &rt,
+        !matches!(files_want_memory(rt.alloc(), &Commands), Ok(false)),
+        "",
+    );
 }

@@ -1,6 +1,6 @@
 //! What `page` writes. The discs have 601 blocks, of which each is an arc of the picture. A disc whose file `A` lacks block 278 lacks 2,048 of its 5,000 bytes.
 
-use crate::tests::{assert_case, check};
+use crate::tests::{Commands, assert_case, check};
 use std::test::Fail;
 use test_runs::page_wants_memory;
 
@@ -210,5 +210,9 @@ fn a_page_in_pieces(rt: HostRuntime) -> Result<(), Fail> {
 /// old page stays, even if a beginning of the new one was written.
 #[test]
 fn want_of_memory_is_told(rt: HostRuntime) {
-    assert_case(&rt, !matches!(page_wants_memory(rt.alloc()), Ok(false)), "");
+    assert_case(
+        &rt,
+        !matches!(page_wants_memory(rt.alloc(), &Commands), Ok(false)),
+        "",
+    );
 }

@@ -1,6 +1,6 @@
 //! What `extract --short-names` writes: a name whose escaped form has more than 255 bytes is cut, and `~` and the number of its block are appended.
 
-use crate::tests::{assert_case, check};
+use crate::tests::{Commands, assert_case, check};
 use std::test::Fail;
 use test_runs::short_names_want_memory;
 
@@ -192,6 +192,6 @@ fn names_that_are_too_long(rt: HostRuntime) -> Result<(), Fail> {
 /// With ample memory the file is written. Where one allocation fails, a file that is reported as written has its bytes.
 #[test]
 fn want_of_memory_is_told(rt: HostRuntime) {
-    let is_told = short_names_want_memory(rt.alloc());
+    let is_told = short_names_want_memory(rt.alloc(), &Commands);
     assert_case(&rt, !matches!(is_told, Ok(false)), "");
 }

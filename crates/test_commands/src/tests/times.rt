@@ -1,7 +1,7 @@
 //! What `extract --times` sets. The sample volumes have one stamp, 2001-07-04T10:30 at an hour before UTC, which is 994239000 seconds after 1970 (`date -u -d 2001-07-04T09:30 +%s`).
 //! The entries of the root, of A and of B are blocks 273, 275 and 276, and the stamp of the last change is at byte 84 of each, that of the last access 12 before it (ECMA-167 4/14.9).
 
-use crate::tests::{assert_case, check};
+use crate::tests::{Commands, assert_case, check};
 use std::test::Fail;
 use test_runs::times_want_memory;
 
@@ -174,7 +174,7 @@ fn want_of_memory_is_told(rt: HostRuntime) {
     assert_case(
         &rt,
         !matches!(
-            times_want_memory(rt.alloc(), Some(994_239_000_000_000)),
+            times_want_memory(rt.alloc(), &Commands, Some(994_239_000_000_000)),
             Ok(false)
         ),
         "",

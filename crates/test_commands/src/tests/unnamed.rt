@@ -1,6 +1,6 @@
 //! What `extract --unnamed` writes: the sample volume's directory is block 274; without it the entries at logical blocks 3 and 4 have no name.
 
-use crate::tests::{assert_case, check};
+use crate::tests::{Commands, assert_case, check};
 use std::test::Fail;
 use test_runs::unnamed_want_memory;
 
@@ -170,7 +170,7 @@ fn files_that_have_no_name(rt: HostRuntime) -> Result<(), Fail> {
 fn want_of_memory_is_told(rt: HostRuntime) {
     assert_case(
         &rt,
-        !matches!(unnamed_want_memory(rt.alloc()), Ok(false)),
+        !matches!(unnamed_want_memory(rt.alloc(), &Commands), Ok(false)),
         "",
     );
 }

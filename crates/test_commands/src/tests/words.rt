@@ -1,9 +1,11 @@
 //! The arguments of the command line.
 
 use crate::tests::check;
+use std::alloc::{AllocError, Global};
 use std::process::Abort;
 use std::test::Fail;
-use test_runs::words_refused;
+use udfs_commands::refuse_words;
+use udfs_reading::Writer;
 
 static SCRIPT: &str = r"
 = help_and_version_go_to_standard_output
@@ -121,6 +123,15 @@ error-begins error: invalid value '4294967296' for '--last <N>'
 #[test]
 fn words_of_the_command_line(rt: HostRuntime) -> Result<(), Fail> {
     check(&rt, rt.alloc(), SCRIPT)
+}
+
+/// The status, and what is printed, where the arguments were not available: memory ran out, or one of them is not text.
+fn words_refused(alloc: Global, wants_memory: bool) -> Result<(u8, String), AllocError> {
+    let mut err = Writer::new(Vec::new(alloc));
+    let status = refuse_words(wants_memory, &mut err);
+    let bytes = err.into_inner();
+    let text = std::str::from_utf8(bytes.as_slice()).unwrap_or("no text");
+    Ok((status, String::from_str(alloc, text)?))
 }
 
 /// Asserts that the arguments are rejected with status 2 and this text.
