@@ -60,7 +60,7 @@ crates/$(1)/out/$(1): out/marks/$(1)
 	@touch $$@
 endef
 
-$(foreach name,udfsalvage try_samples bench_crc bench_table bench_space,$(eval $(call program-rule,$(name))))
+$(foreach name,udfsalvage try_samples bench_core,$(eval $(call program-rule,$(name))))
 
 demo:
 	@mkdir -p out

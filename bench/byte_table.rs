@@ -1,5 +1,5 @@
 //! The CRC of descriptors by the plain table of 256 entries, a byte a step: what `bench/crc` measures
-//! the proved one against. `byte_table [MEBIBYTES]`, with the bytes and the output of `bench_crc`.
+//! the proved one against. `byte_table [MEBIBYTES]`, with the bytes and the output of `bench_core crc`.
 
 use std::hint::black_box;
 use std::time::Instant;

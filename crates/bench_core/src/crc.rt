@@ -1,12 +1,7 @@
-// SPDX-License-Identifier: MIT OR Apache-2.0
-//! The CRC of made-up bytes, for `bench/crc` to measure: `bench_crc [MEBIBYTES]`, 1 if left out.
-//!
-//! Each round's microseconds go to standard error, and the CRC to standard output.
-#![tactic(auto)]
+//! The CRC of made-up bytes.
 
 use std::alloc::{AllocError, Global};
 use std::time::Instant;
-use std::{env, io};
 
 const MEBIBYTE: usize = 1 << 20;
 
@@ -24,14 +19,15 @@ fn made_up(alloc: Global, count: usize) -> Result<Vec<u8>, AllocError> {
     Ok(bytes)
 }
 
-fn main(rt: HostRuntime) -> io::Result<()> {
-    let word = env::args(&rt)?.nth(1);
-    let mebibytes: usize = word.and_then(|word| word.parse().ok()).unwrap_or(1);
+/// Measures the CRC of this many mebibytes, 1 if left out: each round's microseconds go to standard error, and the CRC to standard output.
+pub fn measure(rt: &HostRuntime, mebibytes: Option<String>) -> anyhow::Result<()> {
+    let mebibytes: usize = mebibytes.and_then(|word| word.parse().ok()).unwrap_or(1);
     let bytes = made_up(rt.alloc(), mebibytes.min(4096) * MEBIBYTE)?;
     for _ in 0..ROUNDS {
-        let start = Instant::now(&rt)?;
+        let start = Instant::now(rt)?;
         let sum = udfs_tag::crc(&bytes);
-        eprintln!(rt; "{} {sum}", start.elapsed(&rt)?.as_micros())?;
+        eprintln!(rt; "{} {sum}", start.elapsed(rt)?.as_micros())?;
     }
-    println!(rt; "{}", udfs_tag::crc(&bytes))
+    println!(rt; "{}", udfs_tag::crc(&bytes))?;
+    Ok(())
 }

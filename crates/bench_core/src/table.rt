@@ -1,14 +1,10 @@
-// SPDX-License-Identifier: MIT OR Apache-2.0
-//! Times of the table of blocks, for `bench/table` to compare: `bench_table WORK [BLOCKS]`. Each time goes to
-//! standard error in microseconds, and how many blocks are known to standard output.
-#![tactic(auto)]
+//! Times of the table of blocks.
 
 ghost use Rattle.std.specs.Prelude.{◌<◌};
 
 use std::alloc::{AllocError, Global};
 use std::collections::BTreeMap;
 use std::time::Instant;
-use std::{env, io};
 use udfs_lattice::{BlockTable, Fact, Join, TableError};
 
 /// A number that has no divisor in common with 300,000, so that its multiples come at each block once.
@@ -157,15 +153,15 @@ fn work(rt: &HostRuntime, word: &str, count: u32) -> anyhow::Result<u32> {
     Ok(known)
 }
 
-fn main(rt: HostRuntime) -> anyhow::Result<()> {
-    let words = env::args(&rt)?;
-    let mut words = words.skip(1);
-    let word = words.next();
-    let count = words
-        .next()
-        .and_then(|word| word.parse().ok())
-        .unwrap_or(96);
-    let known = work(&rt, word.as_deref().unwrap_or("join"), count)?;
+/// Measures one piece of work on this many blocks, `join` and 96 if left out: each time goes to standard error in microseconds, and how many
+/// blocks are known to standard output.
+pub fn measure(
+    rt: &HostRuntime,
+    word: Option<String>,
+    blocks: Option<String>,
+) -> anyhow::Result<()> {
+    let count = blocks.and_then(|word| word.parse().ok()).unwrap_or(96);
+    let known = work(rt, word.as_deref().unwrap_or("join"), count)?;
     println!(rt; "{known}")?;
     Ok(())
 }

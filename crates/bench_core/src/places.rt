@@ -1,13 +1,7 @@
-// SPDX-License-Identifier: MIT OR Apache-2.0
-//! Places of logical blocks under a sparing table of 8,000 packets, for `bench/places` to measure:
-//! `bench_space [MILLIONS]`, 1 if left out.
-//!
-//! Each round's microseconds go to standard error, and the sum of the places to standard output.
-#![tactic(auto)]
+//! Places of logical blocks under a sparing table of 8,000 packets.
 
 use std::alloc::{AllocError, Global};
 use std::time::Instant;
-use std::{env, io};
 use udfs_lattice::{BlockTable, TableError};
 use udfs_samples::Disc;
 use udfs_space::Space;
@@ -87,19 +81,23 @@ fn sum_of(space: &Space, millions: u32) -> u64 {
     sum
 }
 
-fn main(rt: HostRuntime) -> io::Result<()> {
-    let word = env::args(&rt)?.nth(1);
-    let millions: u32 = word.and_then(|word| word.parse().ok()).unwrap_or(1);
+/// Measures this many millions of places, 1 if left out: each round's microseconds go to standard error, and the sum of the places to standard
+/// output.
+pub fn measure(rt: &HostRuntime, millions: Option<String>) -> anyhow::Result<()> {
+    let millions: u32 = millions.and_then(|word| word.parse().ok()).unwrap_or(1);
     let Ok(table) = disc(rt.alloc()) else {
-        return println!(rt; "no disc");
+        println!(rt; "no disc")?;
+        return Ok(());
     };
     let Some(space) = space(rt.alloc(), &table) else {
-        return println!(rt; "no space");
+        println!(rt; "no space")?;
+        return Ok(());
     };
     for _ in 0..ROUNDS {
-        let start = Instant::now(&rt)?;
+        let start = Instant::now(rt)?;
         let sum = sum_of(&space, millions);
-        eprintln!(rt; "{} {sum}", start.elapsed(&rt)?.as_micros())?;
+        eprintln!(rt; "{} {sum}", start.elapsed(rt)?.as_micros())?;
     }
-    println!(rt; "{}", sum_of(&space, millions))
+    println!(rt; "{}", sum_of(&space, millions))?;
+    Ok(())
 }
