@@ -3,7 +3,7 @@
 ghost use Rattle.std.specs.Prelude.{◌≡◌, IfOk, codes, map};
 ghost use Rattle.std.specs.String.{string_bytes};
 ghost use Rattle.udfs_words.specs.Obeying.{given_in, is_given, names};
-ghost use Rattle.clap.specs.Words.{app_of, new_app};
+ghost use Rattle.clap.specs.Words.{app_of, new_app, with_subcommand};
 ghost use Rattle.udfs_words.specs.Grammar.{extract_app, forget_app, image_app, list_app, merge_app, page_app, program, program_app, report_app, reread_app, summary_app, with_end, with_inputs};
 
 use crate::arguments::{
@@ -164,15 +164,22 @@ fn program<'a>(alloc: Global) -> Command<'a>
         .subcommand_required(true)
 }
 
-/// The commands and what they take.
-pub fn grammar<'a>(alloc: Global, given: Given) -> Result<Command<'a>, AllocError>
-    ensures { IfOk result (λ command. app_of command ≡ program_app given) }
+/// The program and its first four commands.
+fn first_commands<'a>(alloc: Global, given: Given) -> Result<Command<'a>, AllocError>
+    ensures { IfOk result (λ command. app_of command ≡ with_subcommand (with_subcommand (with_subcommand (with_subcommand program (merge_app given.pairs).top) (report_app given).top) (reread_app given).top) (extract_app given).top) }
 {
     program(alloc)
         .subcommand(merge(alloc, given.pairs)?)?
         .subcommand(report(alloc, given)?)?
         .subcommand(reread(alloc, given)?)?
-        .subcommand(extract(alloc, given)?)?
+        .subcommand(extract(alloc, given)?)
+}
+
+/// The commands and what they take.
+pub fn grammar<'a>(alloc: Global, given: Given) -> Result<Command<'a>, AllocError>
+    ensures { IfOk result (λ command. app_of command ≡ program_app given) }
+{
+    first_commands(alloc, given)?
         .subcommand(forget(alloc, given)?)?
         .subcommand(list(alloc, given)?)?
         .subcommand(summary(alloc, given)?)?

@@ -6,12 +6,8 @@ use Rattle.udfs_words.proofs.words.grammar.Goals as goal
 
 pub returns : goal.returns
 returns c =
-    let one = c.in_ok-subcommand.ensures.shape (third_is_false _ _ _ _ (ap (λ (a : App). a.top.is_plain) c.in_ok-merge.ensures)) ∙ ap₂ with_subcommand c.program.ensures (ap (λ (a : App). a.top) c.in_ok-merge.ensures) in
-    let two = c.in_ok-subcommand-2.ensures.shape (third_is_false _ _ _ _ (ap (λ (a : App). a.top.is_plain) c.in_ok-report.ensures)) ∙ ap₂ with_subcommand one (ap (λ (a : App). a.top) c.in_ok-report.ensures) in
-    let three = c.in_ok-subcommand-3.ensures.shape (third_is_false _ _ _ _ (ap (λ (a : App). a.top.is_plain) c.in_ok-reread.ensures)) ∙ ap₂ with_subcommand two (ap (λ (a : App). a.top) c.in_ok-reread.ensures) in
-    let four = c.in_ok-subcommand-4.ensures.shape (third_is_false _ _ _ _ (ap (λ (a : App). a.top.is_plain) c.in_ok-extract.ensures)) ∙ ap₂ with_subcommand three (ap (λ (a : App). a.top) c.in_ok-extract.ensures) in
-    let five = c.in_ok-subcommand-5.ensures.shape (third_is_false _ _ _ _ (ap (λ (a : App). a.top.is_plain) c.in_ok-forget.ensures)) ∙ ap₂ with_subcommand four (ap (λ (a : App). a.top) c.in_ok-forget.ensures) in
-    let six = c.in_ok-subcommand-6.ensures.shape (third_is_false _ _ _ _ (ap (λ (a : App). a.top.is_plain) c.in_ok-list.ensures)) ∙ ap₂ with_subcommand five (ap (λ (a : App). a.top) c.in_ok-list.ensures) in
-    let seven = c.in_ok-subcommand-7.ensures.shape (third_is_false _ _ _ _ (ap (λ (a : App). a.top.is_plain) c.in_ok-summary.ensures)) ∙ ap₂ with_subcommand six (ap (λ (a : App). a.top) c.in_ok-summary.ensures) in
-    let eight = c.in_ok-subcommand-8.ensures.shape (third_is_false _ _ _ _ (ap (λ (a : App). a.top.is_plain) c.in_ok-image.ensures)) ∙ ap₂ with_subcommand seven (ap (λ (a : App). a.top) c.in_ok-image.ensures) in
-    IfOk-weaker c.subcommand-9.result _ _ (λ m h. h.shape (third_is_false _ _ _ _ (ap (λ (a : App). a.top.is_plain) c.in_ok-page.ensures)) ∙ ap₂ with_subcommand eight (ap (λ (a : App). a.top) c.in_ok-page.ensures)) c.subcommand-9.ensures
+    let one = c.in_ok-subcommand.ensures.shape (third_is_false _ _ _ _ (ap (λ (a : App). a.top.is_plain) c.in_ok-forget.ensures)) ∙ ap₂ with_subcommand c.in_ok-first_commands.ensures (ap (λ (a : App). a.top) c.in_ok-forget.ensures) in
+    let two = c.in_ok-subcommand-2.ensures.shape (third_is_false _ _ _ _ (ap (λ (a : App). a.top.is_plain) c.in_ok-list.ensures)) ∙ ap₂ with_subcommand one (ap (λ (a : App). a.top) c.in_ok-list.ensures) in
+    let three = c.in_ok-subcommand-3.ensures.shape (third_is_false _ _ _ _ (ap (λ (a : App). a.top.is_plain) c.in_ok-summary.ensures)) ∙ ap₂ with_subcommand two (ap (λ (a : App). a.top) c.in_ok-summary.ensures) in
+    let four = c.in_ok-subcommand-4.ensures.shape (third_is_false _ _ _ _ (ap (λ (a : App). a.top.is_plain) c.in_ok-image.ensures)) ∙ ap₂ with_subcommand three (ap (λ (a : App). a.top) c.in_ok-image.ensures) in
+    IfOk-weaker c.subcommand-5.result _ _ (λ m h. h.shape (third_is_false _ _ _ _ (ap (λ (a : App). a.top.is_plain) c.in_ok-page.ensures)) ∙ ap₂ with_subcommand four (ap (λ (a : App). a.top) c.in_ok-page.ensures)) c.subcommand-5.ensures
