@@ -16,5 +16,7 @@ pub mod TreeNodes
 pub mod Refuted
 pub mod LawfulKept
 pub mod Decided
-pub mod Spelt
+pub mod Fronts
+pub mod Keys
+pub mod Twice
 pub mod Mapped

@@ -1,21 +1,14 @@
 -- What is found in a list of nodes. No public contract cites these definitions.
---     spelled path             the path as one list of numbers, by which it is told from each other one
 --     ArePathsApart nodes      no two nodes have one path; IsTwice nodes at: an earlier one has the path of this one
+--     BeginsWith path front    the first names of the path are those of the front; IsInside path folder: it is the folder's path and one name more
+--     AreFolders nodes folders     each node but the root has its folder, an earlier node (`IsFolder`)
 --     AreFaultless nodes       no node is a loop or has a fault; IsFaultyAt nodes at: this one is or has
-use Rattle.std.specs.Prelude.{◌≡◌, ℕ, ◌<◌, Bool, true, false, List, ◌∷◌, length, flat_map, Some, slice_get}
+use Rattle.std.specs.Prelude.{◌≡◌, ℕ, ◌<◌, Bool, true, false, List, [], ◌∷◌, ◌++◌, length, Some, slice_get, slice_index}
 use Rattle.udfs_walk.specs.NodeFields.{NodeFields}
 use Rattle.udfs_walk.specs.declared.standings.Standing.{Standing}
 use Rattle.udfs_walk.specs.declared.standings.Standing.TheVariants as standing
 use Rattle.udfs_lawfulness.specs.declared.answers.Why.{Why}
 use Rattle.udfs_lawfulness.specs.declared.answers.Why.TheVariants.{Structures, Volume as Unopened, TooManyPaths, Fault, Loop, SameName}
-
--- before the units of each name their number
-abbrev pub spelled_name : List ℕ → List ℕ
-spelled_name name = length name ∷ name
-
--- all names of a path
-abbrev pub spelled : List (List ℕ) → List ℕ
-spelled path = flat_map spelled_name path
 
 -- no two nodes have one path
 abbrev pub ArePathsApart : List NodeFields → Type 0
@@ -31,6 +24,29 @@ pub record IsTwice (nodes : List NodeFields) (at : ℕ) : Type 0 where
   pub one_is : slice_get nodes first ≡ Some one
   pub other_is : slice_get nodes at ≡ Some other
   pub same : one.path ≡ other.path
+
+-- the first names of the path are those of the front
+abbrev pub BeginsWith : List (List ℕ) → List (List ℕ) → Type 0
+BeginsWith path front = (i : ℕ) → i < length front → slice_get path i ≡ slice_get front i
+
+-- it is the folder's path and one name more
+abbrev pub IsInside : List (List ℕ) → List (List ℕ) → Type 0
+IsInside path folder = (name : List ℕ) × (path ≡ folder ++ name ∷ [])
+
+-- the path of this node is that of an earlier one, its folder, and one name more
+pub record IsFolder (nodes : List NodeFields) (at folder : ℕ) : Type 0 where
+  pub before : folder < at
+  pub one : NodeFields
+  pub other : NodeFields
+  pub one_is : slice_get nodes folder ≡ Some one
+  pub other_is : slice_get nodes at ≡ Some other
+  pub inside : IsInside other.path one.path
+
+-- the first node is the root, and each other one has its folder
+pub record AreFolders (nodes : List NodeFields) (folders : List ℕ) : Type 0 where
+  pub long : length folders ≡ length nodes
+  pub root : (n : NodeFields) → slice_get nodes 0 ≡ Some n → n.path ≡ []
+  pub each : (at : ℕ) → 0 < at → at < length nodes → IsFolder nodes at (slice_index folders at)
 
 -- whether it is a loop or has a fault
 abbrev pub is_faulty : Standing → Bool

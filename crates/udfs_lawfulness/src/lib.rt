@@ -5,6 +5,7 @@
 pub mod answers;
 pub mod deciding;
 mod filled;
+mod folders;
 pub mod laws;
 mod names;
 mod sequences;
