@@ -5,8 +5,10 @@ mod files;
 mod lawful_volumes;
 mod lawfulness;
 mod lost;
+mod rows;
 mod samples;
 mod spaces;
+mod starts;
 mod volumes;
 mod walks;
 

@@ -1,4 +1,5 @@
 //! The table of blocks.
 
 mod packets;
+mod steps;
 mod whole;

@@ -6,4 +6,4 @@ mod directories;
 mod entries;
 mod memory;
 mod tails;
-mod told;
+pub mod told;

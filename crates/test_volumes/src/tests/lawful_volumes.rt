@@ -1,12 +1,20 @@
 //! Whether sample volumes are lawful. What is expected comes from the formats' description, byte by byte.
 
-use crate::tests::assert_text;
+use super::rows::{Asked, Row, check, check_alike, check_at, check_by};
+use super::starts::Start;
 use std::alloc::{AllocError, Global};
 use std::test::Fail;
+use udfs_lattice::BlockTable;
 use udfs_lawfulness::{Lawfulness, Why, lawfulness};
-use udfs_samples::{Bytes, Disc, LAST};
+use udfs_samples::LAST;
 use udfs_volume::Profile;
 use udfs_walk::Path;
+
+/// Whether the volume of a table is lawful, as text.
+pub fn lawful(alloc: Global, table: &BlockTable, profile: Profile) -> Result<String, Fail> {
+    let found = lawfulness(alloc, table, LAST, profile)?;
+    Ok(found_text(alloc, found)?)
+}
 
 /// Appends each name of a path behind a slash.
 fn push_path(text: &mut String, path: &Path) -> Result<(), AllocError> {
@@ -20,7 +28,7 @@ fn push_path(text: &mut String, path: &Path) -> Result<(), AllocError> {
 }
 
 /// What is found, as text.
-fn told(alloc: Global, found: Lawfulness) -> Result<String, AllocError> {
+fn found_text(alloc: Global, found: Lawfulness) -> Result<String, AllocError> {
     let mut text = String::new(alloc);
     match found {
         Lawfulness::Lawful => text.push_str("lawful")?,
@@ -47,26 +55,34 @@ fn told(alloc: Global, found: Lawfulness) -> Result<String, AllocError> {
 }
 
 /// Changes of the volume with one map of type 1, the blocks that are not known, and what is found.
-static TYPE1: [(&[Bytes], &[u32], &str); 15] = [
+static TYPE1: [Row; 15] = [
     (&[], &[], "lawful"),
+
     // the bytes of the file A decide nothing
     (&[], &[277, 278, 279], "lawful"),
+
     // its information control block does, and so does that of B
     (&[], &[275, 278], "open [275]"),
     (&[], &[276, 256, 275], "open [256, 275, 276]"),
+
     // the root's information control block, its body, and the file set
     (&[], &[273], "open [273]"),
     (&[], &[274], "open [274]"),
     (&[], &[272], "open [272]"),
     (&[], &[272, 33], "open [33, 272]"),
+
     // the name A leads to the root
     (&[(274, 64, &[1])], &[256], "loop /A"),
+
     // two names are A
     (&[(274, 119, b"A")], &[275, 276], "same name /A"),
+
     // the tag of the descriptor of B is wrong
     (&[(274, 80, &[2])], &[], "IdentifierTag "),
+
     // the tag of the entry of A is wrong
     (&[(275, 0, &[2])], &[276], "Tag /A"),
+
     // the file set has no valid tag
     (&[(272, 1, &[0])], &[], "volume FileSet"),
     (&[(272, 1, &[0])], &[272], "open [272]"),
@@ -77,55 +93,41 @@ static TYPE1: [(&[Bytes], &[u32], &str); 15] = [
     ),
 ];
 
-#[test]
-fn lawful_type1(rt: HostRuntime) -> Result<(), Fail> {
-    let alloc = rt.alloc();
-    for &(changes, unread, want) in &TYPE1 {
-        let mut disc = Disc::type1(alloc)?;
-        disc.write(changes)?;
-        let table = disc.known_but(alloc, unread)?;
-        for profile in [Profile::Strict, Profile::Wide] {
-            let found = lawfulness(alloc, &table, LAST, profile)?;
-            assert_text(&rt, told(alloc, found)?, want);
-        }
-    }
-    Ok(())
-}
-
 /// The allocation descriptors of the file A are continued in block 278, and its bytes are in the blocks 277 and 279.
-static CONTINUED: [(&[u32], &str); 4] = [
-    (&[], "lawful"),
-    (&[277, 279], "lawful"),
-    (&[278], "open [278]"),
-    (&[278, 279], "open [278]"),
+static CONTINUED: [Row; 4] = [
+    (&[], &[], "lawful"),
+    (&[], &[277, 279], "lawful"),
+    (&[], &[278], "open [278]"),
+    (&[], &[278, 279], "open [278]"),
 ];
 
-#[test]
-fn lawful_continued(rt: HostRuntime) -> Result<(), Fail> {
-    let alloc = rt.alloc();
-    for &(unread, want) in &CONTINUED {
-        let table = Disc::continued(alloc)?.known_but(alloc, unread)?;
-        let found = lawfulness(alloc, &table, LAST, Profile::Strict)?;
-        assert_text(&rt, told(alloc, found)?, want);
-    }
-    Ok(())
-}
-
 /// The entry of the file B is in block 520, where the first packet of the second partition is mapped.
+static TWO_MAPS: [Row; 1] = [(&[], &[], "lawful")];
+
+static UNREAD: [Row; 1] = [(&[], &[520, 200], "open [200, 520]")];
+
+static NOTHING_KNOWN: [Row; 1] = [(&[], &[], "open [256, 344, 600]")];
+
 #[test]
-fn lawful_two_maps(rt: HostRuntime) -> Result<(), Fail> {
-    let alloc = rt.alloc();
-    let disc = Disc::two_maps(alloc)?;
-    let found = lawfulness(alloc, &disc.known_but(alloc, &[])?, LAST, Profile::Strict)?;
-    assert_text(&rt, told(alloc, found)?, "lawful");
-    let found = lawfulness(
-        alloc,
-        &disc.known_but(alloc, &[520, 200])?,
-        LAST,
+fn volumes_are_lawful(rt: HostRuntime) -> Result<(), Fail> {
+    let asked = Asked::Lawful;
+    check_alike(&rt, rt.alloc(), Start::Type1, asked, &TYPE1)?;
+    check(&rt, rt.alloc(), Start::Continued, asked, &CONTINUED)?;
+    check(&rt, rt.alloc(), Start::TwoMaps, asked, &TWO_MAPS)?;
+    check_by(
+        &rt,
+        rt.alloc(),
         Profile::Wide,
+        Start::TwoMaps,
+        asked,
+        &UNREAD,
     )?;
-    assert_text(&rt, told(alloc, found)?, "open [200, 520]");
-    let found = lawfulness(alloc, &disc.known_at(alloc, &[])?, LAST, Profile::Wide)?;
-    assert_text(&rt, told(alloc, found)?, "open [256, 344, 600]");
-    Ok(())
+    check_at(
+        &rt,
+        rt.alloc(),
+        Profile::Wide,
+        Start::TwoMaps,
+        asked,
+        &NOTHING_KNOWN,
+    )
 }

@@ -1,14 +1,24 @@
 //! Whether the structures of sample volumes are lawful. What is expected comes from the formats' description, byte by byte.
 
-use crate::tests::assert_text;
+use super::rows::{Asked, Row, check, check_alike, check_at};
+use super::starts::Start;
+use std::alloc::Global;
 use std::test::Fail;
+use udfs_lattice::BlockTable;
 use udfs_lawfulness::structures_of;
-use udfs_samples::{Bytes, Disc, LAST};
+use udfs_samples::LAST;
 use udfs_volume::Profile;
 
+/// What is found, as text.
+pub fn structures(alloc: Global, table: &BlockTable, profile: Profile) -> Result<String, Fail> {
+    let found = structures_of(alloc, table, LAST, profile)?;
+    Ok(format!(in alloc; "{found:?}")?)
+}
+
 /// Changes of the volume with one map of type 1, the blocks that are not known, and what is found.
-static TYPE1: [(&[Bytes], &[u32], &str); 19] = [
+static TYPE1: [Row; 19] = [
     (&[], &[], "Sound"),
+
     // no block of a file, and none behind the end of the sequence
     (&[], &[272, 273, 277, 35, 51, 47, 63], "Sound"),
     (&[], &[256], "Open([256])"),
@@ -17,6 +27,7 @@ static TYPE1: [(&[Bytes], &[u32], &str); 19] = [
     (&[], &[600, 344, 256], "Open([256, 344, 600])"),
     (&[], &[32], "Open([32])"),
     (&[], &[50], "Open([50])"),
+
     // what follows a position of which no copy is known is not asked for yet
     (&[], &[33, 34, 49], "Open([33, 49])"),
     (&[], &[33, 34], "Open([33, 34])"),
@@ -25,6 +36,7 @@ static TYPE1: [(&[Bytes], &[u32], &str); 19] = [
         &[33],
         "Unsound(Anchors { one: 256, other: 600 })",
     ),
+
     // the tag is not right, so this is no anchor
     (&[(600, 12, &[0x57])], &[], "Sound"),
     (
@@ -38,14 +50,17 @@ static TYPE1: [(&[Bytes], &[u32], &str); 19] = [
         &[],
         "Unsound(Descriptors { main: 34, reserve: 50 })",
     ),
+
     // a terminating descriptor has no bytes that are read
     (&[(50, 600, &[1])], &[], "Sound"),
+
     // the block size is 1024
     (
         &[(32, 213, &[4]), (48, 213, &[4])],
         &[344],
         "Unsound(Fault(BlockSize))",
     ),
+
     // neither extent has a block
     (
         &[
@@ -57,6 +72,7 @@ static TYPE1: [(&[Bytes], &[u32], &str); 19] = [
         &[],
         "Unsound(Fault(Extents))",
     ),
+
     // no anchor
     (
         &[(256, 0, &[3]), (600, 0, &[3])],
@@ -66,11 +82,12 @@ static TYPE1: [(&[Bytes], &[u32], &str); 19] = [
 ];
 
 /// The same of the volume with one sparable map, whose table has the copies 100 and 200.
-static SPARABLE: [(&[Bytes], &[u32], &str); 10] = [
+static SPARABLE: [Row; 10] = [
     (&[], &[], "Sound"),
     (&[], &[400, 272], "Sound"),
     (&[], &[100], "Open([100])"),
     (&[], &[200, 48], "Open([48, 200])"),
+
     // the sequence numbers differ
     (
         &[(200, 52, &[1])],
@@ -78,15 +95,18 @@ static SPARABLE: [(&[Bytes], &[u32], &str); 10] = [
         "Unsound(Tables { one: 100, other: 200 })",
     ),
     (&[(200, 52, &[1])], &[100], "Open([100])"),
+
     // the last byte of the table
     (
         &[(100, 2047, &[1])],
         &[],
         "Unsound(Tables { one: 100, other: 200 })",
     ),
+
     // the tag of one copy is not right
     (&[(200, 0, &[1])], &[], "Unsound(NoTable(200))"),
     (&[(200, 0, &[1])], &[100], "Unsound(NoTable(200))"),
+
     // the packet is mapped past the last block
     (
         &[(100, 62, &[1]), (200, 62, &[1])],
@@ -95,60 +115,24 @@ static SPARABLE: [(&[Bytes], &[u32], &str); 10] = [
     ),
 ];
 
-#[test]
-fn type1(rt: HostRuntime) -> Result<(), Fail> {
-    let alloc = rt.alloc();
-    for &(changes, unread, want) in &TYPE1 {
-        let mut disc = Disc::type1(alloc)?;
-        disc.write(changes)?;
-        let table = disc.known_but(alloc, unread)?;
-        for profile in [Profile::Strict, Profile::Wide] {
-            let found = structures_of(alloc, &table, LAST, profile)?;
-            assert_text(&rt, format!(in alloc; "{found:?}")?, want);
-        }
-    }
-    Ok(())
-}
-
-#[test]
-fn sparable(rt: HostRuntime) -> Result<(), Fail> {
-    let alloc = rt.alloc();
-    for &(changes, unread, want) in &SPARABLE {
-        let mut disc = Disc::sparable(alloc)?;
-        disc.write(changes)?;
-        let table = disc.known_but(alloc, unread)?;
-        for profile in [Profile::Strict, Profile::Wide] {
-            let found = structures_of(alloc, &table, LAST, profile)?;
-            assert_text(&rt, format!(in alloc; "{found:?}")?, want);
-        }
-    }
-    Ok(())
-}
-
 /// Of two maps, one is sparable.
-#[test]
-fn two_maps(rt: HostRuntime) -> Result<(), Fail> {
-    let alloc = rt.alloc();
-    let disc = Disc::two_maps(alloc)?;
-    let table = disc.known_but(alloc, &[])?;
-    let found = structures_of(alloc, &table, LAST, Profile::Strict)?;
-    assert_text(&rt, format!(in alloc; "{found:?}")?, "Sound");
-    let table = disc.known_but(alloc, &[200])?;
-    let found = structures_of(alloc, &table, LAST, Profile::Strict)?;
-    assert_text(&rt, format!(in alloc; "{found:?}")?, "Open([200])");
-    Ok(())
-}
+static TWO_MAPS: [Row; 2] = [(&[], &[], "Sound"), (&[], &[200], "Open([200])")];
 
 /// Of a disc of which nothing is known, the places of the anchors are asked for.
+static NOTHING_KNOWN: [Row; 1] = [(&[], &[], "Open([256, 344, 600])")];
+
 #[test]
-fn nothing_known(rt: HostRuntime) -> Result<(), Fail> {
-    let alloc = rt.alloc();
-    let table = Disc::type1(alloc)?.known_at(alloc, &[])?;
-    let found = structures_of(alloc, &table, LAST, Profile::Wide)?;
-    assert_text(
+fn structures_are_lawful(rt: HostRuntime) -> Result<(), Fail> {
+    let asked = Asked::Structures;
+    check_alike(&rt, rt.alloc(), Start::Type1, asked, &TYPE1)?;
+    check_alike(&rt, rt.alloc(), Start::Sparable, asked, &SPARABLE)?;
+    check(&rt, rt.alloc(), Start::TwoMaps, asked, &TWO_MAPS)?;
+    check_at(
         &rt,
-        format!(in alloc; "{found:?}")?,
-        "Open([256, 344, 600])",
-    );
-    Ok(())
+        rt.alloc(),
+        Profile::Wide,
+        Start::Type1,
+        asked,
+        &NOTHING_KNOWN,
+    )
 }

@@ -1,7 +1,7 @@
 //! The samples' bytes, where a slip would make another volume.
 
+use crate::tests::starts::Start;
 use crate::tests::{assert_same, assert_same_in};
-use std::alloc::Global;
 use std::test::Fail;
 use udfs_samples::Disc;
 
@@ -50,12 +50,13 @@ const TWO_MAPS: Tags = &[
 #[test]
 fn tags(rt: HostRuntime) -> Result<(), Fail> {
     let alloc = rt.alloc();
-    for (disc, tags) in [
-        (Disc::type1(alloc)?, TYPE1),
-        (Disc::continued(alloc)?, &[(278, 0, 258, 6)]),
-        (Disc::sparable(alloc)?, SPARABLE),
-        (Disc::two_maps(alloc)?, TWO_MAPS),
+    for (start, tags) in [
+        (Start::Type1, TYPE1),
+        (Start::Continued, &[(278, 0, 258, 6)]),
+        (Start::Sparable, SPARABLE),
+        (Start::TwoMaps, TWO_MAPS),
     ] {
+        let disc = start.changed(alloc, &[])?;
         for (n, at, identifier, location) in tags {
             let mut other = Disc::blank(alloc);
             other.write_tag(*n, *at, *identifier, *location)?;
@@ -73,38 +74,35 @@ fn byte(disc: &Disc, n: u32, at: usize) -> Option<u8> {
     block.get(at).copied()
 }
 
-/// Where each sample differs from the one that it is made of.
+/// Bytes of the samples, where each differs from the one that it is made of: block, byte position and byte.
+static BYTES: [(Start, u32, usize, u8); 19] = [
+    (Start::Type1, 272, 404, 1),
+    (Start::Type1, 273, 180, 2),
+    (Start::Type1, 274, 79, 0x41),
+    (Start::Type1, 274, 104, 4),
+    (Start::Type1, 274, 119, 0x42),
+    (Start::Type1, 275, 57, 0x13),
+    (Start::Type1, 275, 91, 0x1e),
+    (Start::Type1, 276, 177, 0x69),
+    (Start::Type1, 277, 0, 0x61),
+    (Start::Type1, 278, 1, 0x62),
+    (Start::Type1, 279, 2047, 0x63),
+    (Start::Continued, 278, 28, 7),
+    (Start::Continued, 278, 2047, 0),
+    (Start::Sparable, 272, 404, 0xff),
+    (Start::Sparable, 407, 2047, 0x63),
+    (Start::Sparable, 48, 492, 0xc8),
+    (Start::TwoMaps, 276, 0, 0),
+    (Start::TwoMaps, 520, 176, 0x48),
+    (Start::TwoMaps, 48, 484, 1),
+];
+
 #[test]
 fn contents(rt: HostRuntime) -> Result<(), Fail> {
-    let alloc = rt.alloc();
-    let type1 = Disc::type1(alloc)?;
-    static BYTES: [(u32, usize, u8); 11] = [
-        (272, 404, 1),
-        (273, 180, 2),
-        (274, 79, 0x41),
-        (274, 104, 4),
-        (274, 119, 0x42),
-        (275, 57, 0x13),
-        (275, 91, 0x1e),
-        (276, 177, 0x69),
-        (277, 0, 0x61),
-        (278, 1, 0x62),
-        (279, 2047, 0x63),
-    ];
-    for &(n, at, want) in &BYTES {
-        assert_eq!(rt; byte(&type1, n, at), Some(want), "{n}: {at}");
+    for &(start, n, at, want) in &BYTES {
+        let disc = start.changed(rt.alloc(), &[])?;
+        assert_eq!(rt; byte(&disc, n, at), Some(want), "{n}: {at}");
     }
-    let continued = Disc::continued(alloc)?;
-    assert_same(&rt, byte(&continued, 278, 28), Some(7));
-    assert_same(&rt, byte(&continued, 278, 2047), Some(0));
-    let sparable = Disc::sparable(alloc)?;
-    assert_same(&rt, byte(&sparable, 272, 404), Some(0xff));
-    assert_same(&rt, byte(&sparable, 407, 2047), Some(0x63));
-    assert_same(&rt, byte(&sparable, 48, 492), Some(0xc8));
-    let two_maps = Disc::two_maps(alloc)?;
-    assert_same(&rt, byte(&two_maps, 276, 0), Some(0));
-    assert_same(&rt, byte(&two_maps, 520, 176), Some(0x48));
-    assert_same(&rt, byte(&two_maps, 48, 484), Some(1));
     Ok(())
 }
 
@@ -119,8 +117,7 @@ fn tables(rt: HostRuntime) -> Result<(), Fail> {
     Ok(())
 }
 
-/// A directory that is built has the bytes of the sample's root, but for the parent's descriptor; and a
-/// descriptor goes on in the next block.
+/// A directory that is built has the bytes of the sample's root, but for the parent's descriptor.
 #[test]
 fn directories(rt: HostRuntime) -> Result<(), Fail> {
     let alloc = rt.alloc();
@@ -140,13 +137,26 @@ fn directories(rt: HostRuntime) -> Result<(), Fail> {
         };
         assert_same_in(&rt, byte(&disc, 273, i), want, i);
     }
+    Ok(())
+}
+
+/// The last of 52 identifiers begins in one block and ends in the next.
+static LONG: [(u32, usize, u8); 6] = [
+    (273, 56, 0x20),
+    (273, 57, 8),
+    (274, 2040, 1),
+    (275, 4, 2),
+    (275, 30, 8),
+    (275, 31, 0x41),
+];
+
+#[test]
+fn long_directories(rt: HostRuntime) -> Result<(), Fail> {
+    let mut disc = Disc::blank(rt.alloc());
     let names = [(b"\x08A".as_slice(), 3); 52];
     disc.write_directory(272, 1, &names)?;
-    assert_same(&rt, byte(&disc, 273, 56), Some(0x20));
-    assert_same(&rt, byte(&disc, 273, 57), Some(8));
-    assert_same(&rt, byte(&disc, 274, 2040), Some(1));
-    assert_same(&rt, byte(&disc, 275, 4), Some(2));
-    assert_same(&rt, byte(&disc, 275, 30), Some(8));
-    assert_same(&rt, byte(&disc, 275, 31), Some(0x41));
+    for &(n, at, want) in &LONG {
+        assert_eq!(rt; byte(&disc, n, at), Some(want), "{n}: {at}");
+    }
     Ok(())
 }

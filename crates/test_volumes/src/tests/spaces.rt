@@ -6,6 +6,6 @@ mod newest;
 mod packets;
 mod past_the_last;
 mod places;
-mod said;
+pub mod said;
 mod two_blocks;
 mod two_maps;

@@ -3,7 +3,7 @@
 mod differences;
 mod memory;
 mod profiles;
-mod said;
+pub mod said;
 mod sparable;
 mod texts;
 mod two_maps;

@@ -1,25 +1,29 @@
 //! Whole tables.
 
-use crate::tests::{assert_case, assert_same, assert_same_in};
+use super::steps::{Step, after};
+use crate::tests::{assert_case, assert_same};
 use std::alloc::Global;
 use std::test::Fail;
 use udfs_lattice::table::LAST_BLOCK;
 use udfs_lattice::{BlockTable, Fact, Join, TableError};
 
+/// Two passes, of which the second has another content of block 300.
+static FIRST: [Step; 3] = [
+    Step::Put(300, 0x61),
+    Step::Put(5, 0x62),
+    Step::IsRefused(LAST_BLOCK + 1),
+];
+
+static SECOND: [Step; 2] = [Step::Put(300, 0x62), Step::Put(LAST_BLOCK, 0x63)];
+
 #[test]
 fn joins_two_passes(rt: HostRuntime) -> Result<(), Fail> {
     let alloc = rt.alloc();
-    let mut table = BlockTable::new(alloc);
-    let mut other = BlockTable::new(alloc);
-    table.put(300, &[0x61; 2048])?;
-    table.put(5, &[0x62; 2048])?;
-    other.put(300, &[0x62; 2048])?;
-    other.put(LAST_BLOCK, &[0x63; 2048])?;
-    assert_same(&rt, table.put(LAST_BLOCK + 1, &[0; 2048]).is_err(), true);
+    let mut table = after(&rt, alloc, &FIRST)?;
+    let other = after(&rt, alloc, &SECOND)?;
     table.join(&other)?;
     table.join(&other)?;
-    assert_same(&rt, table.known(), 2);
-    assert_same(&rt, table.conflicts(), 1);
+    assert_same(&rt, (table.known(), table.conflicts()), (2, 1));
     let mut numbers = Vec::new(alloc);
     for (n, fact) in table.entries() {
         assert!(rt; fact == table.state(n));
@@ -32,29 +36,89 @@ fn joins_two_passes(rt: HostRuntime) -> Result<(), Fail> {
     Ok(())
 }
 
+/// Unknown blocks to the end of a packet.
+static AHEAD: [Step; 15] = [
+    Step::Put(70, 0x61),
+    Step::Dispute(95),
+    Step::Ahead(0, 32),
+    Step::Ahead(31, 1),
+    Step::Ahead(32, 32),
+    Step::Ahead(64, 6),
+    Step::Ahead(69, 1),
+    Step::Ahead(70, 0),
+    Step::Ahead(71, 24),
+    Step::Ahead(94, 1),
+    Step::Ahead(95, 0),
+    Step::Ahead(LAST_BLOCK, 1),
+    Step::Ahead(u32::MAX, 1),
+    Step::Forget(70),
+    Step::Ahead(64, 31),
+];
+
+/// Blocks are forgotten one by one.
+static FORGETTING: [Step; 17] = [
+    Step::Put(62, 0x61),
+    Step::Put(63, 0x62),
+    Step::Put(64, 0x63),
+    Step::Dispute(61),
+    Step::Dispute(60),
+    Step::Forget(63),
+    Step::Forget(61),
+    Step::Forget(5000),
+    Step::Forget(u32::MAX),
+    Step::Counts(2, 1),
+    Step::IsUnknown(63),
+    Step::IsUnknown(61),
+    Step::IsConflict(60),
+    Step::Is(62, 0x61),
+    Step::Is(64, 0x63),
+    Step::Put(61, 0x64),
+    Step::Is(61, 0x64),
+];
+
+/// Conflicts are forgotten, and lists of blocks.
+static FORGETTING_MANY: [Step; 19] = [
+    Step::Put(0, 0x61),
+    Step::Put(31, 0x61),
+    Step::Put(32, 0x61),
+    Step::Put(LAST_BLOCK, 0x61),
+    Step::Dispute(1),
+    Step::Dispute(32),
+    Step::Dispute(5000),
+    Step::Dispute(LAST_BLOCK),
+    Step::ForgetConflicts,
+    Step::Counts(2, 0),
+    Step::IsUnknown(LAST_BLOCK),
+    Step::Put(33, 0x62),
+    Step::Put(LAST_BLOCK, 0x62),
+    Step::ForgetAll(&[]),
+    Step::Counts(4, 0),
+    Step::ForgetAll(&[LAST_BLOCK, 0, 7, LAST_BLOCK + 1, 0]),
+    Step::Counts(2, 0),
+    Step::Is(31, 0x61),
+    Step::Is(33, 0x62),
+];
+
+/// States are added.
+static ADDING: [Step; 10] = [
+    Step::AddUnknown(7),
+    Step::Counts(0, 0),
+    Step::Add(7, 0x61),
+    Step::Counts(1, 0),
+    Step::Dispute(7),
+    Step::Put(7, 0x61),
+    Step::IsConflict(7),
+    Step::Dispute(8),
+    Step::Counts(0, 2),
+    Step::IsRefused(LAST_BLOCK + 1),
+];
+
 #[test]
-fn unknown_blocks_to_the_end_of_a_packet(rt: HostRuntime) -> Result<(), Fail> {
-    let mut table = BlockTable::new(rt.alloc());
-    table.put(70, &[0x61; 2048])?;
-    table.add(95, Fact::Conflict)?;
-    static AHEAD: [(u32, u32); 11] = [
-        (0, 32),
-        (31, 1),
-        (32, 32),
-        (64, 6),
-        (69, 1),
-        (70, 0),
-        (71, 24),
-        (94, 1),
-        (95, 0),
-        (LAST_BLOCK, 1),
-        (u32::MAX, 1),
-    ];
-    for &(n, want) in &AHEAD {
-        assert_same_in(&rt, table.unknown_ahead(n), want, n);
-    }
-    table.forget(70);
-    assert_same(&rt, table.unknown_ahead(64), 31);
+fn steps(rt: HostRuntime) -> Result<(), Fail> {
+    after(&rt, rt.alloc(), &AHEAD)?;
+    after(&rt, rt.alloc(), &FORGETTING)?;
+    after(&rt, rt.alloc(), &FORGETTING_MANY)?;
+    after(&rt, rt.alloc(), &ADDING)?;
     Ok(())
 }
 
@@ -106,73 +170,6 @@ fn a_refused_join_can_be_done_again(rt: HostRuntime) -> Result<(), Fail> {
     }
     assert_same(&rt, whole.conflicts(), 3);
     assert_same(&rt, whole.known(), 10);
-    Ok(())
-}
-
-#[test]
-fn forgets_one_block(rt: HostRuntime) -> Result<(), Fail> {
-    let mut table = BlockTable::new(rt.alloc());
-    table.put(62, &[0x61; 2048])?;
-    table.put(63, &[0x62; 2048])?;
-    table.put(64, &[0x63; 2048])?;
-    table.add(61, Fact::Conflict)?;
-    table.add(60, Fact::Conflict)?;
-    table.forget(63);
-    table.forget(61);
-    table.forget(5000);
-    table.forget(u32::MAX);
-    assert_same(&rt, table.known(), 2);
-    assert_same(&rt, table.conflicts(), 1);
-    assert!(rt; matches!(table.state(63), Fact::Unknown));
-    assert!(rt; matches!(table.state(61), Fact::Unknown));
-    assert!(rt; matches!(table.state(60), Fact::Conflict));
-    assert!(rt; matches!(table.state(62), Fact::Known(bytes) if bytes[0] == 0x61));
-    assert!(rt; matches!(table.state(64), Fact::Known(bytes) if bytes[0] == 0x63));
-    table.put(61, &[0x64; 2048])?;
-    assert!(rt; matches!(table.state(61), Fact::Known(_)));
-    Ok(())
-}
-
-#[test]
-fn forgets_conflicts_and_lists(rt: HostRuntime) -> Result<(), Fail> {
-    let mut table = BlockTable::new(rt.alloc());
-    static CASES: [u32; 4] = [0, 31, 32, LAST_BLOCK];
-    for &n in &CASES {
-        table.put(n, &[0x61; 2048])?;
-    }
-    static DISPUTED: [u32; 4] = [1, 32, 5000, LAST_BLOCK];
-    for &n in &DISPUTED {
-        table.add(n, Fact::Conflict)?;
-    }
-    table.forget_conflicts();
-    assert_same(&rt, table.conflicts(), 0);
-    assert_same(&rt, table.known(), 2);
-    assert!(rt; matches!(table.state(LAST_BLOCK), Fact::Unknown));
-    table.put(33, &[0x62; 2048])?;
-    table.put(LAST_BLOCK, &[0x62; 2048])?;
-    table.forget_all(&[]);
-    assert_same(&rt, table.known(), 4);
-    table.forget_all(&[LAST_BLOCK, 0, 7, LAST_BLOCK + 1, 0]);
-    assert_same(&rt, table.known(), 2);
-    assert!(rt; matches!(table.state(31), Fact::Known(bytes) if bytes[0] == 0x61));
-    assert!(rt; matches!(table.state(33), Fact::Known(bytes) if bytes[0] == 0x62));
-    Ok(())
-}
-
-#[test]
-fn adds_states(rt: HostRuntime) -> Result<(), Fail> {
-    let alloc = rt.alloc();
-    let mut table = BlockTable::new(alloc);
-    table.add(7, Fact::Unknown)?;
-    assert_same(&rt, table.known(), 0);
-    table.add(7, Fact::Known(&[0x61; 2048]))?;
-    assert_same(&rt, table.known(), 1);
-    table.add(7, Fact::Conflict)?;
-    table.put(7, &[0x61; 2048])?;
-    assert!(rt; matches!(table.state(7), Fact::Conflict));
-    table.add(8, Fact::Conflict)?;
-    assert_same(&rt, table.conflicts(), 2);
-    assert!(rt; table.add(LAST_BLOCK + 1, Fact::Conflict).is_err());
     Ok(())
 }
 

@@ -20,17 +20,24 @@ fn label_text(rt: &HostRuntime, front: &[u8], used: u8) -> Result<String, Fail> 
     Ok(text)
 }
 
+/// The front of the field, how many of its bytes are used, and what the label says.
+static LABELS: [(&[u8], u8, &str); 9] = [
+    (b"\x08TAPE", 0, ""),
+    (b"\x08TAPE", 5, "TAPE"),
+    (b"\x08TAPE", 3, "TA"),
+    (b"\x08.", 2, "\\u002E"),
+    (b"\x10\x00T", 3, "T"),
+    (b"\x08TAPE", 128, "(invalid)"),
+    (b"\x08TAPE", 1, "(invalid)"),
+    (b"\x09TAPE", 5, "(invalid)"),
+    (b"\x10\x00T", 2, "(invalid)"),
+];
+
 #[test]
 fn labels(rt: HostRuntime) -> Result<(), Fail> {
-    assert_text(&rt, label_text(&rt, b"\x08TAPE", 0)?, "");
-    assert_text(&rt, label_text(&rt, b"\x08TAPE", 5)?, "TAPE");
-    assert_text(&rt, label_text(&rt, b"\x08TAPE", 3)?, "TA");
-    assert_text(&rt, label_text(&rt, b"\x08.", 2)?, "\\u002E");
-    assert_text(&rt, label_text(&rt, b"\x10\x00T", 3)?, "T");
+    for &(front, used, expected) in &LABELS {
+        assert_text(&rt, label_text(&rt, front, used)?, expected);
+    }
     assert_eq!(rt; label_text(&rt, &[8; 127], 127)?.len(), 6 * 126);
-    assert_text(&rt, label_text(&rt, b"\x08TAPE", 128)?, "(invalid)");
-    assert_text(&rt, label_text(&rt, b"\x08TAPE", 1)?, "(invalid)");
-    assert_text(&rt, label_text(&rt, b"\x09TAPE", 5)?, "(invalid)");
-    assert_text(&rt, label_text(&rt, b"\x10\x00T", 2)?, "(invalid)");
     Ok(())
 }

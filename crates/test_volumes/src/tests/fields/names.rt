@@ -24,22 +24,6 @@ fn in_pieces(rt: &HostRuntime, bytes: &[u8]) -> Result<Vec<u8>, Fail> {
     Ok(text)
 }
 
-/// Plain units, an escaped one, one in a pair and one of two bytes; and dots.
-#[test]
-fn pieces_make_the_escaped_form(rt: HostRuntime) -> Result<(), Fail> {
-    static CASES: [(&[u8], &str); 4] = [
-        (b"\x08ab/c", "ab\\u002Fc"),
-        (b"\x10\xd8\x3d\xde\x00\x00a", "\u{1f600}a"),
-        (b"\x08\xe9", "\u{e9}"),
-        (b"\x08..", "\\u002E\\u002E"),
-    ];
-    for &(bytes, expected) in &CASES {
-        let text = in_pieces(&rt, bytes)?;
-        assert_same(&rt, text.as_slice(), expected.as_bytes());
-    }
-    Ok(())
-}
-
 fn fault_of(rt: &HostRuntime, bytes: &[u8]) -> Option<NameFault> {
     match Name::read(rt.alloc(), bytes) {
         Ok(_) => None,
@@ -47,47 +31,44 @@ fn fault_of(rt: &HostRuntime, bytes: &[u8]) -> Option<NameFault> {
     }
 }
 
-#[test]
-fn names_of_one_byte_a_unit(rt: HostRuntime) -> Result<(), Fail> {
-    static CASES: [(&[u8], &str); 9] = [
-        (b"\x08A file.txt", "A file.txt"),
-        (
-            b"\x080123456789012345678901234567890123456789012345678901234567890123456789/abcabcabcabcabcabcabcabcabcabcabcabcabcabcabcabcabcabcabcabcabcabcabcabcabcabcabcabcabcabc",
-            "0123456789012345678901234567890123456789012345678901234567890123456789\\u002Fabcabcabcabcabcabcabcabcabcabcabcabcabcabcabcabcabcabcabcabcabcabcabcabcabcabcabcabcabcabc",
-        ),
-        (b"\x08..", "\\u002E\\u002E"),
-        (b"\x08.", "\\u002E"),
-        (b"\x08...", "..."),
-        (b"\x08/", "\\u002F"),
-        (b"\x08\xe9", "\u{e9}"),
-        (b"\x08\x00\x1f\x20\x7e\x7f", "\\u0000\\u001F ~\\u007F"),
-        (b"\x08a\\b", "a\\u005Cb"),
-    ];
-    for &(bytes, text) in &CASES {
-        assert_text(&rt, escaped(&rt, bytes)?, text);
-    }
-    Ok(())
-}
+/// Names as they are recorded, of units of one byte and of two, and their escaped form.
+static NAMES: [(&[u8], &str); 21] = [
+    // plain units, an escaped one, one in a pair
+    (b"\x08ab/c", "ab\\u002Fc"),
+    (b"\x10\xd8\x3d\xde\x00\x00a", "\u{1f600}a"),
+    (b"\x08A file.txt", "A file.txt"),
+    (
+        b"\x080123456789012345678901234567890123456789012345678901234567890123456789/abcabcabcabcabcabcabcabcabcabcabcabcabcabcabcabcabcabcabcabcabcabcabcabcabcabcabcabcabcabc",
+        "0123456789012345678901234567890123456789012345678901234567890123456789\\u002Fabcabcabcabcabcabcabcabcabcabcabcabcabcabcabcabcabcabcabcabcabcabcabcabcabcabcabcabcabcabc",
+    ),
+    (b"\x08..", "\\u002E\\u002E"),
+    (b"\x08.", "\\u002E"),
+    (b"\x08...", "..."),
+    (b"\x08/", "\\u002F"),
+    (b"\x08\xe9", "\u{e9}"),
+    (b"\x08\x00\x1f\x20\x7e\x7f", "\\u0000\\u001F ~\\u007F"),
+    (b"\x08a\\b", "a\\u005Cb"),
+    (b"\x10\x00A", "A"),
+    (b"\x10\x00.\x00.", "\\u002E\\u002E"),
+    (b"\x10\x00\xe9\x4e\x2d", "\u{e9}\u{4e2d}"),
+    (
+        b"\x10\x00\x0a\x00/\x00\\\x00\x7f",
+        "\\u000A\\u002F\\u005C\\u007F",
+    ),
+    (b"\x10\xd8\x3d\xde\x00", "\u{1f600}"),
+    (b"\x10\xdb\xff\xdf\xff", "\u{10ffff}"),
+    (b"\x10\xd8\x00", "\\uD800"),
+    (b"\x10\xdc\x00\xd8\x00", "\\uDC00\\uD800"),
+    (b"\x10\xd8\x00\xd8\x00\xdc\x00", "\\uD800\u{10000}"),
+    (b"\x10\xff\xff\xe0\x00\xd7\xff", "\u{ffff}\u{e000}\u{d7ff}"),
+];
 
 #[test]
-fn names_of_two_bytes_a_unit(rt: HostRuntime) -> Result<(), Fail> {
-    static CASES: [(&[u8], &str); 10] = [
-        (b"\x10\x00A", "A"),
-        (b"\x10\x00.\x00.", "\\u002E\\u002E"),
-        (b"\x10\x00\xe9\x4e\x2d", "\u{e9}\u{4e2d}"),
-        (
-            b"\x10\x00\x0a\x00/\x00\\\x00\x7f",
-            "\\u000A\\u002F\\u005C\\u007F",
-        ),
-        (b"\x10\xd8\x3d\xde\x00", "\u{1f600}"),
-        (b"\x10\xdb\xff\xdf\xff", "\u{10ffff}"),
-        (b"\x10\xd8\x00", "\\uD800"),
-        (b"\x10\xdc\x00\xd8\x00", "\\uDC00\\uD800"),
-        (b"\x10\xd8\x00\xd8\x00\xdc\x00", "\\uD800\u{10000}"),
-        (b"\x10\xff\xff\xe0\x00\xd7\xff", "\u{ffff}\u{e000}\u{d7ff}"),
-    ];
-    for &(bytes, text) in &CASES {
-        assert_text(&rt, escaped(&rt, bytes)?, text);
+fn escaped_names(rt: HostRuntime) -> Result<(), Fail> {
+    for &(bytes, expected) in &NAMES {
+        assert_text(&rt, escaped(&rt, bytes)?, expected);
+        let pieces = in_pieces(&rt, bytes)?;
+        assert_same(&rt, pieces.as_slice(), expected.as_bytes());
     }
     Ok(())
 }

@@ -61,34 +61,29 @@ fn times(rt: HostRuntime) -> Result<(), Fail> {
     Ok(())
 }
 
+/// Times that no bytes tell, from the first that is printed to the last.
+static TIMES: [(Stamp, &str); 8] = [
+    (Stamp::Local(0), "1970-01-01T00:00:00.000000"),
+    (Stamp::Utc(-1), "1969-12-31T23:59:59.999999Z"),
+    (
+        Stamp::Utc(-62_167_219_200_000_000),
+        "0000-01-01T00:00:00.000000Z",
+    ),
+    (Stamp::Utc(-62_167_219_200_000_001), "invalid"),
+    (
+        Stamp::Utc(253_402_207_200_999_999),
+        "9999-12-30T22:00:00.999999Z",
+    ),
+    (Stamp::Utc(253_402_207_201_000_000), "invalid"),
+    (Stamp::Local(i64::MAX), "invalid"),
+    (Stamp::Utc(i64::MIN), "invalid"),
+];
+
 #[test]
 fn times_that_no_bytes_tell(rt: HostRuntime) -> Result<(), Fail> {
-    assert_text(
-        &rt,
-        printed(&rt, Stamp::Local(0))?,
-        "1970-01-01T00:00:00.000000",
-    );
-    assert_text(
-        &rt,
-        printed(&rt, Stamp::Utc(-1))?,
-        "1969-12-31T23:59:59.999999Z",
-    );
-    let first = -62_167_219_200_000_000;
-    assert_text(
-        &rt,
-        printed(&rt, Stamp::Utc(first))?,
-        "0000-01-01T00:00:00.000000Z",
-    );
-    assert_text(&rt, printed(&rt, Stamp::Utc(first - 1))?, "invalid");
-    let last = 253_402_207_200_999_999;
-    assert_text(
-        &rt,
-        printed(&rt, Stamp::Utc(last))?,
-        "9999-12-30T22:00:00.999999Z",
-    );
-    assert_text(&rt, printed(&rt, Stamp::Utc(last + 1))?, "invalid");
-    assert_text(&rt, printed(&rt, Stamp::Local(i64::MAX))?, "invalid");
-    assert_text(&rt, printed(&rt, Stamp::Utc(i64::MIN))?, "invalid");
+    for &(stamp, text) in &TIMES {
+        assert_text(&rt, printed(&rt, stamp)?, text);
+    }
     Ok(())
 }
 

@@ -1,275 +1,240 @@
 //! Bodies.
 
-use super::told::{cells, portions, stretches};
-use crate::tests::assert_text;
-use std::alloc::Global;
-use std::process::Abort;
+use crate::tests::rows::{Asked, OfBody, Row, check, check_disputed};
+use crate::tests::starts::Start;
 use std::test::Fail;
-use udfs_samples::{Bytes, Disc};
 
-/// Where these blocks of a disc are not known, the file at logical block 3 has these cells.
-fn assert_cells(
-    rt: &impl Abort,
-    alloc: Global,
-    disc: &Disc,
-    unread: &[u32],
-    expected: &str,
-) -> Result<(), Fail> {
-    let table = disc.known_but(alloc, unread)?;
-    assert_text(rt, cells(alloc, &table, 0, 3)?, expected);
-    Ok(())
-}
+/// The file at logical block 3 of the samples.
+const CELLS: Asked = Asked::Body(OfBody::Cells, 0, 3);
 
-/// Where these blocks of a disc are not known, the file at logical block 3 has these stretches.
-fn assert_stretches(
-    rt: &impl Abort,
-    alloc: Global,
-    disc: &Disc,
-    unread: &[u32],
-    expected: &str,
-) -> Result<(), Fail> {
-    let table = disc.known_but(alloc, unread)?;
-    assert_text(rt, stretches(alloc, &table, 0, 3)?, expected);
-    Ok(())
-}
+const STRETCHES: Asked = Asked::Body(OfBody::Stretches, 0, 3);
 
-/// Where these blocks of a disc are not known, the file at logical block 3 has these portions.
-fn assert_portions(
-    rt: &impl Abort,
-    alloc: Global,
-    disc: &Disc,
-    unread: &[u32],
-    expected: &str,
-) -> Result<(), Fail> {
-    let table = disc.known_but(alloc, unread)?;
-    assert_text(rt, portions(alloc, &table, 0, 3)?, expected);
-    Ok(())
-}
+const PORTIONS: Asked = Asked::Body(OfBody::Portions, 0, 3);
+
+/// The blocks that are not known, and the cells of the file then.
+static WHOLE: [Row; 1] = [(&[], &[], "cells 61*2048 62*2048 63*904")];
+
+static TORN: [Row; 2] = [
+    (&[], &[278], "cells 61*2048 ?278*2048 63*904"),
+    (&[], &[277, 279], "cells ?277*2048 62*2048 ?279*904"),
+];
 
 #[test]
-fn whole_bodies(rt: HostRuntime) -> Result<(), Fail> {
-    let alloc = rt.alloc();
-    let type1 = Disc::type1(alloc)?;
-    assert_cells(&rt, alloc, &type1, &[], "cells 61*2048 62*2048 63*904")?;
-    assert_stretches(&rt, alloc, &type1, &[], "body recorded 0:5+0 5000")?;
-    let both = Disc::two_maps(alloc)?;
-    assert_cells(&rt, alloc, &both, &[], "cells 61*2048 62*2048 63*904")?;
-    let sparable = Disc::sparable(alloc)?;
-    assert_cells(&rt, alloc, &sparable, &[], "cells 61*2048 62*2048 63*904")
+fn bytes_of_files(rt: HostRuntime) -> Result<(), Fail> {
+    check(&rt, rt.alloc(), Start::Type1, CELLS, &WHOLE)?;
+    check(&rt, rt.alloc(), Start::TwoMaps, CELLS, &WHOLE)?;
+    check(&rt, rt.alloc(), Start::Sparable, CELLS, &WHOLE)?;
+    check(&rt, rt.alloc(), Start::Type1, CELLS, &TORN)?;
+    let disputed: Row = (&[], &[], "cells 61*2048 ?278*2048 63*904");
+    check_disputed(&rt, rt.alloc(), Start::Type1, CELLS, 278, disputed)
 }
 
+/// Two bytes that are embedded in an entry; one of them where the information length is 3.
+static EMBEDDED_CELLS: [Row; 1] = [(&[], &[], "cells 48*1 69*1")];
+
+static EMBEDDED_STRETCHES: [Row; 2] = [
+    (&[], &[], "body recorded 0:4+176 2"),
+    (&[(276, 56, &[3])], &[], "fault 7 Short"),
+];
+
 #[test]
-fn whole_embedded_bodies(rt: HostRuntime) -> Result<(), Fail> {
-    let alloc = rt.alloc();
-    let table = Disc::type1(alloc)?.known_but(alloc, &[])?;
-    assert_text(&rt, cells(alloc, &table, 0, 4)?, "cells 48*1 69*1");
-    assert_text(
+fn embedded_bytes(rt: HostRuntime) -> Result<(), Fail> {
+    let cells = Asked::Body(OfBody::Cells, 0, 4);
+    check(&rt, rt.alloc(), Start::Type1, cells, &EMBEDDED_CELLS)?;
+    let cells = Asked::Body(OfBody::Cells, 1, 0);
+    check(&rt, rt.alloc(), Start::TwoMaps, cells, &EMBEDDED_CELLS)?;
+    let stretches = Asked::Body(OfBody::Stretches, 0, 4);
+    check(
         &rt,
-        stretches(alloc, &table, 0, 4)?,
-        "body recorded 0:4+176 2",
-    );
-    let both = Disc::two_maps(alloc)?.known_but(alloc, &[])?;
-    assert_text(&rt, cells(alloc, &both, 1, 0)?, "cells 48*1 69*1");
-    Ok(())
-}
-
-#[test]
-fn missing_blocks(rt: HostRuntime) -> Result<(), Fail> {
-    let alloc = rt.alloc();
-    let disc = Disc::type1(alloc)?;
-    assert_cells(&rt, alloc, &disc, &[278], "cells 61*2048 ?278*2048 63*904")?;
-    assert_cells(
-        &rt,
-        alloc,
-        &disc,
-        &[277, 279],
-        "cells ?277*2048 62*2048 ?279*904",
+        rt.alloc(),
+        Start::Type1,
+        stretches,
+        &EMBEDDED_STRETCHES,
     )
 }
 
+/// Blocks that follow one another are one run.
+static RUNS: [Row; 5] = [
+    (&[], &[], "portions bytes 2048 bytes 2048 bytes 904"),
+    (
+        &[],
+        &[278],
+        "portions bytes 2048 missing 278 to 278 2048 bytes 904",
+    ),
+    (
+        &[],
+        &[278, 279],
+        "portions bytes 2048 missing 278 to 279 2952",
+    ),
+    (&[], &[277, 278, 279], "portions missing 277 to 279 5000"),
+    // an extent of 4096 bytes that is allocated and not recorded
+    (
+        &[
+            (275, 56, &[0, 0x10]),
+            (275, 176, &[0, 0x10, 0, 0x40, 0, 0, 0, 0]),
+        ],
+        &[],
+        "portions zeros 4096",
+    ),
+];
+
+static RUNS_OF_A_CONTINUED_BODY: [Row; 1] = [(
+    &[],
+    &[278],
+    "portions bytes 2048 missing 278 to 278 2048",
+)];
+
 #[test]
-fn a_disputed_block_is_missing(rt: HostRuntime) -> Result<(), Fail> {
-    let alloc = rt.alloc();
-    let mut disputed = Disc::type1(alloc)?.known_but(alloc, &[])?;
-    disputed.put(278, &[0; 2048])?;
-    assert_text(
+fn portions(rt: HostRuntime) -> Result<(), Fail> {
+    check(&rt, rt.alloc(), Start::Type1, PORTIONS, &RUNS)?;
+    check(
         &rt,
-        cells(alloc, &disputed, 0, 3)?,
-        "cells 61*2048 ?278*2048 63*904",
-    );
-    Ok(())
+        rt.alloc(),
+        Start::Continued,
+        PORTIONS,
+        &RUNS_OF_A_CONTINUED_BODY,
+    )
 }
 
-#[test]
-fn portions_of_a_body(rt: HostRuntime) -> Result<(), Fail> {
-    let alloc = rt.alloc();
-    let disc = Disc::type1(alloc)?;
-    let whole = "portions bytes 2048 bytes 2048 bytes 904";
-    assert_portions(&rt, alloc, &disc, &[], whole)?;
-    let middle = "portions bytes 2048 missing 278 to 278 2048 bytes 904";
-    assert_portions(&rt, alloc, &disc, &[278], middle)?;
-    // Blocks that follow one another are one run.
-    let two = "portions bytes 2048 missing 278 to 279 2952";
-    assert_portions(&rt, alloc, &disc, &[278, 279], two)?;
-    let all = "portions missing 277 to 279 5000";
-    assert_portions(&rt, alloc, &disc, &[277, 278, 279], all)
-}
+/// The continued file: changes, the blocks that are not known, and the cells or the fault then.
+static CONTINUED: [Row; 8] = [
+    (&[], &[], "cells 61*2048 63*2048"),
+    (&[], &[278], "cells 61*2048 ?278*2048"),
+    (&[(278, 20, &[9])], &[], "fault 8 Chain"),
+    (&[(278, 20, &[0xe8, 7])], &[], "cells 61*2048 63*2048"),
+    (&[(278, 20, &[0xf0, 7])], &[], "fault 8 Chain"),
+    (&[(275, 184, &[1, 8])], &[], "fault 8 Chain"),
+    (&[(275, 188, &[0x2c, 1])], &[], "fault 6 Range"),
+    (&[(278, 24, &[0, 0, 0, 0])], &[], "fault 7 Short"),
+];
 
-/// An extent of 4096 bytes that is allocated and not recorded.
-#[test]
-fn portions_of_an_unrecorded_extent(rt: HostRuntime) -> Result<(), Fail> {
-    let alloc = rt.alloc();
-    let mut disc = Disc::type1(alloc)?;
-    disc.write(&[
-        (275, 56, &[0, 0x10]),
-        (275, 176, &[0, 0x10, 0, 0x40, 0, 0, 0, 0]),
-    ])?;
-    assert_portions(&rt, alloc, &disc, &[], "portions zeros 4096")
-}
-
-#[test]
-fn portions_of_a_continued_body(rt: HostRuntime) -> Result<(), Fail> {
-    let alloc = rt.alloc();
-    let disc = Disc::continued(alloc)?;
-    let expected = "portions bytes 2048 missing 278 to 278 2048";
-    assert_portions(&rt, alloc, &disc, &[278], expected)
-}
+/// The same, and the stretches then. A continuation that continues in itself, and one whose block has another tag.
+static CONTINUED_STRETCHES: [Row; 3] = [
+    (&[], &[278], "body recorded 0:5+0 2048 missing 278 2048"),
+    (
+        &[(278, 24, &[0, 8, 0, 0xc0, 6, 0, 0, 0])],
+        &[],
+        "fault 8 Chain",
+    ),
+    (
+        &[(278, 24, &[0, 8, 0, 0xc0, 6, 0, 0, 0]), (278, 0, &[3])],
+        &[],
+        "fault 8 Chain",
+    ),
+];
 
 #[test]
 fn continuations(rt: HostRuntime) -> Result<(), Fail> {
-    let alloc = rt.alloc();
-    let mut disc = Disc::continued(alloc)?;
-    assert_cells(&rt, alloc, &disc, &[], "cells 61*2048 63*2048")?;
-    assert_cells(&rt, alloc, &disc, &[278], "cells 61*2048 ?278*2048")?;
-    let missing = "body recorded 0:5+0 2048 missing 278 2048";
-    assert_stretches(&rt, alloc, &disc, &[278], missing)?;
-    disc.write(&[(278, 24, &[0, 8, 0, 0xc0, 6, 0, 0, 0])])?;
-    assert_stretches(&rt, alloc, &disc, &[], "fault 8 Chain")?;
-    disc.write(&[(278, 0, &[3])])?;
-    assert_stretches(&rt, alloc, &disc, &[], "fault 8 Chain")
+    check(&rt, rt.alloc(), Start::Continued, CELLS, &CONTINUED)?;
+    check(
+        &rt,
+        rt.alloc(),
+        Start::Continued,
+        STRETCHES,
+        &CONTINUED_STRETCHES,
+    )
 }
 
-/// The continued file: a change, and what is then said of it.
-static CONTINUED: [(Bytes, &str); 6] = [
-    ((278, 20, &[9]), "fault 8 Chain"),
-    ((278, 20, &[0xe8, 7]), "cells 61*2048 63*2048"),
-    ((278, 20, &[0xf0, 7]), "fault 8 Chain"),
-    ((275, 184, &[1, 8]), "fault 8 Chain"),
-    ((275, 188, &[0x2c, 1]), "fault 6 Range"),
-    ((278, 24, &[0, 0, 0, 0]), "fault 7 Short"),
-];
+/// Changes, the blocks that are not known, and the stretches then.
+static STRETCHES_TOLD: [Row; 14] = [
+    (&[], &[], "body recorded 0:5+0 5000"),
 
-#[test]
-fn continuation_faults(rt: HostRuntime) -> Result<(), Fail> {
-    let alloc = rt.alloc();
-    for &(change, expected) in &CONTINUED {
-        let mut disc = Disc::continued(alloc)?;
-        disc.write(&[change])?;
-        assert_cells(&rt, alloc, &disc, &[], expected)?;
-    }
-    Ok(())
-}
-
-/// The file at logical block 3 with block 278 unread: two changes, and what is then said of it.
-static UNREAD: [(Bytes, Bytes, &str); 4] = [
     // A file of length 0 whose only descriptor continues in the unread block.
-    ((275, 56, &[0, 0]), (275, 176, &[0, 8, 0, 0xc0, 6]), "body"),
+    (
+        &[(275, 56, &[0, 0]), (275, 176, &[0, 8, 0, 0xc0, 6])],
+        &[278],
+        "body",
+    ),
+
     // The block after the information length is not needed.
     (
-        (275, 56, &[0, 8]),
-        (275, 176, &[0, 0x10, 0, 0, 5]),
+        &[(275, 56, &[0, 8]), (275, 176, &[0, 0x10, 0, 0, 5])],
+        &[278],
         "body recorded 0:5+0 2048",
     ),
     (
-        (275, 56, &[0, 0x10]),
-        (275, 176, &[0, 0x10, 0, 0x40, 0, 0, 0, 0]),
+        &[
+            (275, 56, &[0, 0x10]),
+            (275, 176, &[0, 0x10, 0, 0x40, 0, 0, 0, 0]),
+        ],
+        &[278],
         "body zeros 4096",
     ),
     (
-        (275, 56, &[0xff; 8]),
-        (275, 176, &[0, 8, 0, 0xc0, 6, 0, 0, 0]),
+        &[
+            (275, 56, &[0xff; 8]),
+            (275, 176, &[0, 8, 0, 0xc0, 6, 0, 0, 0]),
+        ],
+        &[278],
         "body missing 278 18446744073709551615",
     ),
-];
-
-#[test]
-fn unneeded_blocks(rt: HostRuntime) -> Result<(), Fail> {
-    let alloc = rt.alloc();
-    for &(first, second, expected) in &UNREAD {
-        let mut disc = Disc::type1(alloc)?;
-        disc.write(&[first, second])?;
-        assert_stretches(&rt, alloc, &disc, &[278], expected)?;
-    }
-    Ok(())
-}
-
-/// The file at logical block 3, all known: two changes, and what is then said of it.
-static FAULTS: [(Bytes, Bytes, &str); 9] = [
     (
-        (275, 56, &[0, 0x10]),
-        (275, 176, &[0, 0x10, 0, 0, 0x2b, 1]),
+        &[(275, 56, &[0, 0x10]), (275, 176, &[0, 0x10, 0, 0, 0x2b, 1])],
+        &[],
         "fault 6 Range",
     ),
     (
-        (275, 56, &[0, 0x10]),
-        (275, 176, &[0, 0x10, 0, 0, 0x2a, 1]),
+        &[(275, 56, &[0, 0x10]), (275, 176, &[0, 0x10, 0, 0, 0x2a, 1])],
+        &[],
         "body recorded 0:298+0 4096",
     ),
     (
-        (275, 56, &[0xc8, 0]),
-        (
-            275,
-            172,
-            &[0x10, 0, 0, 0, 0x64, 0, 0, 0, 5, 0, 0, 0, 0x64, 0, 0, 0, 6],
-        ),
+        &[
+            (275, 56, &[0xc8, 0]),
+            (
+                275,
+                172,
+                &[0x10, 0, 0, 0, 0x64, 0, 0, 0, 5, 0, 0, 0, 0x64, 0, 0, 0, 6],
+            ),
+        ],
+        &[],
         "fault 9 Odd",
     ),
     (
-        (275, 56, &[0xff; 8]),
-        (275, 176, &[0, 0x10, 0, 0]),
+        &[(275, 56, &[0xff; 8]), (275, 176, &[0, 0x10, 0, 0])],
+        &[],
         "fault 7 Short",
     ),
-    ((275, 56, &[0xff; 8]), (275, 176, &[0x88]), "fault 9 Odd"),
     (
-        (275, 56, &[0x88]),
-        (275, 176, &[0, 0, 0, 0]),
+        &[(275, 56, &[0xff; 8]), (275, 176, &[0x88])],
+        &[],
+        "fault 9 Odd",
+    ),
+    (
+        &[(275, 56, &[0x88]), (275, 176, &[0, 0, 0, 0])],
+        &[],
         "fault 7 Short",
     ),
-    ((275, 56, &[0x88]), (275, 172, &[0]), "fault 7 Short"),
+    (
+        &[(275, 56, &[0x88]), (275, 172, &[0])],
+        &[],
+        "fault 7 Short",
+    ),
+
     // A long descriptor of another partition, and one that is not recorded, whose reference decides nothing.
     (
-        (275, 34, &[1]),
-        (275, 172, &[0x10, 0, 0, 0, 0x88, 0x13, 0, 0, 5, 0, 0, 0, 1]),
+        &[
+            (275, 34, &[1]),
+            (275, 172, &[0x10, 0, 0, 0, 0x88, 0x13, 0, 0, 5, 0, 0, 0, 1]),
+        ],
+        &[],
         "fault 5 Reference",
     ),
     (
-        (275, 34, &[1]),
-        (
-            275,
-            172,
-            &[0x10, 0, 0, 0, 0x88, 0x13, 0, 0x40, 5, 0, 0, 0, 1],
-        ),
+        &[
+            (275, 34, &[1]),
+            (
+                275,
+                172,
+                &[0x10, 0, 0, 0, 0x88, 0x13, 0, 0x40, 5, 0, 0, 0, 1],
+            ),
+        ],
+        &[],
         "body zeros 5000",
     ),
 ];
 
 #[test]
-fn body_faults(rt: HostRuntime) -> Result<(), Fail> {
-    let alloc = rt.alloc();
-    for &(first, second, expected) in &FAULTS {
-        let mut disc = Disc::type1(alloc)?;
-        disc.write(&[first, second])?;
-        assert_stretches(&rt, alloc, &disc, &[], expected)?;
-    }
-    Ok(())
-}
-
-#[test]
-fn short_embedded_body(rt: HostRuntime) -> Result<(), Fail> {
-    let alloc = rt.alloc();
-    let mut disc = Disc::type1(alloc)?;
-    disc.write(&[(276, 56, &[3])])?;
-    let table = disc.known_but(alloc, &[])?;
-    assert_text(&rt, stretches(alloc, &table, 0, 4)?, "fault 7 Short");
-    Ok(())
+fn stretches(rt: HostRuntime) -> Result<(), Fail> {
+    check(&rt, rt.alloc(), Start::Type1, STRETCHES, &STRETCHES_TOLD)
 }

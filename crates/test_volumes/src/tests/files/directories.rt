@@ -1,326 +1,268 @@
 //! Directories.
 
-use super::told::{end, front, steps, within};
-use crate::tests::assert_text;
-use std::alloc::{AllocError, Global};
-use std::process::Abort;
+use crate::tests::rows::{Asked, OfBody, Row, check};
+use crate::tests::starts::Start;
 use std::test::Fail;
-use udfs_file::Pieces;
-use udfs_lattice::BlockTable;
-use udfs_samples::{Bytes, Disc};
+use udfs_samples::Bytes;
 
-/// Where these blocks of a disc are not known, the root lists this.
-fn assert_front(
-    rt: &impl Abort,
-    alloc: Global,
-    disc: &Disc,
-    unread: &[u32],
-    expected: &str,
-) -> Result<(), Fail> {
-    let table = disc.known_but(alloc, unread)?;
-    assert_text(rt, front(alloc, &table, 0, 1)?, expected);
-    Ok(())
-}
+/// What the root lists.
+const FRONT: Asked = Asked::Body(OfBody::Front, 0, 1);
+
+/// An identifier of 2048 bytes.
+const LONGEST: [Bytes; 8] = [
+    (274, 0, &[0; 2048]),
+    (274, 0, &[1, 1, 2, 0, 6, 0, 0, 0, 0, 0, 0, 0, 2]),
+    (273, 56, &[0, 8]),
+    (273, 176, &[0, 8]),
+    (274, 16, &[1, 0, 0, 2]),
+    (274, 20, &[0, 8, 0, 0, 3]),
+    (274, 36, &[0xd8, 7]),
+    (274, 2046, b"\x08A"),
+];
+
+/// An embedded identifier whose tag says that it is in logical block 1, and one whose tag says 2.
+const EMBEDDED: [Bytes; 6] = [
+    (273, 34, &[3]),
+    (273, 56, &[40]),
+    (273, 172, &[40]),
+    (273, 192, &[1, 0, 0, 2, 0, 8, 0, 0, 3]),
+    (273, 212, &[0, 0, 8, 65]),
+    (273, 176, &[1, 1, 2, 0, 5, 0, 0, 0, 0, 0, 0, 0, 1, 0, 0, 0]),
+];
+
+const EMBEDDED_ELSEWHERE: [Bytes; 6] = [
+    (273, 34, &[3]),
+    (273, 56, &[40]),
+    (273, 172, &[40]),
+    (273, 192, &[1, 0, 0, 2, 0, 8, 0, 0, 3]),
+    (273, 212, &[0, 0, 8, 65]),
+    (273, 176, &[1, 1, 2, 0, 6, 0, 0, 0, 0, 0, 0, 0, 2, 0, 0, 0]),
+];
+
+/// Changes, the blocks that are not known, and what the root lists then.
+static CHANGES: [Row; 16] = [
+    (&[], &[], "front A 0:3 B 0:4"),
+    (&[], &[274], "front missing 274"),
+
+    // Deleted, with a malformed name.
+    (&[(274, 58, &[4]), (274, 78, &[9])], &[], "front B 0:4"),
+    (
+        &[(274, 58, &[0]), (274, 78, &[9])],
+        &[],
+        "front fault 11 Name",
+    ),
+    (&[(274, 58, &[8]), (274, 78, &[9])], &[], "front B 0:4"),
+    (
+        &[(274, 58, &[3]), (274, 119, b"A")],
+        &[],
+        "front A 0:3 A 0:4",
+    ),
+    (
+        &[(274, 58, &[0xf3]), (274, 119, b"B")],
+        &[],
+        "front A 0:3 B 0:4",
+    ),
+    (
+        &[(274, 58, &[0]), (274, 108, &[1])],
+        &[],
+        "front A 0:3 B 1:4",
+    ),
+    (
+        &[(274, 58, &[0]), (274, 80, &[2])],
+        &[],
+        "front A 0:3 fault 10 IdentifierTag",
+    ),
+    (
+        &[(274, 84, &[7]), (274, 92, &[3])],
+        &[],
+        "front A 0:3 fault 10 IdentifierTag",
+    ),
+    (
+        &[(273, 56, &[0x77]), (274, 119, b"B")],
+        &[],
+        "front A 0:3 fault 12 Cut",
+    ),
+    // one identifier that takes the block, and one that goes on
+    (&LONGEST, &[], "front A 0:3"),
+    (
+        &[
+            (274, 0, &[0; 2048]),
+            (274, 0, &[1, 1, 2, 0, 6, 0, 0, 0, 0, 0, 0, 0, 2]),
+            (273, 56, &[4, 8]),
+            (273, 176, &[4, 8]),
+            (274, 16, &[1, 0, 0, 2]),
+            (274, 20, &[0, 8, 0, 0, 3]),
+            (274, 36, &[0xd9, 7]),
+            (274, 2046, b"\x08A"),
+        ],
+        &[],
+        "front fault 12 Cut",
+    ),
+    // zeros that are not recorded end at their first byte, however many
+    (
+        &[
+            (273, 56, &[0, 0xf8, 0xff, 0x3f]),
+            (273, 176, &[0, 0xf8, 0xff, 0x7f]),
+        ],
+        &[],
+        "front fault 10 IdentifierTag",
+    ),
+    // one identifier that is embedded in its entry, which is in logical block 1
+    (&EMBEDDED, &[], "front A 0:3"),
+    (&EMBEDDED_ELSEWHERE, &[], "front fault 10 IdentifierTag"),
+];
+
+/// The root of two maps; and a file of 2 bytes, which is no directory.
+static OF_TWO_MAPS: [Row; 1] = [(&[], &[], "front A 0:3 B 1:0")];
+
+static OF_A_FILE: [Row; 1] = [(&[], &[], "front fault 12 Cut")];
 
 #[test]
 fn fronts(rt: HostRuntime) -> Result<(), Fail> {
-    let alloc = rt.alloc();
-    let disc = Disc::type1(alloc)?;
-    assert_front(&rt, alloc, &disc, &[], "front A 0:3 B 0:4")?;
-    assert_front(&rt, alloc, &disc, &[274], "front missing 274")?;
-    let both = Disc::two_maps(alloc)?;
-    assert_front(&rt, alloc, &both, &[], "front A 0:3 B 1:0")
+    check(&rt, rt.alloc(), Start::Type1, FRONT, &CHANGES)?;
+    check(&rt, rt.alloc(), Start::TwoMaps, FRONT, &OF_TWO_MAPS)?;
+    let of_a_file = Asked::Body(OfBody::Front, 0, 4);
+    check(&rt, rt.alloc(), Start::Type1, of_a_file, &OF_A_FILE)
 }
 
-/// A file of 2 bytes is no directory.
-#[test]
-fn front_of_a_file(rt: HostRuntime) -> Result<(), Fail> {
-    let alloc = rt.alloc();
-    let table = Disc::type1(alloc)?.known_but(alloc, &[])?;
-    assert_text(&rt, front(alloc, &table, 0, 4)?, "front fault 12 Cut");
-    Ok(())
-}
-
-/// The directory's block: two changes, and what the root then lists.
-static CHANGES: [(Bytes, Bytes, &str); 9] = [
-    // Deleted, with a malformed name.
-    ((274, 58, &[4]), (274, 78, &[9]), "front B 0:4"),
-    ((274, 58, &[0]), (274, 78, &[9]), "front fault 11 Name"),
-    ((274, 58, &[8]), (274, 78, &[9]), "front B 0:4"),
-    ((274, 58, &[3]), (274, 119, b"A"), "front A 0:3 A 0:4"),
-    ((274, 58, &[0xf3]), (274, 119, b"B"), "front A 0:3 B 0:4"),
-    ((274, 58, &[0]), (274, 108, &[1]), "front A 0:3 B 1:4"),
-    (
-        (274, 58, &[0]),
-        (274, 80, &[2]),
-        "front A 0:3 fault 10 IdentifierTag",
-    ),
-    (
-        (274, 84, &[7]),
-        (274, 92, &[3]),
-        "front A 0:3 fault 10 IdentifierTag",
-    ),
-    (
-        (273, 56, &[0x77]),
-        (274, 119, b"B"),
-        "front A 0:3 fault 12 Cut",
-    ),
+/// 52 identifiers in two blocks that lie side by side, and in two that do not; and one whose tag says that it is in the other block.
+static NAMES: [Row; 2] = [
+    (&[], &[], "front A 0:3 *51 B 0:4"),
+    (&[], &[275], "front A 0:3 *51 missing 275"),
 ];
 
-#[test]
-fn changed_directories(rt: HostRuntime) -> Result<(), Fail> {
-    let alloc = rt.alloc();
-    for &(first, second, expected) in &CHANGES {
-        let mut disc = Disc::type1(alloc)?;
-        disc.write(&[first, second])?;
-        assert_front(&rt, alloc, &disc, &[], expected)?;
-    }
-    Ok(())
-}
+static MISPLACED_NAMES: [Row; 1] = [(&[], &[], "front A 0:3 *51 fault 10 IdentifierTag")];
 
-#[test]
-fn longest_identifier(rt: HostRuntime) -> Result<(), Fail> {
-    let alloc = rt.alloc();
-    let mut disc = Disc::type1(alloc)?;
-    disc.fill(274, 0)?;
-    disc.write_tag(274, 0, 257, 2)?;
-    disc.write(&[
-        (273, 56, &[0, 8]),
-        (273, 176, &[0, 8]),
-        (274, 16, &[1, 0, 0, 2]),
-        (274, 20, &[0, 8, 0, 0, 3]),
-        (274, 36, &[0xd8, 7]),
-        (274, 2046, b"\x08A"),
-    ])?;
-    assert_front(&rt, alloc, &disc, &[], "front A 0:3")?;
-    disc.write(&[(273, 56, &[4, 8]), (273, 176, &[4, 8]), (274, 36, &[0xd9])])?;
-    assert_front(&rt, alloc, &disc, &[], "front fault 12 Cut")
-}
-
-/// `word`, then `part` 51 times, and then `last`.
-fn repeated(alloc: Global, word: &str, part: &str, last: &str) -> Result<String, AllocError> {
-    let mut text = String::from_str(alloc, word)?;
-    for _ in 0..51 {
-        text.push_str(part)?;
-    }
-    text.push_str(last)?;
-    Ok(text)
-}
-
-/// Where these blocks of a disc are not known, the root lists 51 times the first file, and then this.
-fn assert_long_front(
-    rt: &impl Abort,
-    alloc: Global,
-    disc: &Disc,
-    unread: &[u32],
-    last: &str,
-) -> Result<(), Fail> {
-    let expected = repeated(alloc, "front", " A 0:3", last)?;
-    assert_front(rt, alloc, disc, unread, expected.as_str())
-}
-
-/// The tag of an identifier in logical block 2, and that of one in logical block 3.
-const TAGS: [[u8; 16]; 2] = [
-    [1, 1, 2, 0, 6, 0, 0, 0, 0, 0, 0, 0, 2, 0, 0, 0],
-    [1, 1, 2, 0, 7, 0, 0, 0, 0, 0, 0, 0, 3, 0, 0, 0],
+/// An identifier whose last 32 bytes are not recorded is wrong whatever the checksum: they are zeros, and so is the location in its tag,
+/// though its first byte is in logical block 2.
+static NAMES_APART: [Row; 5] = [
+    (&[], &[], "front A 0:3 *51 B 0:4"),
+    (&[], &[282], "front A 0:3 *51 missing 282"),
+    (&[], &[274], "front missing 274"),
+    (
+        &[(273, 187, &[0x40]), (274, 2044, &[6])],
+        &[],
+        "front A 0:3 *51 fault 10 IdentifierTag",
+    ),
+    (
+        &[(273, 187, &[0x40]), (274, 2044, &[4])],
+        &[],
+        "front A 0:3 *51 fault 10 IdentifierTag",
+    ),
 ];
-
-/// A root directory of 52 identifiers of 40 bytes in two blocks, the last of them in both.
-fn two_blocks(alloc: Global, last_tag: &[u8; 16]) -> Result<Disc, AllocError> {
-    in_blocks(alloc, last_tag, 275)
-}
-
-/// The same, with the last 32 bytes in a block of their own.
-fn in_blocks(alloc: Global, last_tag: &[u8; 16], second: u32) -> Result<Disc, AllocError> {
-    let mut disc = Disc::type1(alloc)?;
-    disc.fill(274, 0)?;
-    disc.fill(second, 0)?;
-    disc.write(&[(273, 56, &[0x20, 8]), (273, 176, &[0x20, 8])])?;
-    for i in 0..51usize {
-        let at = i.wrapping_mul(40);
-        disc.write_at(274, at, &TAGS[0])?;
-        disc.write_at(274, at.wrapping_add(16), &[1, 0, 0, 2, 0, 8, 0, 0, 3])?;
-        disc.write_at(274, at.wrapping_add(38), b"\x08A")?;
-    }
-    disc.write_at(274, 2040, &last_tag[..8])?;
-    disc.write_at(second, 0, &last_tag[8..])?;
-    disc.write_at(second, 8, &[1, 0, 0, 2, 0, 8, 0, 0, 4])?;
-    disc.write_at(second, 30, b"\x08B")?;
-    Ok(disc)
-}
 
 #[test]
 fn identifiers_in_two_blocks(rt: HostRuntime) -> Result<(), Fail> {
-    let alloc = rt.alloc();
-    let disc = two_blocks(alloc, &TAGS[0])?;
-    assert_long_front(&rt, alloc, &disc, &[], " B 0:4")?;
-    assert_long_front(&rt, alloc, &disc, &[275], " missing 275")?;
-    let elsewhere = two_blocks(alloc, &TAGS[1])?;
-    assert_long_front(&rt, alloc, &elsewhere, &[], " fault 10 IdentifierTag")
+    check(&rt, rt.alloc(), Start::Names, FRONT, &NAMES)?;
+    check(
+        &rt,
+        rt.alloc(),
+        Start::MisplacedNames,
+        FRONT,
+        &MISPLACED_NAMES,
+    )?;
+    check(&rt, rt.alloc(), Start::NamesApart, FRONT, &NAMES_APART)
 }
 
-/// Asserts that with at most `most` entries the root's front, or the reason that it has no front, is `expected`.
-fn assert_within(
-    rt: &impl Abort,
-    alloc: Global,
-    table: &BlockTable,
-    most: usize,
-    expected: &str,
-) -> Result<(), Fail> {
-    assert_text(rt, within(alloc, table, 1, most)?, expected);
-    Ok(())
-}
+/// Of 52 entries, of 51 where the second block is not known, and of none where the first is not: those that a limit allows.
+static WITHIN_52: [Row; 1] = [(&[], &[], "front A 0:3 *51 B 0:4")];
 
-/// The root has 52 entries: a limit of 52 gives them all, and limits of 51 and of 0 are too low.
-#[test]
-fn fronts_within(rt: HostRuntime) -> Result<(), Fail> {
-    let alloc = rt.alloc();
-    let table = two_blocks(alloc, &TAGS[0])?.known_but(alloc, &[])?;
-    let whole = repeated(alloc, "front", " A 0:3", " B 0:4")?;
-    assert_within(&rt, alloc, &table, 52, whole.as_str())?;
-    assert_within(&rt, alloc, &table, 51, "too many entries")?;
-    assert_within(&rt, alloc, &table, 0, "too many entries")
-}
-
-/// The same where the second block is not known, which leaves 51 entries, and where the first is not, which leaves none.
-#[test]
-fn torn_fronts_within(rt: HostRuntime) -> Result<(), Fail> {
-    let alloc = rt.alloc();
-    let disc = two_blocks(alloc, &TAGS[0])?;
-    let unread = disc.known_but(alloc, &[275])?;
-    let stopped = repeated(alloc, "front", " A 0:3", " missing 275")?;
-    assert_within(&rt, alloc, &unread, 51, stopped.as_str())?;
-    assert_within(&rt, alloc, &unread, 50, "too many entries")?;
-    let first = disc.known_but(alloc, &[274])?;
-    assert_within(&rt, alloc, &first, 0, "front missing 274")
-}
-
-/// Where these blocks of a disc are not known, this says whether the directory lists anything, and how it ends.
-fn assert_end(
-    rt: &impl Abort,
-    alloc: Global,
-    disc: &Disc,
-    unread: &[u32],
-    b: u32,
-    expected: &str,
-) -> Result<(), Fail> {
-    let table = disc.known_but(alloc, unread)?;
-    assert_text(rt, end(alloc, &table, b)?, expected);
-    Ok(())
-}
-
-/// Whether a directory lists anything, and how it ends: with a file, without one, wrong and not known.
-#[test]
-fn ends(rt: HostRuntime) -> Result<(), Fail> {
-    let alloc = rt.alloc();
-    let mut disc = Disc::type1(alloc)?;
-    assert_end(&rt, alloc, &disc, &[], 1, "some")?;
-    assert_end(&rt, alloc, &disc, &[], 4, "none fault 12 Cut")?;
-    assert_end(&rt, alloc, &disc, &[274], 1, "none missing 274")?;
-    // The first entry is deleted, and then the second too.
-    disc.write(&[(274, 58, &[4])])?;
-    assert_end(&rt, alloc, &disc, &[], 1, "some")?;
-    disc.write(&[(274, 98, &[4])])?;
-    assert_end(&rt, alloc, &disc, &[], 1, "none")
-}
-
-/// The same where a directory of two blocks is not known to its end, and where it is wrong there.
-#[test]
-fn ends_of_two_blocks(rt: HostRuntime) -> Result<(), Fail> {
-    let alloc = rt.alloc();
-    let two = two_blocks(alloc, &TAGS[0])?;
-    assert_end(&rt, alloc, &two, &[275], 1, "some missing 275")?;
-    let broken = two_blocks(alloc, &TAGS[1])?;
-    assert_end(&rt, alloc, &broken, &[], 1, "some fault 10 IdentifierTag")
-}
-
-/// A directory of zeros that are not recorded ends at its first byte, however long it is.
-#[test]
-fn unrecorded_directory(rt: HostRuntime) -> Result<(), Fail> {
-    let alloc = rt.alloc();
-    let mut disc = Disc::type1(alloc)?;
-    disc.write(&[
-        (273, 56, &[0, 0xf8, 0xff, 0x3f]),
-        (273, 176, &[0, 0xf8, 0xff, 0x7f]),
-    ])?;
-    assert_front(&rt, alloc, &disc, &[], "front fault 10 IdentifierTag")
-}
-
-/// Two extents: logical block 2, and 32 bytes of logical block 10, which is block 282.
-const APART: [Bytes; 3] = [
-    (273, 172, &[16]),
-    (273, 176, &[0, 8, 0, 0, 2, 0, 0, 0]),
-    (273, 184, &[32, 0, 0, 0, 10, 0, 0, 0]),
+static WITHIN_51: [Row; 2] = [
+    (&[], &[], "too many entries"),
+    (&[], &[275], "front A 0:3 *51 missing 275"),
 ];
 
-/// An identifier in two extents that do not lie side by side.
+static WITHIN_50: [Row; 1] = [(&[], &[275], "too many entries")];
+
+static WITHIN_0: [Row; 2] = [
+    (&[], &[], "too many entries"),
+    (&[], &[274], "front missing 274"),
+];
+
 #[test]
-fn identifiers_in_two_extents(rt: HostRuntime) -> Result<(), Fail> {
-    let alloc = rt.alloc();
-    let mut disc = in_blocks(alloc, &TAGS[0], 282)?;
-    disc.write(&APART)?;
-    assert_long_front(&rt, alloc, &disc, &[], " B 0:4")?;
-    assert_long_front(&rt, alloc, &disc, &[282], " missing 282")?;
-    assert_front(&rt, alloc, &disc, &[274], "front missing 274")
+fn fronts_within(rt: HostRuntime) -> Result<(), Fail> {
+    check(
+        &rt,
+        rt.alloc(),
+        Start::Names,
+        Asked::Body(OfBody::Within(52), 0, 1),
+        &WITHIN_52,
+    )?;
+    check(
+        &rt,
+        rt.alloc(),
+        Start::Names,
+        Asked::Body(OfBody::Within(51), 0, 1),
+        &WITHIN_51,
+    )?;
+    check(
+        &rt,
+        rt.alloc(),
+        Start::Names,
+        Asked::Body(OfBody::Within(50), 0, 1),
+        &WITHIN_50,
+    )?;
+    check(
+        &rt,
+        rt.alloc(),
+        Start::Names,
+        Asked::Body(OfBody::Within(0), 0, 1),
+        &WITHIN_0,
+    )
 }
 
-/// An identifier whose last 32 bytes are not recorded: they are zeros, and so is the location in its tag, though
-/// its first byte is in logical block 2. It is wrong whatever the checksum.
-#[test]
-fn identifier_ends_in_zeros(rt: HostRuntime) -> Result<(), Fail> {
-    let alloc = rt.alloc();
-    for checksum in [6u8, 4] {
-        let mut disc = in_blocks(alloc, &TAGS[0], 282)?;
-        disc.write(&APART)?;
-        disc.write(&[(273, 187, &[0x40])])?;
-        disc.write_at(274, 2044, &[checksum])?;
-        assert_long_front(&rt, alloc, &disc, &[], " fault 10 IdentifierTag")?;
-    }
-    Ok(())
-}
+/// Whether the root lists anything, and how it ends: with a file, without one, not known and wrong.
+static ENDS: [Row; 4] = [
+    (&[], &[], "some"),
+    (&[], &[274], "none missing 274"),
+    // the first entry is deleted, and then the second too
+    (&[(274, 58, &[4])], &[], "some"),
+    (&[(274, 58, &[4]), (274, 98, &[4])], &[], "none"),
+];
 
-/// A directory of one identifier that is embedded in its entry, which is in logical block 1.
-#[test]
-fn embedded_directory(rt: HostRuntime) -> Result<(), Fail> {
-    let alloc = rt.alloc();
-    for (location, expected) in [(1, "front A 0:3"), (2, "front fault 10 IdentifierTag")] {
-        let mut disc = Disc::type1(alloc)?;
-        disc.write(&[
-            (273, 34, &[3]),
-            (273, 56, &[40]),
-            (273, 172, &[40]),
-            (273, 192, &[1, 0, 0, 2, 0, 8, 0, 0, 3]),
-            (273, 212, &[0, 0, 8, 65]),
-        ])?;
-        disc.write_tag(273, 176, 257, location)?;
-        assert_front(&rt, alloc, &disc, &[], expected)?;
-    }
-    Ok(())
-}
+static END_OF_A_FILE: [Row; 1] = [(&[], &[], "none fault 12 Cut")];
 
-/// Where these blocks of a disc are not known, `count` steps through the root are 51 identifiers, and then `last`.
-fn assert_steps(
-    rt: &impl Abort,
-    alloc: Global,
-    disc: &Disc,
-    unread: &[u32],
-    count: usize,
-    last: &str,
-) -> Result<(), Fail> {
-    let table = disc.known_but(alloc, unread)?;
-    let expected = repeated(alloc, "steps", " 40+0", last)?;
-    assert_text(rt, steps(alloc, &table, 1, count)?, expected.as_str());
-    Ok(())
+static ENDS_OF_NAMES: [Row; 1] = [(&[], &[275], "some missing 275")];
+
+static ENDS_OF_MISPLACED_NAMES: [Row; 1] = [(&[], &[], "some fault 10 IdentifierTag")];
+
+#[test]
+fn ends(rt: HostRuntime) -> Result<(), Fail> {
+    let end = Asked::Body(OfBody::End, 0, 1);
+    check(&rt, rt.alloc(), Start::Type1, end, &ENDS)?;
+    let of_a_file = Asked::Body(OfBody::End, 0, 4);
+    check(&rt, rt.alloc(), Start::Type1, of_a_file, &END_OF_A_FILE)?;
+    check(&rt, rt.alloc(), Start::Names, end, &ENDS_OF_NAMES)?;
+    check(
+        &rt,
+        rt.alloc(),
+        Start::MisplacedNames,
+        end,
+        &ENDS_OF_MISPLACED_NAMES,
+    )
 }
 
 /// The steps of a cursor over 52 identifiers of 40 bytes: the last has two pieces, and what ends them is returned again.
+static STEPS: [Row; 2] = [
+    (&[], &[], "steps 40+0 *51 8+32 end *2"),
+    (&[], &[275], "steps 40+0 *51 stop 275 *3"),
+];
+
+static STEPS_OF_MISPLACED_NAMES: [Row; 1] = [(
+    &[],
+    &[],
+    "steps 40+0 *51 fault 10 IdentifierTag *3",
+)];
+
 #[test]
-fn steps_in_two_blocks(rt: HostRuntime) -> Result<(), Fail> {
-    let alloc = rt.alloc();
-    let disc = two_blocks(alloc, &TAGS[0])?;
-    assert_steps(&rt, alloc, &disc, &[], 54, " 8+32 end end")?;
-    assert_steps(&rt, alloc, &disc, &[275], 53, " stop 275 stop 275")?;
-    let elsewhere = two_blocks(alloc, &TAGS[1])?;
-    let faults = " fault 10 IdentifierTag fault 10 IdentifierTag";
-    assert_steps(&rt, alloc, &elsewhere, &[], 53, faults)
+fn steps(rt: HostRuntime) -> Result<(), Fail> {
+    let steps = Asked::Body(OfBody::Steps(54), 0, 1);
+    check(&rt, rt.alloc(), Start::Names, steps, &STEPS)?;
+    check(
+        &rt,
+        rt.alloc(),
+        Start::MisplacedNames,
+        steps,
+        &STEPS_OF_MISPLACED_NAMES,
+    )
 }

@@ -9,6 +9,7 @@ use udfs_file::entries::Entry;
 use udfs_file::faults::WalkError;
 use udfs_lattice::Fact;
 use udfs_samples::Disc;
+use udfs_volume::Profile;
 
 /// Where one allocation fails, the result is that with ample memory, or out of memory.
 #[test]
@@ -20,7 +21,7 @@ fn want_of_memory_is_told(rt: HostRuntime) -> Result<(), Fail> {
     let Ok(table) = disc.known_at(alloc, &[256, 32, 33, 34, 273, 274]) else {
         return Ok(());
     };
-    let Some((space, _)) = laid_out(alloc, &table) else {
+    let Some((space, _)) = laid_out(alloc, &table, Profile::Strict) else {
         return Ok(());
     };
     let Some((_, Fact::Known(bytes))) = space.block_at(&table, 0, 1) else {

@@ -1,5 +1,7 @@
 //! What is reported of the files of sample volumes, as texts.
 
+use crate::tests::rows::OfBody;
+use crate::tests::volumes::said::holes_text;
 use std::alloc::{AllocError, Global};
 use std::test::Fail;
 use udfs_file::bodies::Body;
@@ -18,13 +20,8 @@ use udfs_tag::{LbAddr, LongAd};
 use udfs_volume::layouts::layout_by;
 use udfs_volume::{Profile, Seen};
 
-/// The places of a table's volume, and the address of its file set.
-pub fn laid_out(alloc: Global, table: &BlockTable) -> Option<(Space, LongAd)> {
-    laid_out_by(alloc, table, Profile::Strict)
-}
-
-/// The same by the rules of a profile.
-fn laid_out_by(alloc: Global, table: &BlockTable, profile: Profile) -> Option<(Space, LongAd)> {
+/// The places of a table's volume by the rules of a profile, and the address of its file set.
+pub fn laid_out(alloc: Global, table: &BlockTable, profile: Profile) -> Option<(Space, LongAd)> {
     let Seen::Got(parts) = layout_by(alloc, table, LAST, profile) else {
         return None;
     };
@@ -36,7 +33,7 @@ fn laid_out_by(alloc: Global, table: &BlockTable, profile: Profile) -> Option<(S
 
 /// What the file set says: `root R:B`, holes, or a fault with its number.
 pub fn root(alloc: Global, table: &BlockTable) -> Result<String, Fail> {
-    let Some((space, address)) = laid_out(alloc, table) else {
+    let Some((space, address)) = laid_out(alloc, table, Profile::Strict) else {
         return Ok(format!(in alloc; "no layout")?);
     };
     match file_set(alloc, table, &space, address) {
@@ -44,14 +41,7 @@ pub fn root(alloc: Global, table: &BlockTable) -> Result<String, Fail> {
             let (reference, block) = (root.reference, root.block);
             Ok(format!(in alloc; "root {reference}:{block}")?)
         }
-        Seen::Holes(blocks) => {
-            let mut text = format!(in alloc; "holes")?;
-            for n in &blocks {
-                let number = format!(in alloc; " {n}")?;
-                text.push_str(number.as_str())?;
-            }
-            Ok(text)
-        }
+        Seen::Holes(blocks) => holes_text(alloc, &blocks),
         Seen::Fault(fault) => {
             let number = fault as u8;
             Ok(format!(in alloc; "fault {number} {fault}")?)
@@ -66,31 +56,33 @@ fn fault_text(alloc: Global, fault: NodeFault) -> Result<String, AllocError> {
     format!(in alloc; "fault {number} {fault}")
 }
 
-/// The block at a logical address, if it is known.
-fn known_at<'a>(
-    table: &'a BlockTable,
-    space: &Space,
-    reference: u16,
-    b: u32,
-) -> Option<&'a [u8; 2048]> {
-    match space.block_at(table, reference, u64::from(b)) {
-        Some((_, Fact::Known(bytes))) => Some(bytes),
-        _ => None,
+/// The entry at an address, or the text that says why there is none.
+fn entry_at(alloc: Global, view: View, at: LbAddr) -> Result<Result<Entry, String>, AllocError> {
+    let Some((_, Fact::Known(bytes))) = view.block_at(at) else {
+        return Ok(Err(format!(in alloc; "unread")?));
+    };
+    match Entry::read(bytes, at.block) {
+        Ok(entry) => Ok(Ok(entry)),
+        Err(fault) => Ok(Err(fault_text(alloc, fault)?)),
     }
 }
 
 /// The kind, size and stamp of an entry, or its fault.
-pub fn entry(alloc: Global, table: &BlockTable, reference: u16, b: u32) -> Result<String, Fail> {
-    let Some((space, _)) = laid_out(alloc, table) else {
+pub fn entry(alloc: Global, table: &BlockTable, at: LbAddr) -> Result<String, Fail> {
+    let Some((space, _)) = laid_out(alloc, table, Profile::Strict) else {
         return Ok(format!(in alloc; "no layout")?);
     };
-    let Some(bytes) = known_at(table, &space, reference, b) else {
-        return Ok(format!(in alloc; "unread")?);
+    let view = View {
+        table,
+        space: &space,
     };
-    let entry = match Entry::read(bytes, b) {
-        Ok(entry) => entry,
-        Err(fault) => return Ok(fault_text(alloc, fault)?),
-    };
+    match entry_at(alloc, view, at)? {
+        Ok(entry) => Ok(entry_text(alloc, &entry)?),
+        Err(text) => Ok(text),
+    }
+}
+
+fn entry_text(alloc: Global, entry: &Entry) -> Result<String, AllocError> {
     let size = entry.size();
     let mut text = match entry.kind() {
         Kind::Directory => format!(in alloc; "directory {size} ")?,
@@ -103,54 +95,65 @@ pub fn entry(alloc: Global, table: &BlockTable, reference: u16, b: u32) -> Resul
     Ok(text)
 }
 
-/// The body of an entry, or a text that says why the entry has no body.
-fn body_of(
+/// What is asked of the body of an entry, by the rules of a profile, or why it has none.
+pub fn body(
     alloc: Global,
     table: &BlockTable,
-    space: &Space,
-    reference: u16,
-    b: u32,
-) -> Result<Result<Body, String>, Fail> {
-    let bytes = match space.block_at(table, reference, u64::from(b)) {
-        Some((_, Fact::Known(bytes))) => bytes,
-        _ => return Ok(Err(format!(in alloc; "unread")?)),
+    profile: Profile,
+    of: OfBody,
+    at: LbAddr,
+) -> Result<String, Fail> {
+    let Some((space, _)) = laid_out(alloc, table, profile) else {
+        return Ok(format!(in alloc; "no layout")?);
     };
-    let entry = match Entry::read(bytes, b) {
+    let view = View {
+        table,
+        space: &space,
+    };
+    let entry = match entry_at(alloc, view, at)? {
         Ok(entry) => entry,
-        Err(fault) => return Ok(Err(fault_text(alloc, fault)?)),
+        Err(text) => return Ok(text),
     };
-    match Body::read(alloc, table, space, &entry, reference, b) {
-        Ok(body) => Ok(Ok(body)),
-        Err(WalkError::Fault(fault)) => Ok(Err(fault_text(alloc, fault)?)),
-        Err(WalkError::OutOfMemory) => Ok(Err(format!(in alloc; "out of memory")?)),
+    if let OfBody::Tail = of {
+        return tail_text(alloc, view, &entry, at);
+    }
+    match Body::read(alloc, table, &space, &entry, at.reference, at.block) {
+        Ok(body) => told(alloc, view, &body, of),
+        Err(WalkError::Fault(fault)) => Ok(fault_text(alloc, fault)?),
+        Err(WalkError::OutOfMemory) => Ok(format!(in alloc; "out of memory")?),
     }
 }
 
-/// The stretches of a body, or its fault.
-pub fn stretches(
-    alloc: Global,
-    table: &BlockTable,
-    reference: u16,
-    b: u32,
-) -> Result<String, Fail> {
-    stretches_by(alloc, table, reference, b, Profile::Strict)
+/// Whether a body is read by the tail of its last extent: `tail` or `no tail`.
+fn tail_text(alloc: Global, view: View, entry: &Entry, at: LbAddr) -> Result<String, Fail> {
+    if Body::is_tail_read(alloc, view, entry, at.reference, at.block)? {
+        Ok(format!(in alloc; "tail")?)
+    } else {
+        Ok(format!(in alloc; "no tail")?)
+    }
 }
 
-/// The same by the rules of a profile.
-pub fn stretches_by(
-    alloc: Global,
-    table: &BlockTable,
-    reference: u16,
-    b: u32,
-    profile: Profile,
-) -> Result<String, Fail> {
-    let Some((space, _)) = laid_out_by(alloc, table, profile) else {
-        return Ok(format!(in alloc; "no layout")?);
-    };
-    let body = match body_of(alloc, table, &space, reference, b)? {
-        Ok(body) => body,
-        Err(text) => return Ok(text),
-    };
+/// What is asked of a body.
+fn told(alloc: Global, view: View, body: &Body, of: OfBody) -> Result<String, Fail> {
+    match of {
+        OfBody::Stretches | OfBody::Tail => stretches(alloc, body),
+        OfBody::Portions => portions(alloc, view, body),
+        OfBody::Cells => cells(alloc, view, body),
+        OfBody::Front => {
+            let front = Dir::front(alloc, view.table, view.space, body)?;
+            front_text(alloc, &front)
+        }
+        OfBody::Within(most) => match Dir::front_within(alloc, view, body, most) {
+            Ok(front) => front_text(alloc, &front),
+            Err(error) => Ok(format!(in alloc; "{error}")?),
+        },
+        OfBody::End => end(alloc, view, body),
+        OfBody::Steps(count) => steps(alloc, view, body, count),
+    }
+}
+
+/// The stretches of a body.
+fn stretches(alloc: Global, body: &Body) -> Result<String, Fail> {
     let mut text = format!(in alloc; "body")?;
     for stretch in body.stretches() {
         let one = match stretch {
@@ -167,50 +170,9 @@ pub fn stretches_by(
     Ok(text)
 }
 
-/// Whether a body is read by the tail of its last extent by the rules of a profile: `tail` or `no tail`.
-pub fn tail_by(
-    alloc: Global,
-    table: &BlockTable,
-    reference: u16,
-    b: u32,
-    profile: Profile,
-) -> Result<&'static str, Fail> {
-    let Some((space, _)) = laid_out_by(alloc, table, profile) else {
-        return Ok("no layout");
-    };
-    let bytes = match space.block_at(table, reference, u64::from(b)) {
-        Some((_, Fact::Known(bytes))) => bytes,
-        _ => return Ok("unread"),
-    };
-    let entry = match Entry::read(bytes, b) {
-        Ok(entry) => entry,
-        Err(_) => return Ok("no entry"),
-    };
-    let view = View {
-        table,
-        space: &space,
-    };
-    if Body::is_tail_read(alloc, view, &entry, reference, b)? {
-        Ok("tail")
-    } else {
-        Ok("no tail")
-    }
-}
-
-/// The portions of a body, or its fault.
-pub fn portions(alloc: Global, table: &BlockTable, reference: u16, b: u32) -> Result<String, Fail> {
-    let Some((space, _)) = laid_out(alloc, table) else {
-        return Ok(format!(in alloc; "no layout")?);
-    };
-    let body = match body_of(alloc, table, &space, reference, b)? {
-        Ok(body) => body,
-        Err(text) => return Ok(text),
-    };
+/// The portions of a body.
+fn portions(alloc: Global, view: View, body: &Body) -> Result<String, Fail> {
     let mut text = format!(in alloc; "portions")?;
-    let view = View {
-        table,
-        space: &space,
-    };
     for portion in body.portions(view) {
         let one = match portion {
             Portion::Bytes(bytes) => {
@@ -234,14 +196,13 @@ fn push_cells(
     text: &mut String,
     cell: Option<Cell>,
     count: usize,
-) -> Result<(), Fail> {
+) -> Result<(), AllocError> {
     let one = match cell {
         None => return Ok(()),
         Some(Cell::Byte(x, _)) => format!(in alloc; " {x:02x}*{count}")?,
         Some(Cell::Gap(n)) => format!(in alloc; " ?{n}*{count}")?,
     };
-    text.push_str(one.as_str())?;
-    Ok(())
+    text.push_str(one.as_str())
 }
 
 /// Whether two cells are printed alike: known ones by their byte, missing ones by their block.
@@ -254,9 +215,9 @@ fn are_alike(a: Option<Cell>, b: Cell) -> bool {
 }
 
 /// The cell `at` bytes after the start of a run's block.
-fn recorded_cell(table: &BlockTable, space: &Space, run: Run, at: u64) -> Cell {
+fn recorded_cell(view: View, run: Run, at: u64) -> Cell {
     let b = u64::from(run.address.block).wrapping_add(at / 2048);
-    match space.block_at(table, run.address.reference, b) {
+    match view.space.block_at(view.table, run.address.reference, b) {
         None => Cell::Byte(0, None),
         Some((_, Fact::Known(bytes))) => Cell::Byte(bytes[(at % 2048) as usize], Some(b as u32)),
         Some((n, _)) => Cell::Gap(n),
@@ -264,18 +225,13 @@ fn recorded_cell(table: &BlockTable, space: &Space, run: Run, at: u64) -> Cell {
 }
 
 /// The cells of a body one by one, and at most 8192 of a stretch.
-fn all_cells(
-    alloc: Global,
-    table: &BlockTable,
-    space: &Space,
-    body: &Body,
-) -> Result<Vec<Cell>, AllocError> {
+fn all_cells(alloc: Global, view: View, body: &Body) -> Result<Vec<Cell>, AllocError> {
     let mut cells = Vec::new(alloc);
     for stretch in body.stretches() {
         for i in 0..stretch.count().min(8192) {
             cells.push(match stretch {
                 Stretch::Recorded(run, _) => {
-                    recorded_cell(table, space, *run, u64::from(run.offset).wrapping_add(i))
+                    recorded_cell(view, *run, u64::from(run.offset).wrapping_add(i))
                 }
                 Stretch::Zeros(_) => Cell::Byte(0, None),
                 Stretch::Missing(n, _) => Cell::Gap(*n),
@@ -285,27 +241,9 @@ fn all_cells(
     Ok(cells)
 }
 
-/// The cells of a body, like ones together: `61*2048` for known ones, `?278*2048` for missing ones; or its fault.
-pub fn cells(alloc: Global, table: &BlockTable, reference: u16, b: u32) -> Result<String, Fail> {
-    cells_by(alloc, table, reference, b, Profile::Strict)
-}
-
-/// The same by the rules of a profile.
-pub fn cells_by(
-    alloc: Global,
-    table: &BlockTable,
-    reference: u16,
-    b: u32,
-    profile: Profile,
-) -> Result<String, Fail> {
-    let Some((space, _)) = laid_out_by(alloc, table, profile) else {
-        return Ok(format!(in alloc; "no layout")?);
-    };
-    let body = match body_of(alloc, table, &space, reference, b)? {
-        Ok(body) => body,
-        Err(text) => return Ok(text),
-    };
-    let all = all_cells(alloc, table, &space, &body)?;
+/// The cells of a body, like ones together: `61*2048` for known ones, `?278*2048` for missing ones.
+fn cells(alloc: Global, view: View, body: &Body) -> Result<String, Fail> {
+    let all = all_cells(alloc, view, body)?;
     let mut text = format!(in alloc; "cells")?;
     let mut last = None;
     let mut count = 0usize;
@@ -321,66 +259,25 @@ pub fn cells_by(
     Ok(text)
 }
 
-/// What a directory lists: each name with the address and characteristics, and what ends it.
-pub fn front(alloc: Global, table: &BlockTable, reference: u16, b: u32) -> Result<String, Fail> {
-    let Some((space, _)) = laid_out(alloc, table) else {
-        return Ok(format!(in alloc; "no layout")?);
-    };
-    let body = match body_of(alloc, table, &space, reference, b)? {
-        Ok(body) => body,
-        Err(text) => return Ok(text),
-    };
-    front_text(alloc, &Dir::front(alloc, table, &space, &body)?)
-}
-
-/// The same of a directory in partition 0 with at most `most` entries, or the error of `Dir::front_within`.
-pub fn within(alloc: Global, table: &BlockTable, b: u32, most: usize) -> Result<String, Fail> {
-    let Some((space, _)) = laid_out(alloc, table) else {
-        return Ok(format!(in alloc; "no layout")?);
-    };
-    let body = match body_of(alloc, table, &space, 0, b)? {
-        Ok(body) => body,
-        Err(text) => return Ok(text),
-    };
-    let view = View {
-        table,
-        space: &space,
-    };
-    match Dir::front_within(alloc, view, &body, most) {
-        Ok(front) => front_text(alloc, &front),
-        Err(error) => Ok(format!(in alloc; "{error}")?),
-    }
-}
-
 /// Whether a directory lists anything, and what ends it.
-pub fn end(alloc: Global, table: &BlockTable, b: u32) -> Result<String, Fail> {
-    let Some((space, _)) = laid_out(alloc, table) else {
-        return Ok(format!(in alloc; "no layout")?);
-    };
-    let body = match body_of(alloc, table, &space, 0, b)? {
-        Ok(body) => body,
-        Err(text) => return Ok(text),
-    };
-    let view = View {
-        table,
-        space: &space,
-    };
-    let end = Dir::end(view, &body);
+fn end(alloc: Global, view: View, body: &Body) -> Result<String, Fail> {
+    let end = Dir::end(view, body);
     let mut text = format!(in alloc; "{}", if end.lists { "some" } else { "none" })?;
     push_end(alloc, &mut text, end.missing, end.fault)?;
     Ok(text)
 }
 
-/// The entries of a front, and what ends them.
+/// What a directory lists: each name with the address, like entries together, as ` A 0:3 *51`; and what ends it.
 fn front_text(alloc: Global, front: &DirFront) -> Result<String, Fail> {
-    let mut text = format!(in alloc; "front")?;
+    let mut runs = Runs::new(alloc, "front")?;
     for entry in &front.entries {
-        text.push(' ')?;
-        entry.name.write_escaped(&mut text)?;
+        let mut one = String::new(alloc);
+        entry.name.write_escaped(&mut one)?;
         let (reference, block) = (entry.icb.reference, entry.icb.block);
-        let icb = format!(in alloc; " {reference}:{block}")?;
-        text.push_str(icb.as_str())?;
+        write!(one, " {reference}:{block}")?;
+        runs.push(one)?;
     }
+    let mut text = runs.whole()?;
     push_end(alloc, &mut text, front.missing, front.fault)?;
     Ok(text)
 }
@@ -391,7 +288,7 @@ fn push_end(
     text: &mut String,
     missing: Option<u32>,
     fault: Option<NodeFault>,
-) -> Result<(), Fail> {
+) -> Result<(), AllocError> {
     if let Some(n) = missing {
         let missing = format!(in alloc; " missing {n}")?;
         text.push_str(missing.as_str())?;
@@ -404,35 +301,66 @@ fn push_end(
     Ok(())
 }
 
-/// `count` steps of a cursor through a directory: of a descriptor the sizes of its pieces, else what ends them.
-pub fn steps(alloc: Global, table: &BlockTable, b: u32, count: usize) -> Result<String, Fail> {
-    let Some((space, _)) = laid_out(alloc, table) else {
-        return Ok(format!(in alloc; "no layout")?);
-    };
-    let body = match body_of(alloc, table, &space, 0, b)? {
-        Ok(body) => body,
-        Err(text) => return Ok(text),
-    };
-    let view = View {
-        table,
-        space: &space,
-    };
-    let mut cursor = Cursor::new(view, &body);
-    let mut text = format!(in alloc; "steps")?;
+/// `count` steps of a cursor through a directory, like ones together: of a descriptor the sizes of its pieces, else what ends them.
+fn steps(alloc: Global, view: View, body: &Body, count: usize) -> Result<String, Fail> {
+    let mut cursor = Cursor::new(view, body);
+    let mut runs = Runs::new(alloc, "steps")?;
     for _ in 0..count {
         let step = match cursor.next() {
             Step::Id(view) => {
                 let (first, second) = (view.first.len(), view.second.len());
-                format!(in alloc; " {first}+{second}")?
+                format!(in alloc; "{first}+{second}")?
             }
-            Step::Stop(n) => format!(in alloc; " stop {n}")?,
-            Step::Fault(fault) => {
-                let fault = fault_text(alloc, fault)?;
-                format!(in alloc; " {fault}")?
-            }
-            Step::End => format!(in alloc; " end")?,
+            Step::Stop(n) => format!(in alloc; "stop {n}")?,
+            Step::Fault(fault) => fault_text(alloc, fault)?,
+            Step::End => format!(in alloc; "end")?,
         };
-        text.push_str(step.as_str())?;
+        runs.push(step)?;
     }
-    Ok(text)
+    Ok(runs.whole()?)
+}
+
+/// Words of which like ones that follow one another are told together.
+#[derive(Drop)]
+struct Runs {
+    text: String,
+    last: String,
+    count: usize,
+}
+
+impl Runs {
+    fn new(alloc: Global, word: &str) -> Result<Self, AllocError> {
+        Ok(Runs {
+            text: String::new(alloc),
+            last: String::from_str(alloc, word)?,
+            count: 1,
+        })
+    }
+
+    fn push(&mut self, word: String) -> Result<(), AllocError> {
+        if self.last.as_str() == word.as_str() {
+            self.count = self.count.wrapping_add(1);
+            return Ok(());
+        }
+        self.end()?;
+        self.text.push(' ')?;
+        self.last = word;
+        self.count = 1;
+        Ok(())
+    }
+
+    /// Tells the last word, and how often it came where that is more than once.
+    fn end(&mut self) -> Result<(), AllocError> {
+        self.text.push_str(self.last.as_str())?;
+        if self.count > 1 {
+            let count = self.count;
+            write!(self.text, " *{count}")?;
+        }
+        Ok(())
+    }
+
+    fn whole(mut self) -> Result<String, AllocError> {
+        self.end()?;
+        Ok(self.text)
+    }
 }

@@ -1,48 +1,27 @@
 //! What the layouts of sample volumes say, as texts.
 
-use crate::tests::assert_text_in;
 use std::alloc::{AllocError, Global};
-use std::process::Abort;
 use std::test::Fail;
 use udfs_lattice::BlockTable;
 use udfs_osta::Label;
-use udfs_samples::{Bytes, Disc, LAST};
-use udfs_volume::layouts::{layout, layout_by};
+use udfs_samples::LAST;
+use udfs_volume::differences::{anchors_apart, copies_differ};
+use udfs_volume::layouts::{Partition, layout, layout_by};
 use udfs_volume::maps::PartitionMap;
 use udfs_volume::seen::Seen;
 use udfs_volume::{Profile, VolumeParts};
 
-/// What is said of the disc with all blocks known.
-pub fn said_of(alloc: Global, disc: &Disc) -> Result<String, Fail> {
-    let table = disc.known_but(alloc, &[])?;
-    said(alloc, &table)
-}
-
-/// With this change the disc says this, with all blocks known.
-pub fn assert_changed(
-    rt: &impl Abort,
-    alloc: Global,
-    mut disc: Disc,
-    change: Bytes,
-    want: &str,
-) -> Result<(), Fail> {
-    disc.write(&[change])?;
-    assert_text_in(rt, said_of(alloc, &disc)?, want, change);
-    Ok(())
+/// The layout by the rules of a profile.
+fn seen_by(alloc: Global, table: &BlockTable, profile: Profile) -> Seen<VolumeParts> {
+    match profile {
+        Profile::Strict => layout(alloc, table, LAST),
+        Profile::Wide => layout_by(alloc, table, LAST, profile),
+    }
 }
 
 /// What the layout says: `ok`, the revision and the maps, or holes, or a fault with its number.
-pub fn said(alloc: Global, table: &BlockTable) -> Result<String, Fail> {
-    text_of(alloc, layout(alloc, table, LAST))
-}
-
-/// The same by the rules of a profile.
-pub fn said_by(alloc: Global, table: &BlockTable, profile: Profile) -> Result<String, Fail> {
-    text_of(alloc, layout_by(alloc, table, LAST, profile))
-}
-
-fn text_of(alloc: Global, seen: Seen<VolumeParts>) -> Result<String, Fail> {
-    match seen {
+pub fn layout_text(alloc: Global, table: &BlockTable, profile: Profile) -> Result<String, Fail> {
+    match seen_by(alloc, table, profile) {
         Seen::Got(parts) => {
             let high = parts.revision / 256;
             let low = parts.revision % 256;
@@ -53,14 +32,7 @@ fn text_of(alloc: Global, seen: Seen<VolumeParts>) -> Result<String, Fail> {
             }
             Ok(text)
         }
-        Seen::Holes(blocks) => {
-            let mut text = format!(in alloc; "holes")?;
-            for n in &blocks {
-                let number = format!(in alloc; " {n}")?;
-                text.push_str(number.as_str())?;
-            }
-            Ok(text)
-        }
+        Seen::Holes(blocks) => holes_text(alloc, &blocks),
         Seen::Fault(fault) => {
             let number = fault as u8;
             Ok(format!(in alloc; "fault {number} {fault}")?)
@@ -69,12 +41,48 @@ fn text_of(alloc: Global, seen: Seen<VolumeParts>) -> Result<String, Fail> {
     }
 }
 
+/// The blocks that are not known.
+pub fn holes_text(alloc: Global, blocks: &[u32]) -> Result<String, Fail> {
+    let mut text = format!(in alloc; "holes")?;
+    for n in blocks {
+        let number = format!(in alloc; " {n}")?;
+        text.push_str(number.as_str())?;
+    }
+    Ok(text)
+}
+
 fn map_text(alloc: Global, kind: &PartitionMap) -> Result<String, AllocError> {
     match kind {
         PartitionMap::Type1 => format!(in alloc; " type1"),
         PartitionMap::Sparable(map) => {
             let packet = map.packet;
             format!(in alloc; " sparable {packet}")
+        }
+    }
+}
+
+/// The last block, the revision, the file set's address, and each partition: its first block, its length and its map.
+pub fn parts_text(alloc: Global, table: &BlockTable, profile: Profile) -> Result<String, Fail> {
+    let Seen::Got(parts) = seen_by(alloc, table, profile) else {
+        return Ok(format!(in alloc; "no layout")?);
+    };
+    let (last, revision, set) = (parts.last, parts.revision, parts.file_set);
+    let (kind, length, block, reference) = (set.kind, set.length, set.block, set.reference);
+    let mut text = format!(in alloc; "{last} {revision:04x} {kind} {length} {reference}:{block}")?;
+    for partition in &parts.partitions {
+        let one = partition_text(alloc, partition)?;
+        text.push_str(one.as_str())?;
+    }
+    Ok(text)
+}
+
+fn partition_text(alloc: Global, partition: &Partition) -> Result<String, AllocError> {
+    let (start, length) = (partition.start, partition.length);
+    match &partition.kind {
+        PartitionMap::Type1 => format!(in alloc; ", {start}+{length} type1"),
+        PartitionMap::Sparable(map) => {
+            let (packet, size, tables) = (map.packet, map.size, map.tables.as_slice());
+            format!(in alloc; ", {start}+{length} sparable {packet} {size} {tables:?}")
         }
     }
 }
@@ -92,5 +100,22 @@ pub fn label(alloc: Global, table: &BlockTable) -> Result<String, Fail> {
             name.write_escaped(&mut text)?;
             Ok(text)
         }
+    }
+}
+
+/// The anchors that name different extents.
+pub fn anchors(alloc: Global, table: &BlockTable) -> Result<String, Fail> {
+    match anchors_apart(table, LAST) {
+        Some((one, other)) => Ok(format!(in alloc; "{one} and {other}")?),
+        None => Ok(format!(in alloc; "alike")?),
+    }
+}
+
+/// Whether the known copies of descriptors differ in what is read of them.
+pub fn copies(alloc: Global, table: &BlockTable, profile: Profile) -> Result<String, Fail> {
+    if copies_differ(alloc, table, LAST, profile) {
+        Ok(format!(in alloc; "apart")?)
+    } else {
+        Ok(format!(in alloc; "alike")?)
     }
 }

@@ -2,8 +2,8 @@
 
 ghost use Rattle.udfs_lattice.specs.Tables.{state_of};
 
-use super::told::{nodes_told_by, rooted, told_by};
-use crate::tests::{assert_case, assert_text};
+use super::told::{rooted, told_by};
+use crate::tests::assert_text_in;
 use std::alloc::Global;
 use std::test::Fail;
 use udfs_lattice::{BlockStore, BlockTable, Fact, ReadFault};
@@ -63,96 +63,77 @@ impl<'a> BlockStore for Copied<'a> {
 const WHOLE: &str =
     "whole directory 120 2001-07-04T09:30:00.000000Z \nwhole file 5000 2001-07-04T09:30:00.000000Z /A\nwhole file 2 2001-07-04T09:30:00.000000Z /B\n";
 
-/// The blocks that are not known, and what is reported then.
-static UNREAD: [(&[u32], &str); 4] = [
+/// What is reported where the blocks 277 and 279 of the file A are not known, or block 278.
+const WITHOUT_TWO: &str =
+    "whole directory 120 2001-07-04T09:30:00.000000Z \ntorn missing 277 missing 279 hole 0 2048 hole 4096 904 file 5000 2001-07-04T09:30:00.000000Z /A\nwhole file 2 2001-07-04T09:30:00.000000Z /B\nreread 277\nreread 279\n";
+
+const WITHOUT_278: &str =
+    "whole directory 120 2001-07-04T09:30:00.000000Z \ntorn missing 278 hole 2048 2048 file 5000 2001-07-04T09:30:00.000000Z /A\nwhole file 2 2001-07-04T09:30:00.000000Z /B\nreread 278\n";
+
+/// The blocks that are not known, the one that can not be read, whether entries that no name leads to are asked for, and what is reported.
+type Row = (&'static [u32], u32, bool, &'static str);
+
+static ROWS: [Row; 18] = [
+    // blocks that are copied tell the same as blocks that are lent
     (
         &[275, 277, 278, 279],
+        u32::MAX,
+        true,
         "whole directory 120 2001-07-04T09:30:00.000000Z \ntorn missing 275 unread /A\nwhole file 2 2001-07-04T09:30:00.000000Z /B\nreread 275\n",
     ),
-    (
-        &[278],
-        "whole directory 120 2001-07-04T09:30:00.000000Z \ntorn missing 278 hole 2048 2048 file 5000 2001-07-04T09:30:00.000000Z /A\nwhole file 2 2001-07-04T09:30:00.000000Z /B\nreread 278\n",
-    ),
-    (
-        &[279, 277],
-        "whole directory 120 2001-07-04T09:30:00.000000Z \ntorn missing 277 missing 279 hole 0 2048 hole 4096 904 file 5000 2001-07-04T09:30:00.000000Z /A\nwhole file 2 2001-07-04T09:30:00.000000Z /B\nreread 277\nreread 279\n",
-    ),
+    (&[278], u32::MAX, true, WITHOUT_278),
+    (&[279, 277], u32::MAX, true, WITHOUT_TWO),
     (
         &[274],
+        u32::MAX,
+        true,
         "torn missing 274 hole 0 120 directory 120 2001-07-04T09:30:00.000000Z \nunnamed 0:3 whole file 5000 2001-07-04T09:30:00.000000Z\nunnamed 0:4 whole file 2 2001-07-04T09:30:00.000000Z\nreread 274\n",
     ),
+    // a block that can not be read is told as such, and not as one that is not known: the entry of the root, what it lists, and the
+    // entries that this names
+    (&[], 0, true, WHOLE),
+    (&[], 273, true, "unread"),
+    (&[], 274, true, "unread"),
+    (&[], 275, true, "unread"),
+    (&[], 276, true, "unread"),
+    // how whole a file is, is told without its bytes: blocks of the file A that can not be read change nothing
+    (&[], 277, false, WHOLE),
+    (&[], 278, false, WHOLE),
+    (&[], 279, false, WHOLE),
+    (&[278], 277, false, WITHOUT_278),
+    (&[278], 278, false, WITHOUT_278),
+    (&[278], 279, false, WITHOUT_278),
+    (&[279, 277], 277, false, WITHOUT_TWO),
+    (&[279, 277], 278, false, WITHOUT_TWO),
+    (&[279, 277], 279, false, WITHOUT_TWO),
 ];
 
-/// What is reported of a table's volume, where one block can not be read; `None` if its root is not found.
-fn told_without(
+/// What is reported of a table's volume where one block can not be read.
+fn told(
     alloc: Global,
     table: &BlockTable,
     broken: u32,
-) -> Option<Result<String, NodesGaveUp>> {
-    let (space, root) = rooted(alloc, table)?;
+    with_entries: bool,
+) -> Result<String, Fail> {
+    let (space, root) = rooted(alloc, table).ok_or("no root")?;
     let view = StoreView {
         blocks: &Copied { table, broken },
         space: &space,
     };
-    Some(told_by(alloc, view, root))
+    match told_by(alloc, view, root, with_entries) {
+        Ok(text) => Ok(text),
+        Err(NodesGaveUp::Unread) => Ok(format!(in alloc; "unread")?),
+        Err(_) => Ok(format!(in alloc; "no report")?),
+    }
 }
 
-/// The same is reported of blocks that are copied as of blocks that are lent.
 #[test]
-fn copies_tell_the_same(rt: HostRuntime) -> Result<(), Fail> {
+fn copied_blocks(rt: HostRuntime) -> Result<(), Fail> {
     let alloc = rt.alloc();
-    for &(unread, expected) in &UNREAD {
+    for (i, &(unread, broken, with_entries, expected)) in ROWS.iter().enumerate() {
         let table = Disc::type1(alloc)?.known_but(alloc, unread)?;
-        match told_without(alloc, &table, u32::MAX) {
-            Some(Ok(text)) => assert_text(&rt, text, expected),
-            _ => assert_case(&rt, false, expected),
-        }
-    }
-    Ok(())
-}
-
-/// A block that can not be read is told as such, and not as one that is not known: the entry of the root, what it lists, and the
-/// entries that this names.
-#[test]
-fn a_failed_read_is_told(rt: HostRuntime) -> Result<(), Fail> {
-    let alloc = rt.alloc();
-    let table = Disc::type1(alloc)?.known_but(alloc, &[])?;
-    for broken in [273, 274, 275, 276] {
-        let unread = matches!(
-            told_without(alloc, &table, broken),
-            Some(Err(NodesGaveUp::Unread))
-        );
-        assert_case(&rt, unread, broken);
-    }
-    match told_without(alloc, &table, 0) {
-        Some(Ok(text)) => assert_text(&rt, text, WHOLE),
-        _ => assert_case(&rt, false, WHOLE),
-    }
-    Ok(())
-}
-
-/// How whole a file is, is told without its bytes: blocks of the file A that can not be read change nothing.
-#[test]
-fn bytes_of_files_are_not_read(rt: HostRuntime) -> Result<(), Fail> {
-    let alloc = rt.alloc();
-    let whole: (&[u32], &str) = (&[], WHOLE);
-    for (unread, expected) in [whole, UNREAD[1], UNREAD[2]] {
-        let table = Disc::type1(alloc)?.known_but(alloc, unread)?;
-        let (space, root) = rooted(alloc, &table).ok_or("no root")?;
-        for broken in [277, 278, 279] {
-            let blocks = Copied {
-                table: &table,
-                broken,
-            };
-            let view = StoreView {
-                blocks: &blocks,
-                space: &space,
-            };
-            match nodes_told_by(alloc, view, root) {
-                Ok(text) => assert_text(&rt, text, expected),
-                Err(_) => assert_case(&rt, false, broken),
-            }
-        }
+        let text = told(alloc, &table, broken, with_entries)?;
+        assert_text_in(&rt, text, expected, i);
     }
     Ok(())
 }

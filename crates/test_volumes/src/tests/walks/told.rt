@@ -134,31 +134,23 @@ fn lines(
     Ok(text)
 }
 
-/// All that is reported of the volume of a store of blocks.
+/// What is reported of the volume of a store of blocks: its nodes and the blocks to read again, and, if they are asked for, the entries
+/// that no node names, which are looked for in every known block.
 pub fn told_by<B: BlockStore>(
     alloc: Global,
     view: StoreView<'_, B>,
     root: LongAd,
+    with_entries: bool,
 ) -> Result<String, NodesGaveUp> {
     let bare = bare_nodes_by(alloc, view, root)?;
-    let entries = bare_unnamed_by(alloc, view, &bare)?;
-    let entries = full_entries_by(alloc, view, entries)?;
+    let entries = if with_entries {
+        let entries = bare_unnamed_by(alloc, view, &bare)?;
+        full_entries_by(alloc, view, entries)?
+    } else {
+        Vec::new(alloc)
+    };
     let blocks = bare_reread_by(alloc, view, &bare)?;
     let nodes = full_nodes_by(alloc, view, bare)?;
     let text = lines(alloc, &nodes, &entries, &blocks)?;
-    Ok(text)
-}
-
-/// What is reported of the nodes and of the blocks to read again, and nothing of entries that no node names: these are looked for in
-/// every known block.
-pub fn nodes_told_by<B: BlockStore>(
-    alloc: Global,
-    view: StoreView<'_, B>,
-    root: LongAd,
-) -> Result<String, NodesGaveUp> {
-    let bare = bare_nodes_by(alloc, view, root)?;
-    let blocks = bare_reread_by(alloc, view, &bare)?;
-    let nodes = full_nodes_by(alloc, view, bare)?;
-    let text = lines(alloc, &nodes, &[], &blocks)?;
     Ok(text)
 }
