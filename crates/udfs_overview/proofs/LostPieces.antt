@@ -1,10 +1,11 @@
--- What is lost of a volume that opens, seen by what its table knows, is what its report says.
+-- What is lost of a volume, seen by what its table knows, is what its report says.
 use Rattle.std.proofs.Common.{◌≡◌, ◌∙◌, refl, sym, ap, subst, ℕ, Bool, true, false, List, [], ◌∷◌, ◌++◌, map, Option, Some, None, option_map, cond}
 use Rattle.std.specs.Prelude.{find, flat_map}
 use Rattle.std.specs.Borrow.{Bor}
 use Rattle.udfs_lattice.specs.Volumes.{Blocks}
 use Rattle.udfs_tag.specs.declared.layouts.LongAd.{LongAd}
-use Rattle.udfs_volume.specs.Answers.{Answer, found}
+use Rattle.udfs_volume.specs.Answers.{Answer, found, holes, faulty}
+use Rattle.udfs_volume.specs.declared.faults.VolumeFault.{VolumeFault}
 use Rattle.udfs_space.specs.Places.{View, view}
 use Rattle.udfs_walk.specs.Bare.{full_entry, full_node}
 use Rattle.udfs_walk.specs.NodeFields.{NodeFields}
@@ -13,14 +14,15 @@ use Rattle.udfs_walk.specs.declared.answers.NodesError.{NodesError}
 use Rattle.udfs_walk.specs.declared.answers.Unnamed.{Unnamed}
 use Rattle.udfs_lost.specs.Folders.{AreLostRoots, lost_folders}
 use Rattle.udfs_lost.specs.LostFiles.{lost_files}
+use Rattle.udfs_lost.specs.PlacedVolumes.{has_two}
 use Rattle.udfs_lost.specs.Parents.{parent_at}
 use Rattle.udfs_lost.specs.declared.trees.LostTree.{LostTree}
 use Rattle.udfs_lost.proofs.PublicLaws.{bare_entries_will_do}
 use Rattle.udfs_salvage.specs.Found.{Found}
 use Rattle.udfs_salvage.specs.Surveys.{full_entries, full_nodes}
-use Rattle.udfs_salvage.specs.Texts.{has_two}
-use Rattle.udfs_overview.specs.LostLists.{file_line, folder_at, is_folder_at, lost_by, lost_lines, lost_word, node_line, place_column, tree_lines}
+use Rattle.udfs_overview.specs.LostLists.{file_line, folder_at, is_folder_at, lost_lines, lost_text, lost_word, node_line, place_column, tree_lines}
 use Rattle.udfs_overview.specs.LostTrees.{AreLost, AreLostBy, IsUnfound, IsUnfoundBy}
+use Rattle.udfs_overview.specs.Searched.{Searched, searched_by}
 use Rattle.udfs_overview.specs.declared.node_list.ListForm.{ListForm}
 
 -- ---- places
@@ -60,41 +62,44 @@ files_full : (v : View) (deleted : Bool) (trees : List LostTree) (es : List Unna
 files_full v deleted trees es files are = borrowed v files ∙ ap (map (full_entry v)) are ∙ sym (bare_entries_will_do v deleted trees es).files
 
 -- the lines of trees, and then those of files, are all; `ns`, `es` and `files` are as the code lends them
-pub lost_pieces : (form : ListForm) (deleted : Bool) (v : View) (two same : Bool) (ns nodes : List NodeFields) (es entries : List Unnamed) (trees : List LostTree) (files lent : List (Bor Unnamed)) → two ≡ same → ns ≡ nodes → es ≡ entries → lent ≡ files
+pub lost_pieces : (form : ListForm) (deleted : Bool) (v : View) (two : Bool) (ns : List NodeFields) (es : List Unnamed) (trees : List LostTree) (files lent : List (Bor Unnamed)) → lent ≡ files
     → map (λ (file : Bor Unnamed). file.now) files ≡ lost_files v deleted trees es
     → flat_map (tree_lines form v two ns) trees ++ flat_map (file_line form v two) (map (λ (file : Bor Unnamed). full_entry v file.now) lent)
-    ≡ lost_lines form deleted v same (map (full_node v) nodes) (map (full_entry v) entries) trees
-lost_pieces form deleted v two same ns nodes es entries trees files lent is nodes_are entries_are lent_is are =
+    ≡ lost_lines form deleted v two ns (map (full_entry v) es) trees
+lost_pieces form deleted v two ns es trees files lent lent_is are =
     (λ i. flat_map (tree_lines form v two ns) trees ++ flat_map (file_line form v two) (map (λ (file : Bor Unnamed). full_entry v file.now) (lent_is i)))
-    ∙ (λ i. trees_full form v two ns trees i ++ flat_map (file_line form v two) (files_full v deleted trees es files are i))
-    ∙ (λ i. lost_lines form deleted v (is i) (map (full_node v) (nodes_are i)) (map (full_entry v) (entries_are i)) trees)
+    ∙ (λ i. flat_map (tree_lines form v two ns) trees ++ flat_map (file_line form v two) (files_full v deleted trees es files are i))
 
--- seen by the table
-pub lost_seen : (form : ListForm) (deleted : Bool) (M : Blocks) (answer : Answer Found) (f : Found) (v : View) (ns : List NodeFields) (es : List Unnamed) (trees : List LostTree) → answer ≡ found f → v ≡ view M f.space
-    → lost_lines form deleted v (has_two answer) (map (full_node v) ns) (map (full_entry v) es) trees ≡ lost_by form deleted M answer (full_nodes M answer ns) (full_entries M answer es) trees
-lost_seen form deleted M answer f v ns es trees opened seen =
-    (λ i. lost_lines form deleted (seen i) (has_two (opened i)) (map (full_node (seen i)) ns) (map (full_entry (seen i)) es) trees)
-    ∙ (λ i. lost_by form deleted M (sym opened i) (full_nodes M (sym opened i) ns) (full_entries M (sym opened i) es) trees)
+-- where the volume opens, seen by the table
+pub lost_seen : (form : ListForm) (deleted : Bool) (M : Blocks) (answer : Answer Found) (f : Found) (v : View) (two : Bool) (ns nodes : List NodeFields) (es entries : List Unnamed) (trees : List LostTree) (closed : Option Searched)
+    → answer ≡ found f → v ≡ view M f.space → two ≡ has_two f.layout → ns ≡ nodes → es ≡ entries
+    → lost_lines form deleted v two ns (map (full_entry v) es) trees ≡ lost_text form deleted (searched_by closed M answer (full_entries M answer entries)) (full_nodes M answer nodes) trees
+unfolding lost_text
+lost_seen form deleted M answer f v two ns nodes es entries trees closed opened seen is nodes_are entries_are =
+    (λ i. trees_full form v two ns trees i ++ flat_map (file_line form v two) (lost_files v deleted trees (map (full_entry v) es)))
+    ∙ (λ i. lost_lines form deleted (seen i) (is i) (map (full_node (seen i)) (nodes_are i)) (map (full_entry (seen i)) (entries_are i)) trees)
+    ∙ (λ i. lost_text form deleted (searched_by closed M (sym opened i) (full_entries M (sym opened i) entries)) (full_nodes M (sym opened i) nodes) trees)
 
 -- ---- trees
 
-are_full : (v : View) (deleted : Bool) (es : List Unnamed) (trees : List LostTree) → AreLost v deleted es trees → AreLost v deleted (map (full_entry v) es) trees
+pub are_full : (v : View) (deleted : Bool) (es : List Unnamed) (trees : List LostTree) → AreLost v deleted es trees → AreLost v deleted (map (full_entry v) es) trees
 are_full v deleted es trees a = record {
   roots = a.roots;
   are_roots = subst (λ folders. AreLostRoots v folders a.roots) (sym (bare_entries_will_do v deleted trees es).folders) a.are_roots;
   are_trees = a.are_trees;
 }
 
-pub found_seen : (deleted : Bool) (M : Blocks) (answer : Answer Found) (f : Found) (v : View) (es entries : List Unnamed) (trees : List LostTree) → answer ≡ found f → v ≡ view M f.space → es ≡ entries
-    → AreLost v deleted es trees → AreLostBy deleted M answer (full_entries M answer entries) trees
-found_seen deleted M answer f v es entries trees opened seen are a =
-    subst (λ z. AreLostBy deleted M z (full_entries M z entries) trees) (sym opened)
-    (subst (λ l. AreLost (view M f.space) deleted (map (full_entry (view M f.space)) l) trees) are (subst (λ w. AreLost w deleted (map (full_entry w) es) trees) seen (are_full v deleted es trees a)))
+pub folders_full : (v : View) (deleted : Bool) (es : List Unnamed) → lost_folders v deleted (map (full_entry v) es) ≡ lost_folders v deleted es
+folders_full v deleted es = (bare_entries_will_do v deleted [] es).folders
 
-pub unfound_seen : (deleted : Bool) (M : Blocks) (answer : Answer Found) (f : Found) (v : View) (es entries : List Unnamed) (error : NodesError) → answer ≡ found f → v ≡ view M f.space → es ≡ entries
-    → IsUnfound v (lost_folders v deleted es) error → IsUnfoundBy deleted M answer (full_entries M answer entries) error
-unfound_seen deleted M answer f v es entries error opened seen are a =
-    subst (λ z. IsUnfoundBy deleted M z (full_entries M z entries) error) (sym opened)
-    (subst (λ l. IsUnfound (view M f.space) (lost_folders (view M f.space) deleted (map (full_entry (view M f.space)) l)) error) are
-    (subst (λ w. IsUnfound w (lost_folders w deleted (map (full_entry w) es)) error) seen
-    (subst (λ folders. IsUnfound v folders error) (sym (bare_entries_will_do v deleted [] es).folders) a)))
+-- where a volume that opens is looked through
+pub opened_place : (M : Blocks) (answer : Answer Found) (f : Found) (entries : List Unnamed) (closed : Option Searched) → answer ≡ found f
+    → searched_by closed M answer (full_entries M answer entries) ≡ Some (record { view = view M f.space; two = has_two f.layout; entries = map (full_entry (view M f.space)) entries })
+opened_place M answer f entries closed opened = λ i. searched_by closed M (opened i) (full_entries M (opened i) entries)
+
+-- and one that does not
+pub holes_place : (M : Blocks) (answer : Answer Found) (listed : List ℕ) (entries : List Unnamed) (closed : Option Searched) → answer ≡ holes listed → searched_by closed M answer entries ≡ closed
+holes_place M answer listed entries closed is = λ i. searched_by closed M (is i) entries
+
+pub faulty_place : (M : Blocks) (answer : Answer Found) (fault : VolumeFault) (entries : List Unnamed) (closed : Option Searched) → answer ≡ faulty fault → searched_by closed M answer entries ≡ closed
+faulty_place M answer fault entries closed is = λ i. searched_by closed M (is i) entries
