@@ -3,7 +3,7 @@ use Rattle.std.proofs.Common.{◌≡◌, refl, sym, ◌∙◌, ap, subst, inl, i
 use Rattle.std.specs.Prelude.{Contains}
 use Rattle.std.specs.List.{AllZip}
 use Rattle.udfs_lattice.specs.Volumes.{Blocks, Volume, Agrees, complete, IsUnread}
-use Rattle.udfs_lattice.proofs.Inclusion.{Includes, included}
+use Rattle.udfs_lattice.proofs.Inclusion.{Includes, in_nothing, included}
 use Rattle.udfs_volume.specs.Answers.{Answer, found, holes, faulty, and_then}
 use Rattle.udfs_volume.specs.Layout.{Layout, layout_by}
 use Rattle.udfs_volume.specs.Laws.{IsAnswerOf, IsSequenceGroup, ListsGroup, the_same, valid_anchors}
@@ -25,7 +25,7 @@ use Rattle.udfs_walk.specs.Walks.{AreNodes}
 use Rattle.udfs_walk.specs.declared.answers.Unnamed.{Unnamed}
 use Rattle.udfs_tree.specs.Sound.{Path}
 use Rattle.udfs_lost.specs.LostTrees.{IsLostTree}
-use Rattle.udfs_lost.specs.PlacedVolumes.{Placed, if_found, placed_by, placed_in}
+use Rattle.udfs_lost.specs.PlacedVolumes.{Placed, has_two, if_found, placed_by, placed_in}
 use Rattle.udfs_lost.specs.Subtrees.{IsFolderAt, TellsBelow}
 use Rattle.udfs_lost.specs.declared.trees.LostTree.{LostTree}
 use Rattle.udfs_lost.proofs.PublicLaws.{lost_trees_tell}
@@ -58,7 +58,7 @@ no_places M av ps G listed x = record { group = x.group; is_group = x.is_group; 
   where
     go : (n : ℕ) → ((g : List ℕ) × G g × IsUnread M g × Contains g n) ⊎ (Contains [] n × IsUnread M []) → ((g : List ℕ) × G g × IsUnread M g × Contains g n) ⊎ (Contains ps n × IsUnread M av)
     go n (inl w) = inl w
-    go n (inr w) = absurd w.0
+    go n (inr w) = in_nothing n w.0
 
 pub places_are_the_volumes : PlacesAreTheVolumes
 unfolding placed_by
@@ -114,7 +114,7 @@ closed_view P M V N l a s e = ap (λ (t : Searched). t.view) p.2 ∙ ap (view M)
 -- it is part of the volume
 view_of : (P : Profile) (M : Blocks) (V : Volume) (N : ℕ) (l : IsLawfulVolumeBy P V N) → Agrees M V N → (entries : List Unnamed) (told : Answer Found) → IsToldOf V M N l.found_is told
     → (s : Searched) → searched_by (without_root P M N) M told entries ≡ Some s → s.view ≡ view M l.found_is.space
-view_of P M V N l a entries (found g) is s e = ap (λ (t : Searched). t.view) (sym (some_same _ s e)) ∙ ap (λ (h : Found). view M h.space) is.same
+view_of P M V N l a entries (found g) is s e = ap (λ (t : Searched). t.view) (sym (some_same (record { view = view M g.space; two = has_two g.layout; entries = entries }) s e)) ∙ ap (λ (h : Found). view M h.space) is.same
 view_of P M V N l a entries (holes listed) is s e = closed_view P M V N l a s e
 view_of P M V N l a entries (faulty fault) is s e = absurd is
 

@@ -94,7 +94,12 @@ fn find_in(
     ensures trees { IfOk result (λ lost. AreLostBy deleted (Some (rootless_now (state_of table.now) rootless)) lost.trees.items) }
     ensures refused { IfErr result (IsUnfoundBy deleted (Some (rootless_now (state_of table.now) rootless))) }
 {
-    match found_in(alloc, rootless.volume.view(table), deleted, &rootless.entries) {
+    match found_in(
+        alloc,
+        rootless.volume.view(table),
+        deleted,
+        &rootless.entries,
+    ) {
         Ok(trees) => Ok(Lost {
             rootless: Some(rootless),
             trees,
@@ -158,15 +163,33 @@ pub fn find_lost(alloc: Global, survey: &Survey<'_>, deleted: bool) -> Result<Lo
     ensures refused { IfErr result (IsUnfoundBy deleted (searched_of survey.now)) }
 {
     match &survey.volume {
-        Volume::Open(opened) => match find_open(alloc, opened, survey.table, deleted, &survey.unnamed) {
+        Volume::Open(opened) => match find_open(
+            alloc,
+            opened,
+            survey.table,
+            deleted,
+            &survey.unnamed,
+        ) {
             Ok(lost) => Ok(lost),
             Err(error) => Err(error),
         },
-        Volume::Holes(_) => match find_rootless(alloc, survey.table, survey.last, survey.profile, deleted) {
+        Volume::Holes(_) => match find_rootless(
+            alloc,
+            survey.table,
+            survey.last,
+            survey.profile,
+            deleted,
+        ) {
             Ok(lost) => Ok(lost),
             Err(error) => Err(error),
         },
-        Volume::Fault(_) => match find_rootless(alloc, survey.table, survey.last, survey.profile, deleted) {
+        Volume::Fault(_) => match find_rootless(
+            alloc,
+            survey.table,
+            survey.last,
+            survey.profile,
+            deleted,
+        ) {
             Ok(lost) => Ok(lost),
             Err(error) => Err(error),
         },
