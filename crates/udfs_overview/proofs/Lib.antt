@@ -7,6 +7,7 @@ mod DiscCounting
 mod FullFolders
 mod Headed
 mod LostPieces
+mod LostVolumeLaws
 mod Moving
 mod PathNames
 mod Places

@@ -1,10 +1,13 @@
--- What is lost of a volume that opens, seen by what its table knows, is what its report says.
+-- What is lost of a volume, seen by what its table knows, is what its report says.
 use Rattle.std.proofs.Common.{◌≡◌, ◌∙◌, refl, sym, ap, subst, ℕ, Bool, true, false, List, [], ◌∷◌, ◌++◌, map, Option, Some, None, option_map, cond}
 use Rattle.std.specs.Prelude.{find, flat_map}
 use Rattle.std.specs.Borrow.{Bor}
+use Rattle.udfs_lattice.specs.Tables.{Table, state_of}
 use Rattle.udfs_lattice.specs.Volumes.{Blocks}
 use Rattle.udfs_tag.specs.declared.layouts.LongAd.{LongAd}
-use Rattle.udfs_volume.specs.Answers.{Answer, found}
+use Rattle.udfs_volume.specs.Answers.{Answer, found, holes, faulty}
+use Rattle.udfs_volume.specs.LayoutParts.{parts_now}
+use Rattle.udfs_volume.specs.declared.faults.VolumeFault.{VolumeFault}
 use Rattle.udfs_space.specs.Places.{View, view}
 use Rattle.udfs_walk.specs.Bare.{full_entry, full_node}
 use Rattle.udfs_walk.specs.NodeFields.{NodeFields}
@@ -13,14 +16,19 @@ use Rattle.udfs_walk.specs.declared.answers.NodesError.{NodesError}
 use Rattle.udfs_walk.specs.declared.answers.Unnamed.{Unnamed}
 use Rattle.udfs_lost.specs.Folders.{AreLostRoots, lost_folders}
 use Rattle.udfs_lost.specs.LostFiles.{lost_files}
+use Rattle.udfs_lost.specs.PlacedVolumes.{has_two}
 use Rattle.udfs_lost.specs.Parents.{parent_at}
 use Rattle.udfs_lost.specs.declared.trees.LostTree.{LostTree}
 use Rattle.udfs_lost.proofs.PublicLaws.{bare_entries_will_do}
-use Rattle.udfs_salvage.specs.Found.{Found}
+use Rattle.udfs_salvage.specs.Found.{Found, volume_now}
 use Rattle.udfs_salvage.specs.Surveys.{full_entries, full_nodes}
-use Rattle.udfs_salvage.specs.Texts.{has_two}
-use Rattle.udfs_overview.specs.LostLists.{file_line, folder_at, is_folder_at, lost_by, lost_lines, lost_word, node_line, place_column, tree_lines}
-use Rattle.udfs_overview.specs.LostTrees.{AreLost, AreLostBy, IsUnfound, IsUnfoundBy}
+use Rattle.udfs_salvage.specs.Texts.{has_two as told_two}
+use Rattle.udfs_salvage.specs.declared.surveys.Survey as code_survey
+use Rattle.udfs_overview.specs.LostLists.{file_line, folder_at, is_folder_at, lost_lines, lost_text, lost_word, node_line, place_column, tree_lines}
+use Rattle.udfs_overview.specs.LostTrees.{AreLost, AreLostBy, IsLostOf, IsUnfound, IsUnfoundBy}
+use Rattle.udfs_overview.specs.Searched.{Searched, rootless_now, searched_by, searched_of, without_root}
+use Rattle.udfs_overview.specs.declared.lost_found.Lost.{Lost}
+use Rattle.udfs_overview.specs.declared.lost_found.Rootless.{Rootless}
 use Rattle.udfs_overview.specs.declared.node_list.ListForm.{ListForm}
 
 -- ---- places
@@ -60,41 +68,94 @@ files_full : (v : View) (deleted : Bool) (trees : List LostTree) (es : List Unna
 files_full v deleted trees es files are = borrowed v files ∙ ap (map (full_entry v)) are ∙ sym (bare_entries_will_do v deleted trees es).files
 
 -- the lines of trees, and then those of files, are all; `ns`, `es` and `files` are as the code lends them
-pub lost_pieces : (form : ListForm) (deleted : Bool) (v : View) (two same : Bool) (ns nodes : List NodeFields) (es entries : List Unnamed) (trees : List LostTree) (files lent : List (Bor Unnamed)) → two ≡ same → ns ≡ nodes → es ≡ entries → lent ≡ files
+pub lost_pieces : (form : ListForm) (deleted : Bool) (v : View) (two : Bool) (ns : List NodeFields) (es : List Unnamed) (trees : List LostTree) (files lent : List (Bor Unnamed)) → lent ≡ files
     → map (λ (file : Bor Unnamed). file.now) files ≡ lost_files v deleted trees es
     → flat_map (tree_lines form v two ns) trees ++ flat_map (file_line form v two) (map (λ (file : Bor Unnamed). full_entry v file.now) lent)
-    ≡ lost_lines form deleted v same (map (full_node v) nodes) (map (full_entry v) entries) trees
-lost_pieces form deleted v two same ns nodes es entries trees files lent is nodes_are entries_are lent_is are =
+    ≡ lost_lines form deleted v two ns (map (full_entry v) es) trees
+lost_pieces form deleted v two ns es trees files lent lent_is are =
     (λ i. flat_map (tree_lines form v two ns) trees ++ flat_map (file_line form v two) (map (λ (file : Bor Unnamed). full_entry v file.now) (lent_is i)))
-    ∙ (λ i. trees_full form v two ns trees i ++ flat_map (file_line form v two) (files_full v deleted trees es files are i))
-    ∙ (λ i. lost_lines form deleted v (is i) (map (full_node v) (nodes_are i)) (map (full_entry v) (entries_are i)) trees)
+    ∙ (λ i. flat_map (tree_lines form v two ns) trees ++ flat_map (file_line form v two) (files_full v deleted trees es files are i))
 
--- seen by the table
-pub lost_seen : (form : ListForm) (deleted : Bool) (M : Blocks) (answer : Answer Found) (f : Found) (v : View) (ns : List NodeFields) (es : List Unnamed) (trees : List LostTree) → answer ≡ found f → v ≡ view M f.space
-    → lost_lines form deleted v (has_two answer) (map (full_node v) ns) (map (full_entry v) es) trees ≡ lost_by form deleted M answer (full_nodes M answer ns) (full_entries M answer es) trees
-lost_seen form deleted M answer f v ns es trees opened seen =
-    (λ i. lost_lines form deleted (seen i) (has_two (opened i)) (map (full_node (seen i)) ns) (map (full_entry (seen i)) es) trees)
-    ∙ (λ i. lost_by form deleted M (sym opened i) (full_nodes M (sym opened i) ns) (full_entries M (sym opened i) es) trees)
+-- where the volume opens, seen by the table
+pub lost_seen : (form : ListForm) (deleted : Bool) (M : Blocks) (answer : Answer Found) (f : Found) (v : View) (two : Bool) (ns nodes : List NodeFields) (es entries : List Unnamed) (ts trees : List LostTree) (closed : Option Searched)
+    → answer ≡ found f → v ≡ view M f.space → two ≡ told_two answer → ns ≡ nodes → es ≡ entries → ts ≡ trees
+    → lost_lines form deleted v two ns (map (full_entry v) es) ts ≡ lost_text form deleted (searched_by closed M answer (full_entries M answer entries)) (full_nodes M answer nodes) trees
+unfolding lost_text
+lost_seen form deleted M answer f v two ns nodes es entries ts trees closed opened seen is nodes_are entries_are trees_are =
+    (λ i. trees_full form v two ns ts i ++ flat_map (file_line form v two) (lost_files v deleted ts (map (full_entry v) es)))
+    ∙ (λ i. lost_lines form deleted (seen i) (same i) (map (full_node (seen i)) (nodes_are i)) (map (full_entry (seen i)) (entries_are i)) (trees_are i))
+    ∙ (λ i. lost_text form deleted (searched_by closed M (sym opened i) (full_entries M (sym opened i) entries)) (full_nodes M (sym opened i) nodes) trees)
+  where
+    same : two ≡ has_two f.layout
+    same = is ∙ ap told_two opened
+
+-- where it does not, in what is known of it without its file set
+pub rootless_seen : (form : ListForm) (deleted : Bool) (M : Blocks) (known : Option Rootless) (r : Rootless) (v : View) (two : Bool) (ns nodes : List NodeFields) (es : List Unnamed) (ts trees : List LostTree)
+    → known ≡ Some r → v ≡ view M r.volume.space → two ≡ has_two (parts_now r.volume.parts) → ns ≡ nodes → es ≡ r.entries.items → ts ≡ trees
+    → lost_lines form deleted v two ns (map (full_entry v) es) ts ≡ lost_text form deleted (option_map (rootless_now M) known) nodes trees
+unfolding lost_text
+rootless_seen form deleted M known r v two ns nodes es ts trees at seen is nodes_are entries_are trees_are =
+    (λ i. lost_lines form deleted (seen i) (is i) (nodes_are i) (map (full_entry (seen i)) (entries_are i)) (trees_are i))
+    ∙ (λ i. lost_text form deleted (option_map (rootless_now M) (sym at i)) nodes trees)
+
+pub holes_seen : (form : ListForm) (deleted : Bool) (M : Blocks) (answer : Answer Found) (listed : List ℕ) (closed : Option Searched) (nodes : List NodeFields) (entries : List Unnamed) (trees : List LostTree) → answer ≡ holes listed
+    → lost_text form deleted closed nodes trees ≡ lost_text form deleted (searched_by closed M answer (full_entries M answer entries)) (full_nodes M answer nodes) trees
+holes_seen form deleted M answer listed closed nodes entries trees is = λ i. lost_text form deleted (searched_by closed M (sym is i) (full_entries M (sym is i) entries)) (full_nodes M (sym is i) nodes) trees
+
+pub faulty_seen : (form : ListForm) (deleted : Bool) (M : Blocks) (answer : Answer Found) (fault : VolumeFault) (closed : Option Searched) (nodes : List NodeFields) (entries : List Unnamed) (trees : List LostTree) → answer ≡ faulty fault
+    → lost_text form deleted closed nodes trees ≡ lost_text form deleted (searched_by closed M answer (full_entries M answer entries)) (full_nodes M answer nodes) trees
+faulty_seen form deleted M answer fault closed nodes entries trees is = λ i. lost_text form deleted (searched_by closed M (sym is i) (full_entries M (sym is i) entries)) (full_nodes M (sym is i) nodes) trees
 
 -- ---- trees
 
-are_full : (v : View) (deleted : Bool) (es : List Unnamed) (trees : List LostTree) → AreLost v deleted es trees → AreLost v deleted (map (full_entry v) es) trees
-are_full v deleted es trees a = record {
+pub are_full : (v : View) (deleted : Bool) (es entries : List Unnamed) (trees : List LostTree) → es ≡ entries → AreLost v deleted es trees → AreLost v deleted (map (full_entry v) entries) trees
+are_full v deleted es entries trees are a = subst (λ l. AreLost v deleted (map (full_entry v) l) trees) are (record {
   roots = a.roots;
   are_roots = subst (λ folders. AreLostRoots v folders a.roots) (sym (bare_entries_will_do v deleted trees es).folders) a.are_roots;
   are_trees = a.are_trees;
+})
+
+-- where a volume that opens is looked through
+opened_place : (M : Blocks) (answer : Answer Found) (f : Found) (entries : List Unnamed) (closed : Option Searched) → answer ≡ found f
+    → searched_by closed M answer (full_entries M answer entries) ≡ Some (record { view = view M f.space; two = has_two f.layout; entries = map (full_entry (view M f.space)) entries })
+opened_place M answer f entries closed opened = λ i. searched_by closed M (opened i) (full_entries M (opened i) entries)
+
+pub opened_lost : (deleted : Bool) (s : code_survey.Survey Table) (f : Found) (es : List Unnamed) (lost : Lost) → volume_now s.volume ≡ found f → es ≡ s.unnamed.items
+    → AreLost (view (state_of s.table.now) f.space) deleted (map (full_entry (view (state_of s.table.now) f.space)) es) lost.trees.items → IsLostOf deleted s lost
+opened_lost deleted s f es lost opened are a = record {
+  place = place (option_map (rootless_now M) lost.rootless) ∙ sym (place (without_root s.profile M s.last));
+  trees = subst (λ o. AreLostBy deleted o lost.trees.items) (sym (place (without_root s.profile M s.last))) (subst (λ l. AreLost (view M f.space) deleted (map (full_entry (view M f.space)) l) lost.trees.items) are a);
+}
+  where
+    M : Blocks
+    M = state_of s.table.now
+
+    place : (closed : Option Searched) → searched_by closed M (volume_now s.volume) (full_entries M (volume_now s.volume) s.unnamed.items)
+        ≡ Some (record { view = view M f.space; two = has_two f.layout; entries = map (full_entry (view M f.space)) s.unnamed.items })
+    place closed = opened_place M (volume_now s.volume) f s.unnamed.items closed opened
+
+pub opened_unfound : (deleted : Bool) (s : code_survey.Survey Table) (f : Found) (es : List Unnamed) (error : NodesError) → volume_now s.volume ≡ found f → es ≡ s.unnamed.items
+    → IsUnfound (view (state_of s.table.now) f.space) (lost_folders (view (state_of s.table.now) f.space) deleted (map (full_entry (view (state_of s.table.now) f.space)) es)) error → IsUnfoundBy deleted (searched_of s) error
+opened_unfound deleted s f es error opened are a =
+    subst (λ o. IsUnfoundBy deleted o error) (sym (opened_place (state_of s.table.now) (volume_now s.volume) f s.unnamed.items (without_root s.profile (state_of s.table.now) s.last) opened))
+    (subst (λ l. IsUnfound (view (state_of s.table.now) f.space) (lost_folders (view (state_of s.table.now) f.space) deleted (map (full_entry (view (state_of s.table.now) f.space)) l)) error) are a)
+
+-- a volume that does not open is looked through in what is known of it without its file set
+abbrev pub IsClosed : code_survey.Survey Table → Type 0
+IsClosed s = (closed : Option Searched) → searched_by closed (state_of s.table.now) (volume_now s.volume) (full_entries (state_of s.table.now) (volume_now s.volume) s.unnamed.items) ≡ closed
+
+pub holes_closed : (s : code_survey.Survey Table) (listed : List ℕ) → volume_now s.volume ≡ holes listed → IsClosed s
+holes_closed s listed is closed = λ i. searched_by closed (state_of s.table.now) (is i) (full_entries (state_of s.table.now) (is i) s.unnamed.items)
+
+pub faulty_closed : (s : code_survey.Survey Table) (fault : VolumeFault) → volume_now s.volume ≡ faulty fault → IsClosed s
+faulty_closed s fault is closed = λ i. searched_by closed (state_of s.table.now) (is i) (full_entries (state_of s.table.now) (is i) s.unnamed.items)
+
+pub closed_lost : (deleted : Bool) (s : code_survey.Survey Table) (lost : Lost) → IsClosed s → option_map (rootless_now (state_of s.table.now)) lost.rootless ≡ without_root s.profile (state_of s.table.now) s.last
+    → AreLostBy deleted (without_root s.profile (state_of s.table.now) s.last) lost.trees.items → IsLostOf deleted s lost
+closed_lost deleted s lost is at are = record {
+  place = is (option_map (rootless_now (state_of s.table.now)) lost.rootless) ∙ at ∙ sym (is (without_root s.profile (state_of s.table.now) s.last));
+  trees = subst (λ o. AreLostBy deleted o lost.trees.items) (sym (is (without_root s.profile (state_of s.table.now) s.last))) are;
 }
 
-pub found_seen : (deleted : Bool) (M : Blocks) (answer : Answer Found) (f : Found) (v : View) (es entries : List Unnamed) (trees : List LostTree) → answer ≡ found f → v ≡ view M f.space → es ≡ entries
-    → AreLost v deleted es trees → AreLostBy deleted M answer (full_entries M answer entries) trees
-found_seen deleted M answer f v es entries trees opened seen are a =
-    subst (λ z. AreLostBy deleted M z (full_entries M z entries) trees) (sym opened)
-    (subst (λ l. AreLost (view M f.space) deleted (map (full_entry (view M f.space)) l) trees) are (subst (λ w. AreLost w deleted (map (full_entry w) es) trees) seen (are_full v deleted es trees a)))
-
-pub unfound_seen : (deleted : Bool) (M : Blocks) (answer : Answer Found) (f : Found) (v : View) (es entries : List Unnamed) (error : NodesError) → answer ≡ found f → v ≡ view M f.space → es ≡ entries
-    → IsUnfound v (lost_folders v deleted es) error → IsUnfoundBy deleted M answer (full_entries M answer entries) error
-unfound_seen deleted M answer f v es entries error opened seen are a =
-    subst (λ z. IsUnfoundBy deleted M z (full_entries M z entries) error) (sym opened)
-    (subst (λ l. IsUnfound (view M f.space) (lost_folders (view M f.space) deleted (map (full_entry (view M f.space)) l)) error) are
-    (subst (λ w. IsUnfound w (lost_folders w deleted (map (full_entry w) es)) error) seen
-    (subst (λ folders. IsUnfound v folders error) (sym (bare_entries_will_do v deleted [] es).folders) a)))
+pub closed_unfound : (deleted : Bool) (s : code_survey.Survey Table) (error : NodesError) → IsClosed s → IsUnfoundBy deleted (without_root s.profile (state_of s.table.now) s.last) error → IsUnfoundBy deleted (searched_of s) error
+closed_unfound deleted s error is a = subst (λ o. IsUnfoundBy deleted o error) (sym (is (without_root s.profile (state_of s.table.now) s.last))) a

@@ -6,8 +6,6 @@ pub mod StorePrinting
 pub mod LeftOut
 pub mod Narrow
 pub mod TornRows
-pub mod LostTrees
-pub mod LostLists
 pub mod Tallies
 pub mod DiscTallies
 pub mod Sentences
@@ -21,6 +19,10 @@ pub mod TornFiles
 pub mod UnreadLists
 pub mod Guarantees
 pub mod Disagreements
+pub mod Searched
+pub mod LostTrees
+pub mod LostLists
+pub mod LostVolumes
 pub mod Repeating
 pub mod NextCommands
 pub mod Widenings

@@ -1,19 +1,21 @@
 -- The lost folders of a volume, as they are shown.
---     AreLostBy deleted blocks answer entries trees       the trees of the lost folders among entries that no name leads to
---     IsUnfoundBy deleted blocks answer entries error     why they are not found
-use Rattle.std.specs.Prelude.{◌≡◌, ◌⊎◌, ⊤, Bool, List, []}
-use Rattle.udfs_lattice.specs.Volumes.{Blocks}
-use Rattle.udfs_volume.specs.Answers as answer
-use Rattle.udfs_volume.specs.Answers.{Answer}
-use Rattle.udfs_space.specs.Places.{View, view}
+--     AreLost view deleted entries trees      the trees of the lost folders among entries that no name leads to
+--     AreLostBy deleted searched trees        the same where they are looked for
+--     IsUnfoundBy deleted searched error      why they are not found
+--     IsLostOf deleted survey lost            what is lost of a survey's volume was found
+use Rattle.std.specs.Prelude.{◌≡◌, ◌⊎◌, ⊤, Bool, List, [], Option, Some, None}
+use Rattle.udfs_lattice.specs.Tables.{Table}
+use Rattle.udfs_space.specs.Places.{View}
 use Rattle.udfs_walk.specs.Targets.{Icb}
 use Rattle.udfs_walk.specs.declared.answers.NodesError.{NodesError}
 use Rattle.udfs_walk.specs.declared.answers.NodesError.TheVariants.{TooManyPaths, OutOfMemory}
 use Rattle.udfs_walk.specs.declared.answers.Unnamed.{Unnamed}
-use Rattle.udfs_salvage.specs.Found.{Found}
 use Rattle.udfs_lost.specs.Folders.{AreLostRoots, HaveLargeDirectory, lost_folders}
 use Rattle.udfs_lost.specs.LostTrees.{AreLostTrees, HaveMoreRoutes}
 use Rattle.udfs_lost.specs.declared.trees.LostTree.{LostTree}
+use Rattle.udfs_salvage.specs.declared.surveys.Survey as code_survey
+use Rattle.udfs_overview.specs.Searched.{Searched, searched_now, searched_of}
+use Rattle.udfs_overview.specs.declared.lost_found.Lost.{Lost}
 
 -- the trees of the roots of the lost folders among entries
 pub record AreLost (view : View) (deleted : Bool) (entries : List Unnamed) (trees : List LostTree) : Type 0 where
@@ -21,11 +23,10 @@ pub record AreLost (view : View) (deleted : Bool) (entries : List Unnamed) (tree
   pub are_roots : AreLostRoots view (lost_folders view deleted entries) roots
   pub are_trees : AreLostTrees view roots trees
 
--- by what a volume is: what does not open has none
-abbrev pub AreLostBy : Bool → Blocks → Answer Found → List Unnamed → List LostTree → Type 0
-AreLostBy deleted blocks (answer.found f) entries trees = AreLost (view blocks f.space) deleted entries trees
-AreLostBy deleted blocks (answer.holes unread) entries trees = trees ≡ []
-AreLostBy deleted blocks (answer.faulty fault) entries trees = trees ≡ []
+-- where they are looked for; and else there are none
+abbrev pub AreLostBy : Bool → Option Searched → List LostTree → Type 0
+AreLostBy deleted None trees = trees ≡ []
+AreLostBy deleted (Some s) trees = AreLost s.view deleted s.entries trees
 
 -- more than 65,536 routes lead from the roots to nodes, all of them together
 pub record HaveLargeTrees (view : View) (folders : List Icb) : Type 0 where
@@ -38,8 +39,12 @@ abbrev pub IsUnfound : View → List Icb → NodesError → Type 0
 IsUnfound view folders TooManyPaths = HaveLargeDirectory view folders ⊎ HaveLargeTrees view folders
 IsUnfound view folders OutOfMemory = ⊤
 
--- by what a volume is: of what does not open nothing is looked for
-abbrev pub IsUnfoundBy : Bool → Blocks → Answer Found → List Unnamed → NodesError → Type 0
-IsUnfoundBy deleted blocks (answer.found f) entries error = IsUnfound (view blocks f.space) (lost_folders (view blocks f.space) deleted entries) error
-IsUnfoundBy deleted blocks (answer.holes unread) entries error = ⊥
-IsUnfoundBy deleted blocks (answer.faulty fault) entries error = ⊥
+-- the same where they are looked for; and else memory ran out
+abbrev pub IsUnfoundBy : Bool → Option Searched → NodesError → Type 0
+IsUnfoundBy deleted None error = error ≡ OutOfMemory
+IsUnfoundBy deleted (Some s) error = IsUnfound s.view (lost_folders s.view deleted s.entries) error
+
+-- these are the trees of the lost folders of a survey's volume, looked for where that is to be
+pub record IsLostOf (deleted : Bool) (s : code_survey.Survey Table) (lost : Lost) : Type 0 where
+  pub place : searched_now s lost ≡ searched_of s
+  pub trees : AreLostBy deleted (searched_of s) lost.trees.items

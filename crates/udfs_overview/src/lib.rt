@@ -40,8 +40,10 @@ pub use errors::PrintError;
 pub use figures::{push_grouped, push_percent, push_size};
 pub use guarantees::{push_guarantee, push_guarantee_line, push_why_place, push_why_words};
 pub use left_out::{left_out_remark, left_out_types, push_left_out};
-pub use lost_found::found_lost;
-pub use lost_list::write_lost_list;
+pub use lost_found::{
+    Lost, Rootless, find_lost, found_trees_are_the_volumes, places_are_the_volumes,
+};
+pub use lost_list::write_lost;
 pub use moved_tags::{count_moved, push_moved};
 pub use next_commands::{
     Margins, Pass, cleaned, push_extract, push_inputs_end, push_needed_steps, push_summary_by,

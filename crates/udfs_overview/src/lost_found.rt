@@ -1,18 +1,41 @@
 //! The lost folders of a volume: their trees are looked for before a line is shown.
 
-ghost use Rattle.std.specs.Prelude.{IfErr, IfOk};
+ghost use Rattle.std.specs.Prelude.{◌≡◌, IfErr, IfOk, Some, map, option_map};
 ghost use Rattle.udfs_lattice.specs.Tables.{state_of};
 ghost use Rattle.udfs_space.specs.Views.{view_now};
+ghost use Rattle.udfs_walk.specs.Bare.{full_entry};
 ghost use Rattle.udfs_lost.specs.Folders.{lost_folders};
-ghost use Rattle.udfs_salvage.specs.Found.{volume_now};
-ghost use Rattle.udfs_salvage.specs.Surveys.{survey_now};
-ghost use Rattle.udfs_overview.specs.LostTrees.{AreLost, AreLostBy, IsUnfound, IsUnfoundBy};
+ghost use Rattle.udfs_lost.specs.PlacedVolumes.{placed_now};
+ghost use Rattle.udfs_overview.specs.LostTrees.{AreLost, AreLostBy, IsLostOf, IsUnfound, IsUnfoundBy};
+ghost use Rattle.udfs_overview.specs.LostVolumes.{FoundTreesAreTheVolumes, PlacesAreTheVolumes};
+ghost use Rattle.udfs_overview.specs.Searched.{of_placed, rootless_now, searched_of, without_root};
 
-use std::alloc::Global;
-use udfs_lost::{LostTree, lost_roots, lost_trees};
-use udfs_salvage::{Survey, Volume};
+use crate::disagreements::has_room;
+use std::alloc::{AllocError, Global};
+use udfs_lattice::BlockTable;
+use udfs_lost::{LostTree, PlacedVolume, lost_roots, lost_trees, placed_volume};
+use udfs_salvage::{OpenVolume, Survey, Volume};
 use udfs_space::View;
+use udfs_volume::Profile;
 use udfs_walk::{NodesError, Unnamed};
+
+/// What is known of a volume without its file set: no name is known to lead to any of its entries.
+#[derive(Debug, Drop)]
+pub struct Rootless {
+    /// The layout, and the places of the blocks.
+    pub volume: PlacedVolume,
+    /// All entries in known blocks, by partition reference and then by block; a torn one without its blocks and holes.
+    pub entries: Vec<Unnamed>,
+}
+
+/// What is lost of a volume.
+#[derive(Debug, Drop)]
+pub struct Lost {
+    /// Where it was looked for if the volume does not open: `None` also where it does, or its layout and places are not found.
+    pub rootless: Option<Rootless>,
+    /// The trees of the lost folders.
+    pub trees: Vec<LostTree>,
+}
 
 /// The trees of the lost folders among entries that no name leads to.
 fn found_in(
@@ -21,37 +44,167 @@ fn found_in(
     deleted: bool,
     entries: &[Unnamed],
 ) -> Result<Vec<LostTree>, NodesError>
-    ensures trees { IfOk result (λ trees. AreLost (view_now view.entry) deleted entries.now trees.items) }
-    ensures refused { IfErr result (IsUnfound (view_now view.entry) (lost_folders (view_now view.entry) deleted entries.now)) }
+    ensures trees { IfOk result (λ trees. AreLost (view_now view.entry) deleted (map (full_entry (view_now view.entry)) entries.now) trees.items) }
+    ensures refused { IfErr result (IsUnfound (view_now view.entry) (lost_folders (view_now view.entry) deleted (map (full_entry (view_now view.entry)) entries.now))) }
 {
     let roots = lost_roots(alloc, view, deleted, entries)?;
     let trees = lost_trees(alloc, view, &roots)?;
     Ok(trees)
 }
 
-/// The trees of a volume's lost folders: directories that no known name leads to, of link count above 0, or, with `deleted`, of
-/// any. A volume that does not open has none.
+/// A volume by its layout and places, with all of its entries.
+fn with_entries(
+    alloc: Global,
+    table: &BlockTable,
+    volume: PlacedVolume,
+) -> Result<Rootless, AllocError>
+    ensures { IfOk result (λ found. rootless_now (state_of table.now) found ≡ of_placed (state_of table.now) (placed_now volume)) }
+{
+    let entries = volume.entries(alloc, table)?;
+    Ok(Rootless { volume, entries })
+}
+
+/// What is known of a volume without its file set, where its layout and places are found.
+#[tactic(auto, unfolding(crate::specs::Searched::without_root))]
+fn without_root(
+    alloc: Global,
+    table: &BlockTable,
+    last: u32,
+    profile: Profile,
+) -> Result<Option<Rootless>, AllocError>
+    ensures { IfOk result (λ found. option_map (rootless_now (state_of table.now)) found ≡ without_root profile (state_of table.now) last) }
+{
+    if !has_room(last) {
+        return Ok(None);
+    }
+    match placed_volume(alloc, table, last, profile)? {
+        Some(volume) => Ok(Some(with_entries(alloc, table, volume)?)),
+        None => Ok(None),
+    }
+}
+
+/// What is lost of a volume that does not open, where this is known of it.
+fn find_in(
+    alloc: Global,
+    table: &BlockTable,
+    rootless: Rootless,
+    deleted: bool,
+) -> Result<Lost, NodesError>
+    ensures place { IfOk result (λ lost. lost.rootless ≡ Some rootless) }
+    ensures trees { IfOk result (λ lost. AreLostBy deleted (Some (rootless_now (state_of table.now) rootless)) lost.trees.items) }
+    ensures refused { IfErr result (IsUnfoundBy deleted (Some (rootless_now (state_of table.now) rootless))) }
+{
+    match found_in(
+        alloc,
+        rootless.volume.view(table),
+        deleted,
+        &rootless.entries,
+    ) {
+        Ok(trees) => Ok(Lost {
+            rootless: Some(rootless),
+            trees,
+        }),
+        Err(error) => Err(error),
+    }
+}
+
+/// What is lost of a volume that does not open.
+fn find_rootless(
+    alloc: Global,
+    table: &BlockTable,
+    last: u32,
+    profile: Profile,
+    deleted: bool,
+) -> Result<Lost, NodesError>
+    ensures place { IfOk result (λ lost. option_map (rootless_now (state_of table.now)) lost.rootless ≡ without_root profile (state_of table.now) last) }
+    ensures trees { IfOk result (λ lost. AreLostBy deleted (without_root profile (state_of table.now) last) lost.trees.items) }
+    ensures refused { IfErr result (IsUnfoundBy deleted (without_root profile (state_of table.now) last)) }
+{
+    match without_root(alloc, table, last, profile) {
+        Ok(Some(rootless)) => find_in(alloc, table, rootless, deleted),
+        Ok(None) => Ok(Lost {
+            rootless: None,
+            trees: Vec::new(alloc),
+        }),
+        Err(AllocError) => Err(NodesError::OutOfMemory),
+    }
+}
+
+/// What is lost of a volume that opens.
+fn find_open(
+    alloc: Global,
+    opened: &OpenVolume,
+    table: &BlockTable,
+    deleted: bool,
+    entries: &[Unnamed],
+) -> Result<Lost, NodesError>
+    ensures trees { IfOk result (λ lost. AreLost (view (state_of table.now) opened.now.space) deleted (map (full_entry (view (state_of table.now) opened.now.space)) entries.now) lost.trees.items) }
+    ensures refused { IfErr result (IsUnfound (view (state_of table.now) opened.now.space) (lost_folders (view (state_of table.now) opened.now.space) deleted (map (full_entry (view (state_of table.now) opened.now.space)) entries.now))) }
+{
+    match found_in(alloc, opened.view(table), deleted, entries) {
+        Ok(trees) => Ok(Lost {
+            rootless: None,
+            trees,
+        }),
+        Err(error) => Err(error),
+    }
+}
+
+/// The trees of a volume's lost folders: directories that no known name leads to, of link count above 0, or, with `deleted`, of any. Where the
+/// volume does not open, they are looked for by its layout and the places of its blocks alone, if these are found, as where its file set (ECMA-167
+/// 4/14.1) is not known or has a fault. Then no name leads to the root, which is a lost folder like others.
 ///
 /// # Errors
 ///
 /// [`NodesError::TooManyPaths`] where more than 65,536 routes lead from all of them together to nodes, or one of the directories
 /// to which they lead lists more than 65,535 entries; [`NodesError::OutOfMemory`] where memory runs out.
-pub fn found_lost(
-    alloc: Global,
-    survey: &Survey<'_>,
-    deleted: bool,
-) -> Result<Vec<LostTree>, NodesError>
-    ensures trees { IfOk result (λ trees. AreLostBy deleted (state_of survey.now.table.now) (volume_now survey.now.volume) (survey_now survey.now).unnamed trees.items) }
-    ensures refused { IfErr result (IsUnfoundBy deleted (state_of survey.now.table.now) (volume_now survey.now.volume) (survey_now survey.now).unnamed) }
+pub fn find_lost(alloc: Global, survey: &Survey<'_>, deleted: bool) -> Result<Lost, NodesError>
+    ensures found { IfOk result (IsLostOf deleted survey.now) }
+    ensures refused { IfErr result (IsUnfoundBy deleted (searched_of survey.now)) }
 {
     match &survey.volume {
-        Volume::Open(opened) => {
-            let view = opened.view(survey.table);
-            match found_in(alloc, view, deleted, &survey.unnamed) {
-                Ok(trees) => Ok(trees),
-                Err(error) => Err(error),
-            }
-        }
-        _ => Ok(Vec::new(alloc)),
+        Volume::Open(opened) => match find_open(
+            alloc,
+            opened,
+            survey.table,
+            deleted,
+            &survey.unnamed,
+        ) {
+            Ok(lost) => Ok(lost),
+            Err(error) => Err(error),
+        },
+        Volume::Holes(_) => match find_rootless(
+            alloc,
+            survey.table,
+            survey.last,
+            survey.profile,
+            deleted,
+        ) {
+            Ok(lost) => Ok(lost),
+            Err(error) => Err(error),
+        },
+        Volume::Fault(_) => match find_rootless(
+            alloc,
+            survey.table,
+            survey.last,
+            survey.profile,
+            deleted,
+        ) {
+            Ok(lost) => Ok(lost),
+            Err(error) => Err(error),
+        },
     }
 }
+
+/// Whatever the file set says: over a table that agrees with a lawful volume the layout and the places are the volume's, or blocks are listed
+/// that hold a group of which none is known.
+pub fn places_are_the_volumes()
+    ensures { PlacesAreTheVolumes }
+{}
+
+/// Where a lost tree that is found is that of a directory of a lawful volume, each of its nodes is the node of the volume's tree at the directory's
+/// path and then its own, and what is whole has the tree's kind, size, time and bytes; back, what is below the directory's path and has its blocks
+/// is whole in the lost tree.
+pub fn found_trees_are_the_volumes()
+    ensures { FoundTreesAreTheVolumes }
+{}

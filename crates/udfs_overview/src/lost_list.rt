@@ -1,17 +1,16 @@
 //! The list of lost folders and lost files, behind that of the nodes.
 
-ghost use Rattle.std.specs.Prelude.{◌++◌, flat_map, map};
+ghost use Rattle.std.specs.Prelude.{flat_map, map, option_map};
 ghost use Rattle.std.specs.String.{string_bytes};
 ghost use Rattle.udfs_lattice.specs.Tables.{state_of};
 ghost use Rattle.udfs_space.specs.Views.{view_now};
 ghost use Rattle.udfs_walk.specs.Bare.{full_entry, full_node};
-ghost use Rattle.udfs_salvage.specs.Found.{volume_now};
 ghost use Rattle.udfs_salvage.specs.Printing.{PassesOn, Prints};
 ghost use Rattle.udfs_salvage.specs.Surveys.{survey_now};
-ghost use Rattle.udfs_salvage.specs.Texts.{has_two};
-ghost use Rattle.udfs_overview.specs.LostLists.{file_line, lost_lines, lost_text, node_line, tree_lines};
-ghost use Rattle.udfs_overview.specs.NodeLists.{list_text};
+ghost use Rattle.udfs_overview.specs.LostLists.{file_line, full_list, lost_lines, lost_text, node_line, tree_lines};
+ghost use Rattle.udfs_overview.specs.Searched.{rootless_now, searched_now};
 
+use crate::lost_found::Lost;
 use crate::lost_lines::{place_column, push_file_line, push_lost_word, push_node_line};
 use crate::node_list::{ListForm, put_list};
 use std::alloc::Global;
@@ -136,7 +135,7 @@ fn put_files<W: Sink>(
     Ok(())
 }
 
-/// All lines of lost trees and lost files in a view.
+/// All lines of lost trees and lost files in a view, of a volume that has these nodes.
 fn put_lost_in<W: Sink>(
     alloc: Global,
     text: &mut String,
@@ -144,20 +143,51 @@ fn put_lost_in<W: Sink>(
     form: ListForm,
     deleted: bool,
     view: View<'_>,
-    survey: &Survey<'_>,
+    two: bool,
+    nodes: &[Node],
+    entries: &[Unnamed],
     trees: &[LostTree],
 ) -> Result<(), RunError>
     ensures { PassesOn (W.stream sink.old) (W.stream sink.new) (string_bytes text.old) (string_bytes text.new)
-        (lost_lines form deleted (view_now view.entry) (has_two (volume_now survey.now.volume)) (map (full_node (view_now view.entry)) survey.now.nodes.items) (map (full_entry (view_now view.entry)) survey.now.unnamed.items) trees.now) result }
+        (lost_lines form deleted (view_now view.entry) two nodes.now (map (full_entry (view_now view.entry)) entries.now) trees.now) result }
 {
-    let files = lost_files(alloc, view, deleted, trees, &survey.unnamed)?;
-    let two = has_two_partitions(&survey.volume);
-    put_trees(alloc, text, sink, form, view, two, &survey.nodes, trees)?;
+    let files = lost_files(alloc, view, deleted, trees, entries)?;
+    put_trees(alloc, text, sink, form, view, two, nodes, trees)?;
     put_files(alloc, text, sink, form, view, two, &files)
 }
 
-/// All lines of lost trees and lost files.
+/// All lines of lost trees and lost files of a volume that does not open.
 #[tactic(auto, unfolding(crate::specs::LostLists::lost_text))]
+fn put_rootless<W: Sink>(
+    alloc: Global,
+    text: &mut String,
+    sink: &mut W,
+    survey: &Survey<'_>,
+    form: ListForm,
+    deleted: bool,
+    lost: &Lost,
+) -> Result<(), RunError>
+    ensures { PassesOn (W.stream sink.old) (W.stream sink.new) (string_bytes text.old) (string_bytes text.new)
+        (lost_text form deleted (option_map (rootless_now (state_of survey.now.table.now)) lost.now.rootless) survey.now.nodes.items lost.now.trees.items) result }
+{
+    match &lost.rootless {
+        Some(found) => put_lost_in(
+            alloc,
+            text,
+            sink,
+            form,
+            deleted,
+            found.volume.view(survey.table),
+            found.volume.has_two(),
+            &survey.nodes,
+            &found.entries,
+            &lost.trees,
+        ),
+        None => Ok(()),
+    }
+}
+
+/// All lines of lost trees and lost files.
 fn put_lost<W: Sink>(
     alloc: Global,
     text: &mut String,
@@ -165,17 +195,26 @@ fn put_lost<W: Sink>(
     survey: &Survey<'_>,
     form: ListForm,
     deleted: bool,
-    trees: &[LostTree],
+    lost: &Lost,
 ) -> Result<(), RunError>
     ensures { PassesOn (W.stream sink.old) (W.stream sink.new) (string_bytes text.old) (string_bytes text.new)
-        (lost_text form deleted (state_of survey.now.table.now) (survey_now survey.now) trees.now) result }
+        (lost_text form deleted (searched_now survey.now lost.now) (survey_now survey.now).nodes lost.now.trees.items) result }
 {
     match &survey.volume {
-        Volume::Open(opened) => {
-            let view = opened.view(survey.table);
-            put_lost_in(alloc, text, sink, form, deleted, view, survey, trees)
-        }
-        _ => Ok(()),
+        Volume::Open(opened) => put_lost_in(
+            alloc,
+            text,
+            sink,
+            form,
+            deleted,
+            opened.view(survey.table),
+            has_two_partitions(&survey.volume),
+            &survey.nodes,
+            &survey.unnamed,
+            &lost.trees,
+        ),
+        Volume::Holes(_) => put_rootless(alloc, text, sink, survey, form, deleted, lost),
+        Volume::Fault(_) => put_rootless(alloc, text, sink, survey, form, deleted, lost),
     }
 }
 
@@ -187,17 +226,17 @@ fn put_both<W: Sink>(
     survey: &Survey<'_>,
     form: ListForm,
     deleted: bool,
-    trees: &[LostTree],
+    lost: &Lost,
 ) -> Result<(), RunError>
     ensures { PassesOn (W.stream sink.old) (W.stream sink.new) (string_bytes text.old) (string_bytes text.new)
-        (list_text form (state_of survey.now.table.now) (survey_now survey.now) ++ lost_text form deleted (state_of survey.now.table.now) (survey_now survey.now) trees.now) result }
+        (full_list form deleted (state_of survey.now.table.now) (searched_now survey.now lost.now) (survey_now survey.now) lost.now.trees.items) result }
 {
     put_list(alloc, text, sink, survey, form)?;
-    put_lost(alloc, text, sink, survey, form, deleted, trees)
+    put_lost(alloc, text, sink, survey, form, deleted, lost)
 }
 
-/// Writes the lines that [`write_list`](crate::write_list) writes, and then a line for each node of these trees of lost folders, which
-/// [`found_lost`](crate::found_lost) found of the survey, and for each lost file, which is a file that no known name leads to, not even
+/// Writes the lines that [`write_list`](crate::write_list) writes, and then a line for each node of the trees of lost folders, which
+/// [`find_lost`](crate::find_lost) found of the survey, and for each lost file, which is a file that no known name leads to, not even
 /// in them. With `deleted` those of link count 0 are files too. Paths begin with `lost:` and the logical block of the folder's or the
 /// file's entry, with the partition reference and a `-` before it where there are two partitions. The folder's own path ends with `/`;
 /// a last column `in PATH` is behind it where its parent's identifier (ECMA-167 4/14.4.3) names a directory that is a node.
@@ -205,18 +244,18 @@ fn put_both<W: Sink>(
 /// # Errors
 ///
 /// `Write` if and only if the sink failed, `OutOfMemory` if memory ran out. In both cases a prefix of the lines, possibly empty, was written.
-pub fn write_lost_list<W: Sink>(
+pub fn write_lost<W: Sink>(
     alloc: Global,
     survey: &Survey<'_>,
     form: ListForm,
     deleted: bool,
-    trees: &[LostTree],
+    lost: &Lost,
     sink: &mut W,
 ) -> Result<(), RunError>
     ensures { Prints (W.stream sink.old) (W.stream sink.new)
-        (list_text form (state_of survey.now.table.now) (survey_now survey.now) ++ lost_text form deleted (state_of survey.now.table.now) (survey_now survey.now) trees.now) result }
+        (full_list form deleted (state_of survey.now.table.now) (searched_now survey.now lost.now) (survey_now survey.now) lost.now.trees.items) result }
 {
     let mut text = String::new(alloc);
-    put_both(alloc, &mut text, sink, survey, form, deleted, trees)?;
+    put_both(alloc, &mut text, sink, survey, form, deleted, lost)?;
     flush(&mut text, sink)
 }

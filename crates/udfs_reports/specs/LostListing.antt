@@ -3,7 +3,7 @@
 --     IsRefusedLost      they were not, or a beginning of them, and why
 --     PrintsList         what is asked for of a volume was printed
 --     PrintsNoList       it was not, or a beginning of it, and why
-use Rattle.std.specs.Prelude.{◌≡◌, ◌⊎◌, ◌||◌, ◌++◌, ℕ, Bool, true, false, List, alloc_error}
+use Rattle.std.specs.Prelude.{◌≡◌, ◌⊎◌, ◌||◌, ℕ, Bool, true, false, List, Option, alloc_error}
 use Rattle.udfs_lattice.specs.Tables.{Table, state_of}
 use Rattle.udfs_reading.specs.Device.{Stream}
 use Rattle.udfs_reading.specs.Writing.{Wrote}
@@ -15,9 +15,9 @@ use Rattle.udfs_salvage.specs.Headline.{HeadlineBy}
 use Rattle.udfs_salvage.specs.Printing.{Stopped}
 use Rattle.udfs_salvage.specs.Reports.{Report, IsReportBy, all_whole}
 use Rattle.udfs_salvage.specs.declared.errors.RunError.{RunError}
-use Rattle.udfs_overview.specs.LostLists.{lost_text}
+use Rattle.udfs_overview.specs.LostLists.{full_list}
 use Rattle.udfs_overview.specs.LostTrees.{AreLostBy, IsUnfoundBy}
-use Rattle.udfs_overview.specs.NodeLists.{list_text}
+use Rattle.udfs_overview.specs.Searched.{Searched, searched}
 use Rattle.udfs_overview.specs.declared.node_list.ListForm.{ListForm}
 use Rattle.udfs_words.specs.declared.request.ListRequest.{ListRequest}
 use Rattle.udfs_common.specs.Reach.{Reach}
@@ -27,21 +27,17 @@ use Rattle.udfs_common.specs.declared.refusal.Refusal.TheVariants.{TooManyPaths,
 use Rattle.udfs_remarks.specs.NoReports.{IsUntold, run_refusal_of}
 use Rattle.udfs_reports.specs.Listing.{PrintsNoNodes, PrintsNodes}
 
--- these are the trees of the lost folders of a report's volume
-abbrev pub AreLostOf : Bool → Table → Report → List LostTree → Type 0
-AreLostOf deleted table report trees = AreLostBy deleted (state_of table) report.volume report.unnamed trees
-
--- the lines of its nodes, and of what is lost
-abbrev pub both_texts : ListForm → Bool → Table → Report → List LostTree → List ℕ
-both_texts form deleted table report trees = list_text form (state_of table) report ++ lost_text form deleted (state_of table) report trees
+-- where what is lost of a report's volume is looked for
+abbrev pub place : Profile → Table → ℕ → Report → Option Searched
+place profile table last report = searched profile (state_of table) last report
 
 -- these lines of the table's report were printed, of which all holds that is promised of reports, and the result is whether there are nodes and all are whole
 pub record TellsLost (form : ListForm) (deleted : Bool) (profile : Profile) (last : ℕ) (old new : Stream) (whole : Bool) (table : Table) : Type 0 where
   pub report : Report
   pub headline : HeadlineBy profile (state_of table) last report
   pub trees : List LostTree
-  pub are_lost : AreLostOf deleted table report trees
-  pub prints : Wrote old new (both_texts form deleted table report trees)
+  pub are_lost : AreLostBy deleted (place profile table last report) trees
+  pub prints : Wrote old new (full_list form deleted (state_of table) (place profile table last report) report trees)
   pub says : whole ≡ all_whole report.nodes
 
 -- what a command says where what is lost was not found
@@ -54,7 +50,7 @@ pub record HasUnfound (deleted : Bool) (profile : Profile) (last : ℕ) (refusal
   pub report : Report
   pub is_report : IsReportBy profile (state_of table) last report
   pub error : NodesError
-  pub because : IsUnfoundBy deleted (state_of table) report.volume report.unnamed error
+  pub because : IsUnfoundBy deleted (place profile table last report) error
   pub told : refusal ≡ lost_refusal_of error
 
 -- a prefix of the lines was printed, and then the sink failed or memory ran out
@@ -62,9 +58,9 @@ pub record StopsLost (form : ListForm) (deleted : Bool) (profile : Profile) (las
   pub report : Report
   pub is_report : IsReportBy profile (state_of table) last report
   pub trees : List LostTree
-  pub are_lost : AreLostOf deleted table report trees
+  pub are_lost : AreLostBy deleted (place profile table last report) trees
   pub error : RunError
-  pub stopped : Stopped old new (both_texts form deleted table report trees) error
+  pub stopped : Stopped old new (full_list form deleted (state_of table) (place profile table last report) report trees) error
   pub told : refusal ≡ run_refusal_of error
 
 -- nothing was printed, or a beginning

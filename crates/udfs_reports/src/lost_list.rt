@@ -11,7 +11,7 @@ use udfs_common::refusal::Refusal;
 use udfs_common::volumes::joined_volume;
 use udfs_files::Stage;
 use udfs_lattice::BlockTable;
-use udfs_overview::{ListForm, found_lost, write_lost_list};
+use udfs_overview::{ListForm, find_lost, write_lost};
 use udfs_reading::Sink;
 use udfs_remarks::looking::surveyed;
 use udfs_remarks::no_reports::refused_run;
@@ -48,11 +48,11 @@ fn tell_lost<F: Files, O: Sink>(
         Ok(survey) => survey,
         Err(refusal) => return Err(refusal),
     };
-    let trees = match found_lost(alloc, &survey, request.deleted) {
-        Ok(trees) => trees,
+    let lost = match find_lost(alloc, &survey, request.deleted) {
+        Ok(lost) => lost,
         Err(error) => return Err(refused_lost(error)),
     };
-    match write_lost_list(alloc, &survey, form, request.deleted, &trees, out) {
+    match write_lost(alloc, &survey, form, request.deleted, &lost, out) {
         Ok(()) => {
             remark_on(alloc, &survey, files);
             Ok(survey.all_whole())
@@ -83,7 +83,8 @@ fn list_lost<F: Files, O: Sink>(
 }
 
 /// Prints a line for each node of the volume that is asked for, but its root, and behind them, where the request has `lost` or `deleted`, a line for each node of
-/// the trees of lost folders and for each lost file. With `deleted` those of link count 0 are lost folders and files too. It returns whether there are nodes and
+/// the trees of lost folders and for each lost file. With `deleted` those of link count 0 are lost folders and files too. Where the volume does not open, but its
+/// layout and the places of its blocks are found, they are looked for by these alone, and the root is a lost folder too. It returns whether there are nodes and
 /// all of them are whole, whatever is lost. All inputs are opened in order before one is read.
 ///
 /// # Errors

@@ -141,6 +141,74 @@ but 274
 $ list --lost --paths --last 600 disc.tab
 done 1 lost:10/\nlost:10/E\nlost:10/E/D\n
 
+= the_file_set_is_not_known_or_has_a_fault
+# The layout and the places are found, so the root is a lost folder: its link count, at byte 48 of its entry at logical block 1, is 1.
+write 273 48 \x01
+let A whole\tfile\t0\t5000\t2001-07-04T09:30:00Z\t
+let B whole\tfile\t0\t2\t2001-07-04T09:30:00Z\t
+let TREE whole\tdirectory\t0\t120\t2001-07-04T09:30:00Z\tlost:1/\n«A»lost:1/A\n«B»lost:1/B\n
+
+but 272
+$ list --lost --last 600 disc.tab
+done 1 «TREE»
+
+write 272 0 \x01
+but
+$ list --lost --last 600 disc.tab
+done 1 «TREE»
+
+but
+also 272 1
+$ list --lost --last 600 --profile wide disc.tab
+done 1 «TREE»
+
+but 272 278
+$ list --lost --torn --header --last 600 disc.tab
+done 1 standing\tkind\tlost\tsize\ttime\tpath\ntorn\tfile\t2048\t5000\t2001-07-04T09:30:00Z\tlost:1/A\n
+
+but 272
+$ list --lost --json --paths --last 600 disc.tab
+done 1 {"path":"lost:1/"}\n{"path":"lost:1/A"}\n{"path":"lost:1/B"}\n
+
+# The files' link counts are 0.
+but 272 273
+$ list --lost --last 600 disc.tab
+done 1
+
+but 272 273
+$ list --deleted --last 600 disc.tab
+done 1 «A»lost:3\n«B»lost:4\n
+
+but 272
+$ list --last 600 disc.tab
+done 1
+
+but 33 49 272
+$ list --deleted --last 600 disc.tab
+done 1
+
+= the_root_is_one_of_several_lost_folders
+# No name leads to the folder at 20 either, which says that it is in the root; the one at 10 is in the root.
+directory 1 D=10
+directory 10 A=3
+directory 20 E=1 B=4
+write 293 18 \x08\0
+write 273 48 \x01
+write 282 48 \x01
+write 292 48 \x01
+
+but 272
+$ list --lost --paths --last 600 disc.tab
+done 1 lost:1/\nlost:1/D\nlost:1/D/A\nlost:20/\nlost:20/B\n
+
+= two_partitions_without_a_file_set
+# A partition reference stands before the block, and leads to the file in the other partition.
+disc two-maps
+
+but 272
+$ list --deleted --paths --last 600 disc.tab
+done 1 lost:0-1/\nlost:0-1/A\nlost:0-1/B\n
+
 = what_refuses_a_list
 file empty.rd reading
 

@@ -1,16 +1,33 @@
-use Rattle.std.proofs.Common.{ap, subst}
+use Rattle.std.proofs.Common.{ap, option_map, subst}
 use Rattle.std.specs.String.{string_bytes}
 use Rattle.udfs_lattice.specs.Tables.{state_of}
 use Rattle.udfs_salvage.specs.Found.{found_now, volume_now}
 use Rattle.udfs_salvage.specs.Printing.{PassesOn}
-use Rattle.udfs_overview.specs.LostLists.{lost_text}
-use Rattle.udfs_overview.proofs.LostPieces.{lost_seen}
+use Rattle.udfs_overview.specs.Searched.{rootless_now}
+use Rattle.udfs_overview.proofs.LostPieces.{faulty_seen, holes_seen, lost_seen}
 use Rattle.udfs_overview.proofs.lost_list.put_lost.Goals as goal
 
 pub returns-in-Open : goal.returns-in-Open
-unfolding lost_text
 returns-in-Open g c =
     let W = g.W.Sink in
     let s = c.args.survey.now in
+    let lost = c.args.lost.now in
     subst (λ lines. PassesOn (W.stream c.args.sink.now) (W.stream c.put_lost_in.new.sink) (string_bytes c.args.text.now) (string_bytes c.put_lost_in.new.text) lines c.put_lost_in.result)
-    (lost_seen c.args.form c.args.deleted (state_of s.table.now) (volume_now s.volume) (found_now c.in-Open.opened) _ s.nodes.items s.unnamed.items c.args.trees.now (ap volume_now c.in-Open.is) c.view-view.ensures.value) c.put_lost_in.ensures
+    (lost_seen c.args.form c.args.deleted (state_of s.table.now) (volume_now s.volume) (found_now c.in-Open.opened) _ _ _ s.nodes.items _ s.unnamed.items _ lost.trees.items
+    (option_map (rootless_now (state_of s.table.now)) lost.rootless) (ap volume_now c.in-Open.is) c.view.ensures.value c.has_two_partitions.ensures c.deref.ensures.value c.deref-2.ensures.value c.deref-3.ensures.value) c.put_lost_in.ensures
+
+pub returns-in-Holes : goal.returns-in-Holes
+returns-in-Holes g c =
+    let W = g.W.Sink in
+    let s = c.args.survey.now in
+    let lost = c.args.lost.now in
+    subst (λ lines. PassesOn (W.stream c.args.sink.now) (W.stream c.put_rootless.new.sink) (string_bytes c.args.text.now) (string_bytes c.put_rootless.new.text) lines c.put_rootless.result)
+    (holes_seen c.args.form c.args.deleted (state_of s.table.now) (volume_now s.volume) _ (option_map (rootless_now (state_of s.table.now)) lost.rootless) s.nodes.items s.unnamed.items lost.trees.items (ap volume_now c.in-Holes.is)) c.put_rootless.ensures
+
+pub returns-in-Fault : goal.returns-in-Fault
+returns-in-Fault g c =
+    let W = g.W.Sink in
+    let s = c.args.survey.now in
+    let lost = c.args.lost.now in
+    subst (λ lines. PassesOn (W.stream c.args.sink.now) (W.stream c.put_rootless.new.sink) (string_bytes c.args.text.now) (string_bytes c.put_rootless.new.text) lines c.put_rootless.result)
+    (faulty_seen c.args.form c.args.deleted (state_of s.table.now) (volume_now s.volume) _ (option_map (rootless_now (state_of s.table.now)) lost.rootless) s.nodes.items s.unnamed.items lost.trees.items (ap volume_now c.in-Fault.is)) c.put_rootless.ensures

@@ -15,20 +15,17 @@ pub returns-in_err-put_trees : goal.returns-in_err-put_trees
 returns-in_err-put_trees g c =
     let p = err_from_is_err_and c.from_residual-in_err-put_trees.result c.from_residual-in_err-put_trees.ensures.1 in
     let v = view_now c.args.view in
-    let s = c.args.survey.now in
-    let two = c.has_two_partitions-two.result in
+    let a = c.args in
     let files = c.in_ok-files.files.items in
-    rw (p.1, p.2) (stopped_first_of _ (flat_map (tree_lines c.args.form v two c.deref-2.result.now) c.args.trees.now) _ _
-    (lost_pieces c.args.form c.args.deleted v two _ c.deref-2.result.now s.nodes.items c.deref.result.now s.unnamed.items c.args.trees.now files files c.has_two_partitions-two.ensures c.deref-2.ensures.value c.deref.ensures.value refl c.in_ok-files.ensures) c.in_err-put_trees.ensures)
+    rw (p.1, p.2) (stopped_first_of _ (flat_map (tree_lines a.form v a.two a.nodes.now) a.trees.now) _ _
+    (lost_pieces a.form a.deleted v a.two a.nodes.now a.entries.now a.trees.now files files refl c.in_ok-files.ensures) c.in_err-put_trees.ensures)
 
 pub returns : goal.returns
 returns g c =
     let W = g.W.Sink in
     let v = view_now c.args.view in
-    let s = c.args.survey.now in
-    let two = c.has_two_partitions-two.result in
+    let a = c.args in
     let files = c.in_ok-files.files.items in
-    passes_two (W.stream c.put_files.new.sink) (string_bytes c.put_files.new.text) (flat_map (tree_lines c.args.form v two c.deref-2.result.now) c.args.trees.now)
-    (flat_map (file_line c.args.form v two) (map (λ (file : Bor Unnamed). full_entry v file.now) c.deref-3.result.now)) _ c.put_files.result
-    (lost_pieces c.args.form c.args.deleted v two _ c.deref-2.result.now s.nodes.items c.deref.result.now s.unnamed.items c.args.trees.now files c.deref-3.result.now c.has_two_partitions-two.ensures c.deref-2.ensures.value c.deref.ensures.value
-    c.deref-3.ensures.value c.in_ok-files.ensures) c.in_ok-put_trees.ensures c.put_files.ensures
+    passes_two (W.stream c.put_files.new.sink) (string_bytes c.put_files.new.text) (flat_map (tree_lines a.form v a.two a.nodes.now) a.trees.now)
+    (flat_map (file_line a.form v a.two) (map (λ (file : Bor Unnamed). full_entry v file.now) c.deref.result.now)) _ c.put_files.result
+    (lost_pieces a.form a.deleted v a.two a.nodes.now a.entries.now a.trees.now files c.deref.result.now c.deref.ensures.value c.in_ok-files.ensures) c.in_ok-put_trees.ensures c.put_files.ensures

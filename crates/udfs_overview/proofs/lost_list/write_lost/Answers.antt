@@ -1,5 +1,5 @@
 use Rattle.udfs_salvage.proofs.PublicLaws.{prints_then}
-use Rattle.udfs_overview.proofs.lost_list.write_lost_list.Goals as goal
+use Rattle.udfs_overview.proofs.lost_list.write_lost.Goals as goal
 
 pub returns : goal.returns
 returns g c =
