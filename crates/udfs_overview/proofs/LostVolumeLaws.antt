@@ -23,7 +23,6 @@ use Rattle.udfs_walk.specs.Targets.{Icb}
 use Rattle.udfs_walk.specs.UnnamedEntries.{address_of}
 use Rattle.udfs_walk.specs.Walks.{AreNodes}
 use Rattle.udfs_walk.specs.declared.answers.Unnamed.{Unnamed}
-use Rattle.udfs_tree.specs.Sound.{Path}
 use Rattle.udfs_lost.specs.LostTrees.{IsLostTree}
 use Rattle.udfs_lost.specs.PlacedVolumes.{Placed, has_two, if_found, placed_by, placed_in}
 use Rattle.udfs_lost.specs.Subtrees.{IsFolderAt, TellsBelow}
@@ -129,7 +128,7 @@ beside_one v (icb ∷ icbs) (t ∷ trees) tree zip (inl same) = subst (λ (x : L
 beside_one v (icb ∷ icbs) (t ∷ trees) tree zip (inr i) = beside_one v icbs trees tree zip.1 i
 
 -- the tree of a folder, seen in a part of the volume
-tells_in : (P : Profile) (M : Blocks) (V : Volume) (N : ℕ) (l : IsLawfulBy P V N) → Agrees M V N → (opened : Opened) → IsOpenedBy P V N opened → (path : Path) (icb : Icb) → IsFolderAt opened.blocks opened.root path icb
+tells_in : (P : Profile) (M : Blocks) (V : Volume) (N : ℕ) (l : IsLawfulBy P V N) → Agrees M V N → (opened : Opened) → IsOpenedBy P V N opened → (path : List (List ℕ)) (icb : Icb) → IsFolderAt opened.blocks opened.root path icb
     → (nodes : List NodeFields) → AreNodes (view M l.is_volume.found_is.space) (address_of icb) nodes
     → TellsBelow (view M l.is_volume.found_is.space) (view (complete V N) (standard_space V opened.layout)) opened.blocks opened.root path icb nodes
 tells_in P M V N l a opened is path icb folder nodes are =

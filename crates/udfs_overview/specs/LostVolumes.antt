@@ -11,7 +11,6 @@ use Rattle.udfs_space.specs.Laws.{IsSparingGroup}
 use Rattle.udfs_space.specs.Places.{view}
 use Rattle.udfs_space.specs.Standard.{standard_space}
 use Rattle.udfs_walk.specs.Bare.{full_node}
-use Rattle.udfs_tree.specs.Sound.{Path}
 use Rattle.udfs_lost.specs.PlacedVolumes.{Placed, placed_by}
 use Rattle.udfs_lost.specs.Subtrees.{IsFolderAt, TellsBelow}
 use Rattle.udfs_lost.specs.declared.trees.LostTree.{LostTree}
@@ -43,5 +42,5 @@ abbrev pub FoundTreesAreTheVolumes : Type 0
 FoundTreesAreTheVolumes = (profile : Profile) (blocks : Blocks) (volume : Volume) (last : ℕ) → IsLawfulBy profile volume last → Agrees blocks volume last
     → (opened : Opened) → IsOpenedBy profile volume last opened → (report : Report) → IsReportBy profile blocks last report
     → (s : Searched) → searched profile blocks last report ≡ Some s → (deleted : Bool) (trees : List LostTree) → AreLost s.view deleted s.entries trees
-    → (tree : LostTree) → Contains trees tree → (path : Path) → IsFolderAt opened.blocks opened.root path tree.folder
+    → (tree : LostTree) → Contains trees tree → (path : List (List ℕ)) → IsFolderAt opened.blocks opened.root path tree.folder
     → TellsBelow s.view (view (complete volume last) (standard_space volume opened.layout)) opened.blocks opened.root path tree.folder (map (full_node s.view) tree.nodes.items)
