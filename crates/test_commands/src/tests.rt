@@ -36,6 +36,7 @@ mod sizes;
 mod sparing;
 mod stored;
 mod stored_images;
+mod stored_lists;
 mod stored_rereads;
 mod summing;
 mod summing_json;

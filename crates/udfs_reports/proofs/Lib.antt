@@ -2,5 +2,6 @@ pub mod PagingLemmas
 pub mod RereadingLemmas
 pub mod TellingLemmas
 mod InRange
+mod ListedLines
 mod StoreListings
 mod ToldVolumes

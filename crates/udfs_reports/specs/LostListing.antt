@@ -25,8 +25,7 @@ use Rattle.udfs_common.specs.Volumes.{IsNoVolume, OfVolume}
 use Rattle.udfs_common.specs.declared.refusal.Refusal.{Refusal}
 use Rattle.udfs_common.specs.declared.refusal.Refusal.TheVariants.{TooManyPaths, Memory}
 use Rattle.udfs_remarks.specs.NoReports.{IsUntold, run_refusal_of}
-use Rattle.udfs_reports.specs.Listing.{list_of}
-use Rattle.udfs_reports.specs.Telling.{PrintsNoText, PrintsText}
+use Rattle.udfs_reports.specs.Listing.{PrintsNoNodes, PrintsNodes}
 
 -- these are the trees of the lost folders of a report's volume
 abbrev pub AreLostOf : Bool → Table → Report → List LostTree → Type 0
@@ -77,7 +76,7 @@ module _ {F I M S W : Type 0} (reach : Reach F I M S W) (at : F) (form : ListFor
   -- with what is lost, or the nodes alone
   abbrev pub PrintsListBy : Bool → ListRequest → Stream → Stream → Bool → Type 0
   PrintsListBy true r old new whole = OfVolume reach at r.volume (λ last. TellsLost form r.deleted r.volume.profile last old new whole)
-  PrintsListBy false r old new whole = PrintsText reach at (list_of form) r.volume old new whole
+  PrintsListBy false r old new whole = PrintsNodes reach at form r.volume old new whole
 
   -- what is asked for; who asks for what was deleted asks for what is lost
   abbrev pub PrintsList : ListRequest → Stream → Stream → Bool → Type 0
@@ -90,7 +89,7 @@ module _ {F I M S W : Type 0} (reach : Reach F I M S W) (at : F) (form : ListFor
   -- with what is lost, or the nodes alone
   abbrev pub PrintsNoListBy : Bool → ListRequest → Stream → Stream → Refusal → Type 0
   PrintsNoListBy true r old new refusal = PrintsNoLost r old new refusal
-  PrintsNoListBy false r old new refusal = PrintsNoText reach at (list_of form) r.volume old new refusal
+  PrintsNoListBy false r old new refusal = PrintsNoNodes reach at form r.volume old new refusal
 
   -- why it was not printed, and what was
   abbrev pub PrintsNoList : ListRequest → Stream → Stream → Refusal → Type 0

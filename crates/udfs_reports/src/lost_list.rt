@@ -3,8 +3,7 @@
 ghost use Rattle.std.specs.Prelude.{◌≡◌, IfOk, IfErr, true};
 ghost use Rattle.udfs_reports.specs.LostListing.{IsRefusedLost, PrintsList, PrintsListBy, PrintsNoList, PrintsNoLost, TellsLost, lost_refusal_of};
 
-use crate::list::NodeLines;
-use crate::telling::tell;
+use crate::list::{NodeLines, list_nodes};
 use std::alloc::{AllocError, Global};
 use udfs_common::files::Files;
 use udfs_common::known::Known;
@@ -106,5 +105,5 @@ pub fn list<F: Files, O: Sink>(
     if request.lost || request.deleted {
         return list_lost(alloc, request, lines.form, files, out);
     }
-    tell(alloc, &request.volume, lines, files, out)
+    list_nodes(alloc, &request.volume, lines, files, out)
 }

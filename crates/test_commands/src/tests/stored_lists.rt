@@ -1,0 +1,144 @@
+//! `list` of regular files, of which no block is held: what it prints, what it reads, and what an input does that cannot be read.
+
+use crate::tests::check;
+use std::test::Fail;
+
+static SCRIPT: &str = r#"
+= the_same_lines_of_files_and_devices
+# Block 278 is one of the file `A`. What is in `dev/` is a device: then the blocks are held.
+file dev/none.rd reading
+let A torn\tfile\t2048\t5000\t2001-07-04T09:30:00Z\t/A\n
+let B whole\tfile\t0\t2\t2001-07-04T09:30:00Z\t/B\n
+but 278
+then status 1
+then error
+
+$ list --last 600 disc.tab
+out «A»«B»
+
+$ list --last 600 disc.tab dev/none.rd
+out «A»«B»
+
+$ merge --v1 --out one.tab disc.tab
+$ list --last 600 one.tab
+out «A»«B»
+
+$ image --last 600 --out p.img --mapfile p.map disc.tab
+$ list --ddrescue p.img p.map
+out «A»«B»
+
+$ list --torn --header --last 600 disc.tab
+out standing\tkind\tlost\tsize\ttime\tpath\n«A»
+
+$ list --torn --header --last 600 disc.tab dev/none.rd
+out standing\tkind\tlost\tsize\ttime\tpath\n«A»
+
+$ list --json --null --last 600 dev/none.rd disc.tab
+out {"standing":"torn","kind":"file","lost":2048,"size":5000,"time":"2001-07-04T09:30:00.000000Z","path":"/A"}\0{"standing":"whole","kind":"file","lost":0,"size":2,"time":"2001-07-04T09:30:00.000000Z","path":"/B"}\0
+
+= the_whole_volume
+file all.rd reading
+file /dev/stdin sample
+file dev/all.rd sample
+then done 0 whole\tfile\t0\t5000\t2001-07-04T09:30:00Z\t/A\nwhole\tfile\t0\t2\t2001-07-04T09:30:00Z\t/B\n
+
+$ list --last 600 -
+
+$ list --last 600 all.rd dev/all.rd
+
+= two_passes
+# What the first has not read the second has, alone; and then block 278 differs, and is as one that is not known.
+
+but 278
+$ merge --out one.tab disc.tab
+at 278
+$ list --last 600 one.tab disc.tab
+done 0 whole\tfile\t0\t5000\t2001-07-04T09:30:00Z\t/A\nwhole\tfile\t0\t2\t2001-07-04T09:30:00Z\t/B\n
+
+but
+$ merge --out one.tab disc.tab
+at 275
+$ merge --out two.tab disc.tab
+file three.rd reading 278:00
+$ list --last 600 two.tab one.tab three.rd
+done 1 torn\tfile\t2048\t5000\t2001-07-04T09:30:00Z\t/A\nwhole\tfile\t0\t2\t2001-07-04T09:30:00Z\t/B\n
+
+= what_is_known_after_the_last_block
+but
+
+$ list --last 513 disc.tab
+refused udfsalvage: fault 2 PastEnd 514\n
+
+= too_many_paths
+disc doubling 2
+but
+
+$ list --last 600 disc.tab
+refused udfsalvage: fault 3 TooManyPaths\n
+
+= blocks_that_are_not_looked_at_are_not_read
+# The table has 601 blocks in 19 packets, of which the headers are read twice, 488 bytes; and the volume has fewer than 40 blocks that are no file's, of which
+# each is read at most three times: to find the nodes, for the lines, and for the remarks.
+but
+
+inputs-fail 246248
+$ list -v --last 600 disc.tab
+done 0 whole\tfile\t0\t5000\t2001-07-04T09:30:00Z\t/A\nwhole\tfile\t0\t2\t2001-07-04T09:30:00Z\t/B\n
+remarked
+
+= a_device_that_fails_in_the_middle_of_a_walk
+# The table has 2076 bytes: the headers, 28 bytes, are read twice, and then the anchor, which names the blocks 32 and 48. The device fails for good, so
+# the record that is sought from the front is the first, whichever it was. What is remarked is found in the anchor, which is read again.
+at 256
+
+some 0 2104
+inputs-fail «n»
+$ list --last 600 disc.tab
+refused udfsalvage: input 1: fault 8 Io at record 0\n
+
+inputs-fail 2104
+$ list -v --last 600 disc.tab
+done 1
+remarked no remarks on the volume: an input could not be read again\n
+
+inputs-fail 4152
+$ list -v --last 600 disc.tab
+done 1
+remarked the volume does not open: blocks 32 and 48 are needed\n
+
+= a_file_that_is_no_input
+file x text no reading
+but
+
+$ list --last 600 x
+refused udfsalvage: input 1: fault 1 Magic at record 0\n
+
+$ list --last 600 disc.tab x
+refused udfsalvage: input 2: fault 1 Magic at record 0\n
+
+$ list --last 600 disc.tab absent
+refused udfsalvage: cannot open input 2\n
+"#;
+
+#[test]
+fn lists_of_files_of_which_no_block_is_held(rt: HostRuntime) -> Result<(), Fail> {
+    check(&rt, rt.alloc(), SCRIPT)
+}
+
+static LINES_THAT_ARE_OUT: &str = r"
+= a_device_that_fails_while_lines_are_printed
+# The lines of 65,534 nodes have some megabytes, and are printed in pieces. For each the node's entry is read again, 134,213,632 bytes in all.
+disc doubling 0
+but
+
+inputs-fail 100000000
+$ list --last 600 disc.tab
+status 2
+error udfsalvage: input 1: fault 8 Io at record 0\n
+out-begins whole\tdirectory\t0\t80\t2001-07-04T09:30:00Z\t/A\nwhole\tdirectory\t0\t80\t2001-07-04T09:30:00Z\t/A/A\n
+";
+
+#[test]
+fn a_device_fails_while_lines_are_printed(rt: HostRuntime) -> Result<(), Fail> {
+    check(&rt, rt.alloc(), LINES_THAT_ARE_OUT)
+}
