@@ -15,7 +15,8 @@
 #   make deb        a Debian package of the built program in out/, looked at, installed, run and removed in a scratch root
 #   make bench      measures merge against cp, and of an image against its reading, extract against cp -r of the same files, report against reading its input in,
 #                   the CRC against the plain byte table in Rust, the table of blocks against an ordered map and plain copying,
-#                   places a second, and report of volumes that are made to take time or memory
+#                   places a second, report of volumes that are made to take time or memory, and the same work by ddrescue and 7-Zip. What it prints
+#                   is kept in bench/results, from which bench/speed --write writes the tables of docs/SPEED.md
 #   make examples   writes the example readings anew
 
 RT ?= rt
@@ -129,10 +130,7 @@ deb: all
 	@tools/try-deb out/udfsalvage_$$(tools/check-version $(PROGRAM))_amd64.deb
 
 bench: all
-	@bad=; for one in 'bench/merge --program $(PROGRAM) $(BENCH)' 'bench/rescue --program $(PROGRAM)' 'bench/report --program $(PROGRAM)' \
-	    'bench/extract --program $(PROGRAM)' bench/crc bench/table bench/places 'bench/worst --program $(PROGRAM)'; do \
-	    $$one || bad="$$bad $${one%% *}"; \
-	done; [ -z "$$bad" ] || { echo "over a limit, or failed:$$bad" >&2; exit 1; }
+	@bench/run $(PROGRAM) $(BENCH)
 
 docs:
 	@tools/docs
