@@ -10,7 +10,7 @@ returns-in-Ok-clause-headline g c told t holds =
     let same = states_same (g.B.BlockStore.states c.args.blocks.now) t (g.met.B.ReportStore.held c.args.blocks.now t holds) in
     subst (λ (bs : Blocks). HeadlineBy c.args.profile bs c.args.last (listing_by g.B.BlockStore.states c.in-Ok.listing)) same (c.in-Ok.ensures.headline told)
 
-pub returns-clause-refused : goal.returns-clause-refused
-returns-clause-refused g c told t holds =
+pub returns-in-Err-clause-refused : goal.returns-in-Err-clause-refused
+returns-in-Err-clause-refused g c told t holds =
     let same = states_same (g.B.BlockStore.states c.args.blocks.now) t (g.met.B.ReportStore.held c.args.blocks.now t holds) in
     untold_by c.args.profile (g.B.BlockStore.states c.args.blocks.now) t c.args.last c.in-Err.why same (c.in-Err.ensures.refused told)

@@ -15,8 +15,8 @@ returns-in-Ok-clause-lines g c told t holds =
     let same = states_same (g.B.BlockStore.states blocks) t (g.met.B.ReportStore.held blocks t holds) in
     subst (λ (bs : Blocks). Wrote (O.stream c.args.out.now) (O.stream c.write_listing_by.new.sink) (list_text c.args.form bs (listing_by g.B.BlockStore.states c.args.listing.now))) same (c.in-Ok.ensures.printed told)
 
-pub returns-clause-lines : goal.returns-clause-lines
-returns-clause-lines g c told t holds =
+pub returns-in-Err-clause-lines : goal.returns-in-Err-clause-lines
+returns-in-Err-clause-lines g c told t holds =
     let O = g.O.Sink in
     let blocks = c.args.listing.now.table.now in
     let same = states_same (g.B.BlockStore.states blocks) t (g.met.B.ReportStore.held blocks t holds) in
