@@ -69,13 +69,6 @@ but
 $ list --last 513 disc.tab
 refused udfsalvage: fault 2 PastEnd 514\n
 
-= too_many_paths
-disc doubling 2
-but
-
-$ list --last 600 disc.tab
-refused udfsalvage: fault 3 TooManyPaths\n
-
 = blocks_that_are_not_looked_at_are_not_read
 # The table has 601 blocks in 19 packets, of which the headers are read twice, 488 bytes; and the volume has fewer than 40 blocks that are no file's, of which
 # each is read at most three times: to find the nodes, for the lines, and for the remarks.
