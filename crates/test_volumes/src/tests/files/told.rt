@@ -57,7 +57,11 @@ fn fault_text(alloc: Global, fault: NodeFault) -> Result<String, AllocError> {
 }
 
 /// The entry at an address, or the text that says why there is none.
-fn entry_at(alloc: Global, view: View, at: LbAddr) -> Result<Result<Entry, String>, AllocError> {
+fn entry_at<'a>(
+    alloc: Global,
+    view: View<'a>,
+    at: LbAddr,
+) -> Result<Result<Entry<'a>, String>, AllocError> {
     let Some((_, Fact::Known(bytes))) = view.block_at(at) else {
         return Ok(Err(format!(in alloc; "unread")?));
     };

@@ -10,10 +10,10 @@ use udfs_volume::Profile;
 ///
 /// The packet at logical block 0 is spared and is at 400; the partition begins at 272. A packet of 128
 /// blocks from 400 on ends before the last block, 600.
-static PACKETS: [(Bytes, [Place; 3]); 4] = [
+static PACKETS: [(Bytes, &[Place]); 4] = [
     (
         (32, 480, &[1]),
-        [
+        &[
             (Of::Place, 0, 0, 0, "Some(400)"),
             (Of::Place, 0, 0, 0, "Some(400)"),
             (Of::Place, 0, 1, 0, "Some(273)"),
@@ -21,7 +21,7 @@ static PACKETS: [(Bytes, [Place; 3]); 4] = [
     ),
     (
         (32, 480, &[2]),
-        [
+        &[
             (Of::Place, 0, 0, 0, "Some(400)"),
             (Of::Place, 0, 1, 0, "Some(401)"),
             (Of::Place, 0, 2, 0, "Some(274)"),
@@ -29,7 +29,7 @@ static PACKETS: [(Bytes, [Place; 3]); 4] = [
     ),
     (
         (32, 480, &[64]),
-        [
+        &[
             (Of::Place, 0, 0, 0, "Some(400)"),
             (Of::Place, 0, 63, 0, "Some(463)"),
             (Of::Place, 0, 64, 0, "Some(336)"),
@@ -37,7 +37,7 @@ static PACKETS: [(Bytes, [Place; 3]); 4] = [
     ),
     (
         (32, 480, &[128]),
-        [
+        &[
             (Of::Place, 0, 0, 0, "Some(400)"),
             (Of::Place, 0, 127, 0, "Some(527)"),
             (Of::Place, 0, 128, 0, "Some(400)"),

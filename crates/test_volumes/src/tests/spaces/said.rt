@@ -127,7 +127,7 @@ fn told(
             space.block_at(view.table, reference, u64::from(block)),
         ),
         Of::BlockAbove => {
-            let above = u64::from(block) + 4_294_967_296;
+            let above = u64::from(block).wrapping_add(4_294_967_296);
             block_text(alloc, space.block_at(view.table, reference, above))
         }
         Of::Known => known_text(alloc, view, address),
