@@ -120,11 +120,12 @@ fn lists_of_files_of_which_no_block_is_held(rt: HostRuntime) -> Result<(), Fail>
 
 static LINES_THAT_ARE_OUT: &str = r"
 = a_device_that_fails_while_lines_are_printed
-# The lines of 65,534 nodes have some megabytes, and are printed in pieces. For each the node's entry is read again, 134,213,632 bytes in all.
+# The entries of 65,535 nodes are read to find them, and those of 65,534 again for their lines, 268,429,312 bytes in all; nothing else has as much as one
+# megabyte. The lines have some megabytes, and are printed in pieces.
 disc doubling 0
 but
 
-inputs-fail 100000000
+inputs-fail 200000000
 $ list --last 600 disc.tab
 status 2
 error udfsalvage: input 1: fault 8 Io at record 0\n
