@@ -2,7 +2,7 @@
 #   make            proves the program and all that it depends on, builds it, and says where it is
 #   make demo       runs it on the readings of examples/: the built program, where there is one; else one command, which the toolchain runs from the
 #                   sources, of which nothing is proved here yet
-#   make test       judges the whole repository as the gate does, and then tries what make hostile and make try try, the demonstration, and the
+#   make test       judges the whole repository as the gate does, and then tries what make try tries, half of what make hostile does, the demonstration, and the
 #                   commands that README.md and docs/READING.md show (not make test, nor what needs a tool that is not installed); the last line is
 #                   'N passed, M failed'
 #   make hostile    makes each allocation of many runs fail in turn, makes each system call of the program's runs fail or ends it there,
