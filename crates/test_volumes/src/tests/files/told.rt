@@ -114,17 +114,38 @@ pub fn body(
         table,
         space: &space,
     };
-    let entry = match entry_at(alloc, view, at)? {
-        Ok(entry) => entry,
-        Err(text) => return Ok(text),
-    };
     if let OfBody::Tail = of {
-        return tail_text(alloc, view, &entry, at);
+        return match entry_at(alloc, view, at)? {
+            Ok(entry) => tail_text(alloc, view, &entry, at),
+            Err(text) => Ok(text),
+        };
     }
-    match Body::read(alloc, table, &space, &entry, at.reference, at.block) {
+    match body_of(alloc, table, &space, at.reference, at.block)? {
         Ok(body) => told(alloc, view, &body, of),
-        Err(WalkError::Fault(fault)) => Ok(fault_text(alloc, fault)?),
-        Err(WalkError::OutOfMemory) => Ok(format!(in alloc; "out of memory")?),
+        Err(text) => Ok(text),
+    }
+}
+
+/// The body of an entry, or a text that says why the entry has no body.
+fn body_of(
+    alloc: Global,
+    table: &BlockTable,
+    space: &Space,
+    reference: u16,
+    b: u32,
+) -> Result<Result<Body, String>, Fail> {
+    let bytes = match space.block_at(table, reference, u64::from(b)) {
+        Some((_, Fact::Known(bytes))) => bytes,
+        _ => return Ok(Err(format!(in alloc; "unread")?)),
+    };
+    let entry = match Entry::read(bytes, b) {
+        Ok(entry) => entry,
+        Err(fault) => return Ok(Err(fault_text(alloc, fault)?)),
+    };
+    match Body::read(alloc, table, space, &entry, reference, b) {
+        Ok(body) => Ok(Ok(body)),
+        Err(WalkError::Fault(fault)) => Ok(Err(fault_text(alloc, fault)?)),
+        Err(WalkError::OutOfMemory) => Ok(Err(format!(in alloc; "out of memory")?)),
     }
 }
 
