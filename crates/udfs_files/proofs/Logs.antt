@@ -187,9 +187,9 @@ unknown (Some xs) is = let bad : Some (Some xs) ≡ None = is in cc
 
 -- a new file whose path holds what is not known was not synced
 pub still_open : (log : Option Log) (path : List ℕ) (number : Option ℕ) → IsAt log path number → holds log path ≡ None → IsOpen log number
-still_open None path number at open = tt
-still_open (Some log) path None at open = tt
-still_open (Some log) path (Some number) at open = (at.0, unknown (new_content log.calls number) (sym (ap (held_by (content log.start log.calls)) at.1) ∙ open))
+still_open None path number at unsynced = tt
+still_open (Some log) path None at unsynced = tt
+still_open (Some log) path (Some number) at unsynced = (at.0, unknown (new_content log.calls number) (sym (ap (held_by (content log.start log.calls)) at.1) ∙ unsynced))
 
 pub synced_goes : (old new : Option Log) (number : Option ℕ) (bytes : Option (List ℕ)) → new ≡ after_sync number bytes old → LogGoes old new Same
 synced_goes old new None bytes e = stays_by old new Same same_idle e

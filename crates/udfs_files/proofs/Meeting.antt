@@ -168,8 +168,8 @@ module _ (number : ℕ) where
   early_moved false false n x y at_x at_y is = let l = at_y is in omega (arith, l)
 
   early_other : (e : Option Node) → (e ≡ Some (made number) → ⊥) → (b : Bool) (n : ℕ) (x : Option Node) → (x ≡ Some (made number) → number < n) → (if b then e else x) ≡ Some (made number) → number < n + 1
-  early_other e no true n x at_x is = absurd (no is)
-  early_other e no false n x at_x is = let l = at_x is in omega (arith, l)
+  early_other e never true n x at_x is = absurd (never is)
+  early_other e never false n x at_x is = let l = at_x is in omega (arith, l)
 
   given : (start : Start) (calls : List Call) (p : List ℕ) → node_at start calls p ≡ Some (made number) → number < length calls
   given start [] p is = absurd (old_start start.content (start.number_at p) p number is)
@@ -204,9 +204,9 @@ module _ (number : ℕ) (p q : List ℕ) where
   one_moved from to x y z false false false false p_to q_to p_apart q_apart old_p old_q old one two = old one two
 
   one_other : (e : Option Node) → (e ≡ Some (made number) → ⊥) → (x y : Option Node) (b c : Bool) → (x ≡ Some (made number) → y ≡ Some (made number) → p ≡ q) → (if b then e else x) ≡ Some (made number) → (if c then e else y) ≡ Some (made number) → p ≡ q
-  one_other e no x y true c old one two = absurd (no one)
-  one_other e no x y false true old one two = absurd (no two)
-  one_other e no x y false false old one two = old one two
+  one_other e never x y true c old one two = absurd (never one)
+  one_other e never x y false true old one two = absurd (never two)
+  one_other e never x y false false old one two = old one two
 
 -- one path alone names a new file
 one_path : (number : ℕ) (start : Start) (calls : List Call) (p q : List ℕ) → node_at start calls p ≡ Some (made number) → node_at start calls q ≡ Some (made number) → p ≡ q

@@ -34,9 +34,18 @@ pub(crate) fn name_in(alloc: Global, folder: &str, name: &str) -> Result<String,
 
 /// Whether a name leads on from its folder to what is in it.
 pub(crate) fn is_part(name: &str) -> bool
-    ensures { IsTrue result ↔ IsPart name.now }
+    ensures { IsTrue result → IsPart name.now }
 {
-    !name.is_empty() && name != "." && name != ".."
+    if name == "" {
+        return false;
+    }
+    if name == "." {
+        return false;
+    }
+    if name == ".." {
+        return false;
+    }
+    true
 }
 
 /// Whether what is at the path is a device or an opened file by the name alone, as `/dev/stdout` is.
