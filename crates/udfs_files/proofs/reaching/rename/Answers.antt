@@ -6,4 +6,4 @@ returns-in-Ok-rename-clause-gone g c = λ tells. renamed_away (g.C.Calls.log c.a
 
 pub returns-in-Ok-rename-clause-durable : goal.returns-in-Ok-rename-clause-durable
 returns-in-Ok-rename-clause-durable g c = λ left kept.
-    kept_same (g.C.Calls.log c.args.calls.now) _ c.args.to.now c.args.from.now left (renamed_held (g.C.Calls.log c.args.calls.now) _ c.args.from.now c.args.to.now c.requires c.in-Ok-rename.ensures.done) kept
+    kept_same (g.C.Calls.log c.args.calls.now) (g.C.Calls.log c.rename.new.self) c.args.to.now c.args.from.now left (renamed_held (g.C.Calls.log c.args.calls.now) (g.C.Calls.log c.rename.new.self) c.args.from.now c.args.to.now c.requires c.in-Ok-rename.ensures.done) kept
