@@ -2,10 +2,10 @@
 use Rattle.std.proofs.Common.{inl, inr, ⊎_elim, refl, sym, ◌∙◌, ap, subst, arith}
 use Rattle.std.proofs.lemmas.Bool.{cases_Bool}
 use Rattle.std.proofs.lemmas.Slice.Eq.{bytes_eq-Decides}
-use Rattle.std.specs.Prelude.{◌≡◌, ◌≢◌, ◌⊎◌, ℕ, ◌≤◌, Bool, true, false, List, [], ◌∷◌, length, Option, Some, None, if◌then◌else◌, bytes_eq, IfSome, ⊤}
+use Rattle.std.specs.Prelude.{◌≡◌, ◌≢◌, ℕ, Bool, true, false, List, [], ◌∷◌, length, Option, Some, None, if◌then◌else◌, bytes_eq, IfSome}
 use Rattle.udfs_calls.proofs.SomeCrash.{alike, apart}
-use Rattle.udfs_calls.specs.Lawful.{IsLawful, IsLawfulLog}
-use Rattle.udfs_calls.specs.Log.{AreNamed, Call, IsAt, IsFresh, IsOpen, Log, Names, NamesSome, Node, Start, after, after_sync, content, held, held_by, holds, is_created, is_folder, is_named, kept, kept_of, moment_of, names_folder, new_content, node_at, number_now, outcome, outcome_since, shown, told_bytes}
+use Rattle.udfs_calls.specs.Lawful.{IsLawfulLog}
+use Rattle.udfs_calls.specs.Log.{AreNamed, Call, IsAt, IsFresh, IsOpen, Log, Names, NamesSome, Node, Start, after, after_sync, content, held_by, holds, is_folder, is_named, kept, kept_of, moment_of, names_folder, new_content, node_at, number_now, shown, told_bytes}
 use Rattle.udfs_calls.specs.Log.Call.{created, opened, synced, renamed, removed, folder_made, folder_synced, failed}
 use Rattle.udfs_calls.specs.Log.Node.{there, made, folder}
 use Rattle.udfs_calls.specs.Paths.{parent}
@@ -324,14 +324,14 @@ folder_synced_named (Some log) new but g e named = subst (λ l. AreNamed l but) 
 pub last_named : (old new : Option Log) (last : List ℕ) → parent last ≢ last → new ≡ after (folder_synced (parent last)) old → AreNamed old (Some last) → AreNamed new None
 last_named None new last apart e named = subst (λ l. AreNamed l None) (sym e) tt
 last_named (Some log) new last differs e named = subst (λ l. AreNamed l None) (sym e) (λ f any. elim (cases_Bool (bytes_eq f last)) [
-    | inl hit ↦
-        let is : f ≡ last = (bytes_eq-Decides f last).0 hit in
-        let own : is_named log.calls (parent last) ≡ true = named (parent last) (λ same. differs (sym (unsome same))) in
-        ap (λ p. is_named (folder_synced (parent last) ∷ log.calls) p) is
-        ∙ ap (λ b. if b then (if is_named log.calls (parent last) then true else is_named log.calls last) else is_named log.calls last) (alike (parent last))
-        ∙ ap (λ b. if b then true else is_named log.calls last) own
-    | inr miss ↦ still_named (bytes_eq (parent f) (parent last)) (is_named log.calls (parent last)) (is_named log.calls f) (named f (λ same. absurd (let is : f ≡ last = sym (unsome same) in let bad : true ≡ false = sym ((bytes_eq-Decides f last).1 is) ∙ miss in cc)))
-  ])
+  | inl hit ↦
+      let is : f ≡ last = (bytes_eq-Decides f last).0 hit in
+      let own : is_named log.calls (parent last) ≡ true = named (parent last) (λ same. differs (sym (unsome same))) in
+      ap (λ p. is_named (folder_synced (parent last) ∷ log.calls) p) is
+      ∙ ap (λ b. if b then (if is_named log.calls (parent last) then true else is_named log.calls last) else is_named log.calls last) (alike (parent last))
+      ∙ ap (λ b. if b then true else is_named log.calls last) own
+  | inr miss ↦ still_named (bytes_eq (parent f) (parent last)) (is_named log.calls (parent last)) (is_named log.calls f) (named f (λ same. absurd (let is : f ≡ last = sym (unsome same) in let bad : true ≡ false = sym ((bytes_eq-Decides f last).1 is) ∙ miss in cc)))
+])
   where
     or_none : Option (List ℕ) → List ℕ
     or_none None = []
@@ -365,4 +365,3 @@ last_settles old new last differs e named = names_stay old old new (Some last) (
 pub fresh_named : (log : Option Log) → IsFresh log → AreNamed log None
 fresh_named None fresh = tt
 fresh_named (Some log) fresh = λ f any. ap (λ calls. is_named calls f) fresh
-

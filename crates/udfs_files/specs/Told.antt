@@ -8,7 +8,7 @@
 --     path_of text                    the path in a text, where there is one
 use Rattle.std.proofs.Common.{inl, ⊎_elim, subst, arith}
 use Rattle.std.specs.Coded.{Coded-set, coded_bool, Π_prop, Unit-prop}
-use Rattle.std.specs.Prelude.{◌≡◌, ◌≤◌, ℕ, List, [], ◌∷◌, length, Option, Some, None, String, string_bytes, true, ⊤}
+use Rattle.std.specs.Prelude.{◌≡◌, ℕ, List, [], ◌∷◌, length, Option, Some, None, String, string_bytes, true, ⊤}
 use Rattle.std.specs.declared.alloc.Global.{Global}
 use Rattle.udfs_calls.proofs.PublicLaws.{a_crash_leaves_something}
 use Rattle.udfs_calls.specs.Lawful.{IsLawfulLog}
