@@ -108,37 +108,41 @@ faulty_seen form deleted M answer fault closed nodes entries trees is = λ i. lo
 
 -- ---- trees
 
-pub are_full : (v : View) (deleted : Bool) (es entries : List Unnamed) (trees : List LostTree) → es ≡ entries → AreLost v deleted es trees → AreLost v deleted (map (full_entry v) entries) trees
-are_full v deleted es entries trees are a = subst (λ l. AreLost v deleted (map (full_entry v) l) trees) are (record {
-  roots = a.roots;
-  are_roots = subst (λ folders. AreLostRoots v folders a.roots) (sym (bare_entries_will_do v deleted trees es).folders) a.are_roots;
-  are_trees = a.are_trees;
-})
+-- of entries without their lists the same are lost as of those with them
+pub full_lost : (v w : View) (deleted : Bool) (es entries : List Unnamed) (trees : List LostTree) → v ≡ w → es ≡ entries → AreLost v deleted es trees → AreLost w deleted (map (full_entry w) entries) trees
+full_lost v w deleted es entries trees seen are a =
+    subst (λ z. AreLost z deleted (map (full_entry z) entries) trees) seen (subst (λ l. AreLost v deleted (map (full_entry v) l) trees) are (record {
+      roots = a.roots;
+      are_roots = subst (λ folders. AreLostRoots v folders a.roots) (sym (bare_entries_will_do v deleted trees es).folders) a.are_roots;
+      are_trees = a.are_trees;
+    }))
+
+pub full_unfound : (v w : View) (deleted : Bool) (es entries : List Unnamed) (error : NodesError) → v ≡ w → es ≡ entries → IsUnfound v (lost_folders v deleted es) error → IsUnfound w (lost_folders w deleted (map (full_entry w) entries)) error
+full_unfound v w deleted es entries error seen are a =
+    subst (λ z. IsUnfound z (lost_folders z deleted (map (full_entry z) entries)) error) seen
+    (subst (λ l. IsUnfound v (lost_folders v deleted (map (full_entry v) l)) error) are (subst (λ folders. IsUnfound v folders error) (sym (bare_entries_will_do v deleted [] es).folders) a))
 
 -- where a volume that opens is looked through
 opened_place : (M : Blocks) (answer : Answer Found) (f : Found) (entries : List Unnamed) (closed : Option Searched) → answer ≡ found f
     → searched_by closed M answer (full_entries M answer entries) ≡ Some (record { view = view M f.space; two = has_two f.layout; entries = map (full_entry (view M f.space)) entries })
 opened_place M answer f entries closed opened = λ i. searched_by closed M (opened i) (full_entries M (opened i) entries)
 
-pub opened_lost : (deleted : Bool) (s : code_survey.Survey Table) (f : Found) (es : List Unnamed) (lost : Lost) → volume_now s.volume ≡ found f → es ≡ s.unnamed.items
-    → AreLost (view (state_of s.table.now) f.space) deleted (map (full_entry (view (state_of s.table.now) f.space)) es) lost.trees.items → IsLostOf deleted s lost
-opened_lost deleted s f es lost opened are a = record {
-  place = place (option_map (rootless_now M) lost.rootless) ∙ sym (place (without_root s.profile M s.last));
-  trees = subst (λ o. AreLostBy deleted o lost.trees.items) (sym (place (without_root s.profile M s.last))) (subst (λ l. AreLost (view M f.space) deleted (map (full_entry (view M f.space)) l) lost.trees.items) are a);
+pub opened_lost : (deleted : Bool) (s : code_survey.Survey Table) (f : Found) (v : View) (es : List Unnamed) (lost : Lost) → volume_now s.volume ≡ found f → v ≡ view (state_of s.table.now) f.space → es ≡ s.unnamed.items
+    → AreLost v deleted es lost.trees.items → IsLostOf deleted s lost
+opened_lost deleted s f v es lost opened seen are a = record {
+  place = place (option_map (rootless_now (state_of s.table.now)) lost.rootless) ∙ sym (place (without_root s.profile (state_of s.table.now) s.last));
+  trees = subst (λ o. AreLostBy deleted o lost.trees.items) (sym (place (without_root s.profile (state_of s.table.now) s.last))) (full_lost v (view (state_of s.table.now) f.space) deleted es s.unnamed.items lost.trees.items seen are a);
 }
   where
-    M : Blocks
-    M = state_of s.table.now
+    place : (closed : Option Searched) → searched_by closed (state_of s.table.now) (volume_now s.volume) (full_entries (state_of s.table.now) (volume_now s.volume) s.unnamed.items)
+        ≡ Some (record { view = view (state_of s.table.now) f.space; two = has_two f.layout; entries = map (full_entry (view (state_of s.table.now) f.space)) s.unnamed.items })
+    place closed = opened_place (state_of s.table.now) (volume_now s.volume) f s.unnamed.items closed opened
 
-    place : (closed : Option Searched) → searched_by closed M (volume_now s.volume) (full_entries M (volume_now s.volume) s.unnamed.items)
-        ≡ Some (record { view = view M f.space; two = has_two f.layout; entries = map (full_entry (view M f.space)) s.unnamed.items })
-    place closed = opened_place M (volume_now s.volume) f s.unnamed.items closed opened
-
-pub opened_unfound : (deleted : Bool) (s : code_survey.Survey Table) (f : Found) (es : List Unnamed) (error : NodesError) → volume_now s.volume ≡ found f → es ≡ s.unnamed.items
-    → IsUnfound (view (state_of s.table.now) f.space) (lost_folders (view (state_of s.table.now) f.space) deleted (map (full_entry (view (state_of s.table.now) f.space)) es)) error → IsUnfoundBy deleted (searched_of s) error
-opened_unfound deleted s f es error opened are a =
+pub opened_unfound : (deleted : Bool) (s : code_survey.Survey Table) (f : Found) (v : View) (es : List Unnamed) (error : NodesError) → volume_now s.volume ≡ found f → v ≡ view (state_of s.table.now) f.space → es ≡ s.unnamed.items
+    → IsUnfound v (lost_folders v deleted es) error → IsUnfoundBy deleted (searched_of s) error
+opened_unfound deleted s f v es error opened seen are a =
     subst (λ o. IsUnfoundBy deleted o error) (sym (opened_place (state_of s.table.now) (volume_now s.volume) f s.unnamed.items (without_root s.profile (state_of s.table.now) s.last) opened))
-    (subst (λ l. IsUnfound (view (state_of s.table.now) f.space) (lost_folders (view (state_of s.table.now) f.space) deleted (map (full_entry (view (state_of s.table.now) f.space)) l)) error) are a)
+    (full_unfound v (view (state_of s.table.now) f.space) deleted es s.unnamed.items error seen are a)
 
 -- a volume that does not open is looked through in what is known of it without its file set
 abbrev pub IsClosed : code_survey.Survey Table → Type 0

@@ -1,9 +1,8 @@
 //! The lost folders of a volume: their trees are looked for before a line is shown.
 
-ghost use Rattle.std.specs.Prelude.{◌≡◌, IfErr, IfOk, Some, map, option_map};
+ghost use Rattle.std.specs.Prelude.{◌≡◌, IfErr, IfOk, Some, option_map};
 ghost use Rattle.udfs_lattice.specs.Tables.{state_of};
 ghost use Rattle.udfs_space.specs.Views.{view_now};
-ghost use Rattle.udfs_walk.specs.Bare.{full_entry};
 ghost use Rattle.udfs_lost.specs.Folders.{lost_folders};
 ghost use Rattle.udfs_lost.specs.PlacedVolumes.{placed_now};
 ghost use Rattle.udfs_overview.specs.LostTrees.{AreLost, AreLostBy, IsLostOf, IsUnfound, IsUnfoundBy};
@@ -14,7 +13,7 @@ use crate::disagreements::has_room;
 use std::alloc::{AllocError, Global};
 use udfs_lattice::BlockTable;
 use udfs_lost::{LostTree, PlacedVolume, lost_roots, lost_trees, placed_volume};
-use udfs_salvage::{OpenVolume, Survey, Volume};
+use udfs_salvage::{Survey, Volume};
 use udfs_space::View;
 use udfs_volume::Profile;
 use udfs_walk::{NodesError, Unnamed};
@@ -44,8 +43,8 @@ fn found_in(
     deleted: bool,
     entries: &[Unnamed],
 ) -> Result<Vec<LostTree>, NodesError>
-    ensures trees { IfOk result (λ trees. AreLost (view_now view.entry) deleted (map (full_entry (view_now view.entry)) entries.now) trees.items) }
-    ensures refused { IfErr result (IsUnfound (view_now view.entry) (lost_folders (view_now view.entry) deleted (map (full_entry (view_now view.entry)) entries.now))) }
+    ensures trees { IfOk result (λ trees. AreLost (view_now view.entry) deleted entries.now trees.items) }
+    ensures refused { IfErr result (IsUnfound (view_now view.entry) (lost_folders (view_now view.entry) deleted entries.now)) }
 {
     let roots = lost_roots(alloc, view, deleted, entries)?;
     let trees = lost_trees(alloc, view, &roots)?;
@@ -130,26 +129,6 @@ fn find_rootless(
     }
 }
 
-/// What is lost of a volume that opens.
-fn find_open(
-    alloc: Global,
-    opened: &OpenVolume,
-    table: &BlockTable,
-    deleted: bool,
-    entries: &[Unnamed],
-) -> Result<Lost, NodesError>
-    ensures trees { IfOk result (λ lost. AreLost (view (state_of table.now) opened.now.space) deleted (map (full_entry (view (state_of table.now) opened.now.space)) entries.now) lost.trees.items) }
-    ensures refused { IfErr result (IsUnfound (view (state_of table.now) opened.now.space) (lost_folders (view (state_of table.now) opened.now.space) deleted (map (full_entry (view (state_of table.now) opened.now.space)) entries.now))) }
-{
-    match found_in(alloc, opened.view(table), deleted, entries) {
-        Ok(trees) => Ok(Lost {
-            rootless: None,
-            trees,
-        }),
-        Err(error) => Err(error),
-    }
-}
-
 /// The trees of a volume's lost folders: directories that no known name leads to, of link count above 0, or, with `deleted`, of any. Where the
 /// volume does not open, they are looked for by its layout and the places of its blocks alone, if these are found, as where its file set (ECMA-167
 /// 4/14.1) is not known or has a fault. Then no name leads to the root, which is a lost folder like others.
@@ -163,16 +142,15 @@ pub fn find_lost(alloc: Global, survey: &Survey<'_>, deleted: bool) -> Result<Lo
     ensures refused { IfErr result (IsUnfoundBy deleted (searched_of survey.now)) }
 {
     match &survey.volume {
-        Volume::Open(opened) => match find_open(
-            alloc,
-            opened,
-            survey.table,
-            deleted,
-            &survey.unnamed,
-        ) {
-            Ok(lost) => Ok(lost),
-            Err(error) => Err(error),
-        },
+        Volume::Open(opened) => {
+            match found_in(alloc, opened.view(survey.table), deleted, &survey.unnamed) {
+                Ok(trees) => Ok(Lost {
+                    rootless: None,
+                    trees,
+                }),
+                Err(error) => Err(error),
+            }
+        }
         Volume::Holes(_) => match find_rootless(
             alloc,
             survey.table,

@@ -14,7 +14,7 @@ returns-in-Open g c =
     let lost = c.args.lost.now in
     subst (λ lines. PassesOn (W.stream c.args.sink.now) (W.stream c.put_lost_in.new.sink) (string_bytes c.args.text.now) (string_bytes c.put_lost_in.new.text) lines c.put_lost_in.result)
     (lost_seen c.args.form c.args.deleted (state_of s.table.now) (volume_now s.volume) (found_now c.in-Open.opened) _ _ _ s.nodes.items _ s.unnamed.items _ lost.trees.items
-    (option_map (rootless_now (state_of s.table.now)) lost.rootless) (ap volume_now c.in-Open.is) c.view.ensures.value c.has_two_partitions.ensures c.deref.ensures.value c.deref-2.ensures.value c.deref-3.ensures.value) c.put_lost_in.ensures
+    (option_map (rootless_now (state_of s.table.now)) lost.rootless) (ap volume_now c.in-Open.is) c.view.ensures.value c.has_two_partitions.ensures c.deref.ensures.value c.deref-in-Open.ensures.value c.deref-in-Open-2.ensures.value) c.put_lost_in.ensures
 
 pub returns-in-Holes : goal.returns-in-Holes
 returns-in-Holes g c =
@@ -29,5 +29,5 @@ returns-in-Fault g c =
     let W = g.W.Sink in
     let s = c.args.survey.now in
     let lost = c.args.lost.now in
-    subst (λ lines. PassesOn (W.stream c.args.sink.now) (W.stream c.put_rootless.new.sink) (string_bytes c.args.text.now) (string_bytes c.put_rootless.new.text) lines c.put_rootless.result)
-    (faulty_seen c.args.form c.args.deleted (state_of s.table.now) (volume_now s.volume) _ (option_map (rootless_now (state_of s.table.now)) lost.rootless) s.nodes.items s.unnamed.items lost.trees.items (ap volume_now c.in-Fault.is)) c.put_rootless.ensures
+    subst (λ lines. PassesOn (W.stream c.args.sink.now) (W.stream c.put_rootless-in-Fault.new.sink) (string_bytes c.args.text.now) (string_bytes c.put_rootless-in-Fault.new.text) lines c.put_rootless-in-Fault.result)
+    (faulty_seen c.args.form c.args.deleted (state_of s.table.now) (volume_now s.volume) _ (option_map (rootless_now (state_of s.table.now)) lost.rootless) s.nodes.items s.unnamed.items lost.trees.items (ap volume_now c.in-Fault.is)) c.put_rootless-in-Fault.ensures

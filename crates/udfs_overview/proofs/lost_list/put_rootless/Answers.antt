@@ -11,4 +11,4 @@ returns-in-Some g c =
     let s = c.args.survey.now in
     let lost = c.args.lost.now in
     subst (λ lines. PassesOn (W.stream c.args.sink.now) (W.stream c.put_lost_in.new.sink) (string_bytes c.args.text.now) (string_bytes c.put_lost_in.new.text) lines c.put_lost_in.result)
-    (rootless_seen c.args.form c.args.deleted (state_of s.table.now) lost.rootless c.in-Some.found _ _ _ s.nodes.items _ _ lost.trees.items c.in-Some.is c.view.ensures.value c.has_two.ensures c.deref.ensures.value c.deref-2.ensures.value c.deref-3.ensures.value) c.put_lost_in.ensures
+    (rootless_seen c.args.form c.args.deleted (state_of s.table.now) lost.rootless c.in-Some.found _ _ _ s.nodes.items _ _ lost.trees.items c.in-Some.is c.view.ensures.value c.has_two.ensures c.deref.ensures.value c.deref-in-Some.ensures.value c.deref-in-Some-2.ensures.value) c.put_lost_in.ensures
