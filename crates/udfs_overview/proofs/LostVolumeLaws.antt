@@ -1,5 +1,5 @@
 -- Lost trees of a volume that opens or does not, over a table that agrees with a lawful volume.
-use Rattle.std.proofs.Common.{◌≡◌, refl, sym, ◌∙◌, ap, subst, inl, inr, ◌⊎◌, ℕ, Bool, true, false, cond, List, [], ◌∷◌, map, Option, Some, None, option_map}
+use Rattle.std.proofs.Common.{◌≡◌, refl, sym, ◌∙◌, ap, subst, inl, inr, ◌⊎◌, ℕ, Bool, true, false, cond, List, [], ◌∷◌, map, Some, None, option_map}
 use Rattle.std.specs.Prelude.{Contains}
 use Rattle.std.specs.List.{AllZip}
 use Rattle.udfs_lattice.specs.Volumes.{Blocks, Volume, Agrees, complete, IsUnread}
@@ -9,7 +9,6 @@ use Rattle.udfs_volume.specs.Layout.{Layout, layout_by}
 use Rattle.udfs_volume.specs.Laws.{IsAnswerOf, IsSequenceGroup, ListsGroup, the_same, valid_anchors}
 use Rattle.udfs_volume.specs.Laws.IsAnswerOf.{unread as unread_answer}
 use Rattle.udfs_volume.specs.Sequence.{anchor_places}
-use Rattle.udfs_volume.specs.declared.faults.VolumeFault.{VolumeFault}
 use Rattle.udfs_volume.specs.declared.profiles.Profile.{Profile}
 use Rattle.udfs_volume.proofs.PublicLaws.{layout_of_lawful_by}
 use Rattle.udfs_space.specs.Laws.{IsSparingGroup}
@@ -30,17 +29,14 @@ use Rattle.udfs_lost.specs.declared.trees.LostTree.{LostTree}
 use Rattle.udfs_lost.proofs.PublicLaws.{lost_trees_tell}
 use Rattle.udfs_salvage.specs.Found.{Found}
 use Rattle.udfs_salvage.specs.Laws.{IsLawfulVolumeBy, IsToldOf}
-use Rattle.udfs_salvage.specs.Reports.{Report, IsReportBy}
 use Rattle.udfs_salvage.specs.VolumeTrees.{IsLawfulBy, IsOpenedBy, Opened}
-use Rattle.udfs_salvage.proofs.Founds.{found_same}
 use Rattle.udfs_salvage.proofs.Openings.{ReadAs, has_partitions, lawful_tree, read_as}
 use Rattle.udfs_salvage.proofs.Opens.{FoundBy, found_by}
 use Rattle.udfs_salvage.proofs.TreeReports.{part_of}
 use Rattle.udfs_salvage.proofs.VolumeLaw.{tells_lawful}
 use Rattle.udfs_overview.specs.Disagreements.{has_room}
-use Rattle.udfs_overview.specs.LostTrees.{AreLost}
 use Rattle.udfs_overview.specs.LostVolumes.{IsPlaceGroup, IsPlacedAs, FoundTreesAreTheVolumes, PlacesAreTheVolumes}
-use Rattle.udfs_overview.specs.Searched.{Searched, of_placed, searched, searched_by, without_root}
+use Rattle.udfs_overview.specs.Searched.{Searched, of_placed, searched_by, without_root}
 
 -- ---- the places
 
