@@ -25,6 +25,7 @@ pub mod LostLists
 pub mod LostVolumes
 pub mod Repeating
 pub mod NextCommands
+pub mod Pathless
 pub mod Widenings
 pub mod NodeWidenings
 pub mod Summaries

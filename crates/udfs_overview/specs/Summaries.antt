@@ -20,7 +20,9 @@ use Rattle.udfs_overview.specs.MovedTags.{moved_count, moved_line}
 use Rattle.udfs_overview.specs.Narrow.{narrow}
 use Rattle.udfs_overview.specs.NextCommands.{extract_command, needed_steps, summary_command}
 use Rattle.udfs_overview.specs.NodeWidenings.{wider_count, wider_line}
+use Rattle.udfs_overview.specs.Pathless.{pathless_line}
 use Rattle.udfs_overview.specs.Repeating.{GivenWords, pass_number}
+use Rattle.udfs_overview.specs.Searched.{without_root}
 use Rattle.udfs_overview.specs.Sentences.{counted, part, sentence}
 use Rattle.udfs_overview.specs.Spares.{spares_disagree, spares_line}
 use Rattle.udfs_overview.specs.Streams.{stream_count, streams_line}
@@ -71,11 +73,11 @@ counts_lines t r =
 unfoldable pub nodes_lines : Blocks → Report → List ℕ
 nodes_lines blocks r = sentence (tally_of blocks r.nodes) (length r.reread) ++ counts_lines (tally_of blocks r.nodes) r
 
--- there is nothing found of a volume that does not open
-abbrev pub found_lines : Table → Answer Found → Report → List ℕ
-found_lines table (found f) r = nodes_lines (state_of table) r ++ streams_line (stream_count (state_of table) r) ++ moved_line (moved_count (state_of table) r) ++ spares_line (spares_disagree (state_of table) r.volume)
-found_lines table (holes blocks) r = []
-found_lines table (faulty f) r = []
+-- and of one that does not, where its layout and places are found
+abbrev pub found_lines : Profile → Table → ℕ → Answer Found → Report → List ℕ
+found_lines rules table last (found f) r = nodes_lines (state_of table) r ++ streams_line (stream_count (state_of table) r) ++ moved_line (moved_count (state_of table) r) ++ spares_line (spares_disagree (state_of table) r.volume)
+found_lines rules table last (holes blocks) r = pathless_line (without_root rules (state_of table) last)
+found_lines rules table last (faulty f) r = pathless_line (without_root rules (state_of table) last)
 
 -- ---- what to do next
 
@@ -129,7 +131,7 @@ next_lines g rules table last r = next_by g rules table last r r.reread
 -- all lines of a report by the rules of a profile, of a disc that is read with these arguments, where this answers whether it is lawful
 unfoldable pub summary_text : GivenWords → Profile → Table → ℕ → Report → Lawfulness → List ℕ
 summary_text g rules table last r answer =
-    volume_line r.volume last ++ apart_lines rules (state_of table) last ++ found_lines table r.volume r ++ wider_line (wider_count rules (state_of table) last r.nodes) ++ (guarantee_line answer ++ disc_line (disc_of table last r.reread))
+    volume_line r.volume last ++ apart_lines rules (state_of table) last ++ found_lines rules table last r.volume r ++ wider_line (wider_count rules (state_of table) last r.nodes) ++ (guarantee_line answer ++ disc_line (disc_of table last r.reread))
     ++ unread_text (unread_paths r.nodes)
     ++ torn_text (torn_rows (state_of table) r.nodes)
     ++ next_lines g rules table last r

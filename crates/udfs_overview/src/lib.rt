@@ -18,6 +18,7 @@ mod node_columns;
 mod node_list;
 mod node_objects;
 mod node_widenings;
+mod pathless;
 mod repeating;
 mod safe_names;
 mod sentences;

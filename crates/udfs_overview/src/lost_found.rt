@@ -65,7 +65,7 @@ fn with_entries(
 
 /// What is known of a volume without its file set, where its layout and places are found.
 #[tactic(auto, unfolding(crate::specs::Searched::without_root))]
-fn without_root(
+pub(crate) fn without_root(
     alloc: Global,
     table: &BlockTable,
     last: u32,

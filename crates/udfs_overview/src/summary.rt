@@ -27,6 +27,7 @@ use crate::left_out::{left_out_types, push_left_out};
 use crate::moved_tags::{count_moved, push_moved};
 use crate::next_commands::{Margins, Pass, push_extract, push_needed_steps, push_summary_by};
 use crate::node_widenings::{count_wider, push_wider};
+use crate::pathless::push_pathless;
 use crate::repeating::{Given, pass_number};
 use crate::sentences::{push_counted, push_part, push_sentence};
 use crate::spares::{push_spares, spares_disagree};
@@ -219,17 +220,17 @@ fn push_top(alloc: Global, text: &mut String, survey: &Survey<'_>) -> Result<(),
     push_torn(alloc, text, &torn.rows, torn.count.saturating_sub(SHOWN))
 }
 
-/// The lines of what is found of the nodes of a volume, where it opens.
-fn push_found_if_open(
+/// The lines of what is found of the nodes of a volume, where it opens, and else of what there is without paths.
+fn push_all_there(
     alloc: Global,
     text: &mut String,
     survey: &Survey<'_>,
 ) -> Result<(), OutOfMemory>
-    ensures { OnOk result (string_bytes text.new ≡ string_bytes text.old ++ found_lines survey.now.table.now (volume_now survey.now.volume) (survey_now survey.now)) }
+    ensures { OnOk result (string_bytes text.new ≡ string_bytes text.old ++ found_lines survey.now.profile survey.now.table.now survey.now.last (volume_now survey.now.volume) (survey_now survey.now)) }
 {
     match &survey.volume {
         Volume::Open(_) => push_all_found(alloc, text, survey),
-        _ => Ok(()),
+        _ => push_pathless(alloc, text, survey),
     }
 }
 
@@ -417,7 +418,7 @@ fn push_summary(
 {
     push_volume(text, &survey.volume, survey.last)?;
     push_apart(alloc, text, survey)?;
-    push_found_if_open(alloc, text, survey)?;
+    push_all_there(alloc, text, survey)?;
     push_wider_nodes(alloc, text, survey)?;
     let disc = count_disc(survey);
     push_state(alloc, text, answer, &disc)?;
@@ -429,7 +430,7 @@ fn push_summary(
 /// Writes the summary of the report that a survey represents, of a disc that is read with these arguments: what the volume is, whether known anchors or
 /// known copies of its descriptors differ, how many files are complete, damaged or could not be looked at, how many files and folders are whole, torn, links, of a type
 /// that is not written or without a name, how many files have named streams, whether sparing copies disagree, whether the guarantee holds by this answer, the blocks of the disc,
-/// the torn files of which most is lost, and what to do next, as commands. A volume that does not open has a line that says why, that of the guarantee, that of the blocks, and what to do next. The blocks and holes of one
+/// the torn files of which most is lost, and what to do next, as commands. A volume that does not open has a line that says why, one of the lost folders and files if its layout and places are found, that of the guarantee, that of the blocks, and what to do next. The blocks and holes of one
 /// node are held at a time.
 ///
 /// # Errors
