@@ -93,6 +93,14 @@ but 272
 $ summary --last 600 disc.tab
 done 1 does not open: block 272 is needed\nGuarantee  nothing seen contradicts the standard;\n           1 block that could is not known\nDisc       600 known   1 not known   0 in conflict\n           1 of these is needed, in 1 place\n«P600»
 
+# The link counts of the root and of its files are 1, so there is something to list.
+write 273 48 \x01
+write 275 48 \x01
+write 276 48 \x01
+but 272
+$ summary --last 600 disc.tab
+out-begins does not open: block 272 is needed\nNo path    1 folder and 2 files: list --lost\nGuarantee  nothing seen contradicts the standard;\n
+
 = what_else_is_counted
 # A folder that lies in itself, a node with a fault, a block in conflict that no file needs, and an empty file of type 0 beside one of type 249, which the wide
 # rules take for files.
