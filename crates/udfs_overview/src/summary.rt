@@ -221,11 +221,7 @@ fn push_top(alloc: Global, text: &mut String, survey: &Survey<'_>) -> Result<(),
 }
 
 /// The lines of what is found of the nodes of a volume, where it opens, and else of what there is without paths.
-fn push_all_there(
-    alloc: Global,
-    text: &mut String,
-    survey: &Survey<'_>,
-) -> Result<(), OutOfMemory>
+fn push_all_there(alloc: Global, text: &mut String, survey: &Survey<'_>) -> Result<(), OutOfMemory>
     ensures { OnOk result (string_bytes text.new ≡ string_bytes text.old ++ found_lines survey.now.profile survey.now.table.now survey.now.last (volume_now survey.now.volume) (survey_now survey.now)) }
 {
     match &survey.volume {
