@@ -187,6 +187,33 @@ but
 $ summary --last 600 disc.tab
 out-has \nGuarantee  does not hold: a folder is inside itself:\n           /\\u202Ea\nDisc
 
+= equal_names_in_other_folders
+# The files of the folders `/`, `/D`, `/D/D` and `/E` have the same names. Then `/D` has one of them a second time, behind its folder; and `/E` is a second time in `/`.
+
+directory 1 D=10 E=30 X=3
+directory 10 D=20 X=3
+directory 20 D=3 E=4 X=3
+directory 30 D=3 X=4
+but
+$ summary --last 600 disc.tab
+out-has \nGuarantee  holds: nothing on this disc contradicts the standard\nDisc
+
+directory 1 D=10 E=30 X=3
+directory 10 X=4 D=20 X=3
+directory 20 D=3 E=4 X=3
+directory 30 D=3 X=4
+but
+$ summary --last 600 disc.tab
+out-has \nGuarantee  does not hold: two entries have the same path:\n           /D/X\nDisc
+
+directory 1 D=10 E=30 E=20 X=3
+directory 10 X=3
+directory 20 F=4
+directory 30 D=3 X=4
+but
+$ summary --last 600 disc.tab
+out-has \nGuarantee  does not hold: two entries have the same path:\n           /E\nDisc
+
 = the_first_line
 # A disc without an anchor; a map of a disc that is written once (UDF 2.2.8); the kinds of maps; and a volume without a label, of another revision.
 
