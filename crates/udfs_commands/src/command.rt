@@ -68,7 +68,8 @@ pub fn run<F: Files, O: Sink, E: Sink>(
     };
     let tone = asked_tone(found);
     set_tone(tone, files);
-    let outcome = perform(alloc, &request, files, out);
+    let remarks = shows_remarks(tone, files);
+    let outcome = perform(alloc, &request, remarks, files, out);
     if outcome.is_ok() {
         remark_on_pairs(alloc, tone, &request, files);
     }
@@ -103,9 +104,14 @@ fn set_tone<F: Files>(tone: Tone, files: &F) {
     }
 }
 
+/// Whether remarks are shown: to a person who watches, or where more is to be said, and never where only what has to be said is.
+fn shows_remarks<F: Files>(tone: Tone, files: &F) -> bool {
+    !tone.quiet && (tone.verbose || files.is_watched())
+}
+
 /// Shows, where more is told than has to be, which images are longer than their mapfiles.
 fn remark_on_pairs<F: Files>(alloc: Global, tone: Tone, request: &Request<'_>, files: &F) {
-    if !tone.quiet && (tone.verbose || files.is_watched()) {
+    if shows_remarks(tone, files) {
         remark_on_images(alloc, request, files);
     }
 }

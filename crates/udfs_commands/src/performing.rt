@@ -48,10 +48,11 @@ fn all_or_none(outcome: Result<(), Refusal>) -> Result<bool, Refusal>
     }
 }
 
-/// Does what is asked for, and returns whether nothing is lacking.
+/// Does what is asked for, and returns whether nothing is lacking. `remarks`: remarks are shown.
 pub fn perform<F: Files, O: Sink>(
     alloc: Global,
     request: &Request<'_>,
+    remarks: bool,
     files: &mut F,
     out: &mut O,
 ) -> Result<bool, Refusal>
@@ -66,7 +67,10 @@ pub fn perform<F: Files, O: Sink>(
         Request::Forget(asked) => all_or_none(forget(alloc, asked, files)),
         Request::Image(asked) => all_or_none(image(alloc, asked, files)),
         Request::Report(report) => {
-            let telling = ReportAs { form: report.form };
+            let telling = ReportAs {
+                form: report.form,
+                remarks,
+            };
             tell(alloc, &report.volume, &telling, files, out)
         }
         Request::Reread(asked) => match asked.mapfile {

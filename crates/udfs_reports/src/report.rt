@@ -39,6 +39,18 @@ fn write_as<O: Sink>(
 #[derive(Drop)]
 pub struct ReportAs {
     pub form: Form,
+    /// Whether remarks are shown. If not, none is made: whether the guarantee holds takes a second walk of the volume.
+    pub remarks: bool,
+}
+
+impl ReportAs {
+    /// Says beside the report what a person is told of it, where that is shown.
+    fn remark<F: Files>(&self, alloc: Global, survey: &Survey<'_>, files: &F) {
+        if self.remarks {
+            remark_on(alloc, survey, files);
+            remark_on_guarantee(alloc, survey, files);
+        }
+    }
 }
 
 impl Telling for ReportAs {
@@ -60,8 +72,7 @@ impl Telling for ReportAs {
         };
         match write_as(alloc, &survey, self.form, out) {
             Ok(()) => {
-                remark_on(alloc, &survey, files);
-                remark_on_guarantee(alloc, &survey, files);
+                self.remark(alloc, &survey, files);
                 Ok(survey.all_whole())
             }
             Err(error) => Err(refused_run(error)),
