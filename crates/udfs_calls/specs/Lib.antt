@@ -1,4 +1,5 @@
 pub mod Disk
 pub mod Files
+pub mod Lawful
 pub mod Log
 pub mod Paths

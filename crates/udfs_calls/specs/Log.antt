@@ -6,17 +6,22 @@
 --     content log node                the bytes of a file, where they are known
 --     held log path                   what a path holds
 --     kept log path c                 what a crash may leave of what is at a path, were its name on the disk
---     is_named calls folder           the name of a folder is on the disk
+--     is_named calls folder           whether the name of a folder is on the disk
+--     names_folder log path           whether a path names a folder that was made by these calls
+--     IsOpen log number               the new file of this number was made and not synced yet
+--     IsAt log path number            the new file of this number is at this path
+--     IsFresh log                     no call was made yet
 --     outcome log disk                what a crash may leave at all paths
 --     outcome_since log moment disk   what a crash might have left since then
-use Rattle.std.specs.Prelude.{◌≡◌, ◌≢◌, ◌⊎◌, ℕ, ◌≤◌, List, [], ◌∷◌, length, Option, Some, None, if◌then◌else◌, bytes_eq, nat_eq, ⊤}
+use Rattle.std.specs.Prelude.{◌≡◌, ◌≢◌, ◌⊎◌, ℕ, ◌≤◌, Bool, true, false, List, [], ◌∷◌, length, Option, Some, None, if◌then◌else◌, bytes_eq, nat_eq, ⊤}
 use Rattle.udfs_calls.specs.Disk.{Disk, Same, SameBut, Moved, Gone, After}
 use Rattle.udfs_calls.specs.Paths.{parent}
 
--- A file, as the disk counts it, whatever its paths are: one that was there when the run began, or one that was made by the call before which there were so many.
+-- A file, as the disk counts it, whatever its paths are: one that was there when the run began, or a file or a folder that was made by the call before which there were so many.
 pub data Node : Type 0 where
   there : ℕ → Node
   made : ℕ → Node
+  folder : ℕ → Node
 
 -- One call that changed the disk. A path is a name without links.
 --     created path            a new file is at a path that nothing had
@@ -51,7 +56,7 @@ node_at start [] p = first (start.number_at p)
     first (Some number) = Some (there number)
 node_at start (created q ∷ calls) p = if bytes_eq p q then Some (made (length calls)) else node_at start calls p
 node_at start (opened q ∷ calls) p = if bytes_eq p q then Some (made (length calls)) else node_at start calls p
-node_at start (folder_made q ∷ calls) p = if bytes_eq p q then Some (made (length calls)) else node_at start calls p
+node_at start (folder_made q ∷ calls) p = if bytes_eq p q then Some (folder (length calls)) else node_at start calls p
 node_at start (renamed from to ∷ calls) p = if bytes_eq p to then node_at start calls from else if bytes_eq p from then None else node_at start calls p
 node_at start (removed q ∷ calls) p = if bytes_eq p q then None else node_at start calls p
 node_at start (synced number bytes ∷ calls) p = node_at start calls p
@@ -74,15 +79,19 @@ new_content (failed call ∷ calls) number = new_content calls number
 abbrev pub content : Start → List Call → Node → Option (List ℕ)
 content start calls (there number) = start.content number
 content start calls (made number) = new_content calls number
+content start calls (folder number) = None
 
--- what a path holds that names this file: no file, some bytes, or what is not known
+-- what is known to be held where these bytes are
+abbrev pub told_bytes : Option (List ℕ) → Option (Option (List ℕ))
+told_bytes None = None
+told_bytes (Some xs) = Some (Some xs)
+
+-- what a path holds that names this file: no file, some bytes, or what is not known. A new folder is no file.
 abbrev pub held_by : (Node → Option (List ℕ)) → Option Node → Option (Option (List ℕ))
 held_by bytes None = Some None
-held_by bytes (Some node) = told (bytes node)
-  where
-    told : Option (List ℕ) → Option (Option (List ℕ))
-    told None = None
-    told (Some xs) = Some (Some xs)
+held_by bytes (Some (there number)) = told_bytes (bytes (there number))
+held_by bytes (Some (made number)) = told_bytes (bytes (made number))
+held_by bytes (Some (folder number)) = Some None
 
 -- what a path holds
 abbrev pub held : Start → List Call → List ℕ → Option (Option (List ℕ))
@@ -97,11 +106,11 @@ kept_of (Some h) c = c ≡ h
 abbrev pub kept : Start → List Call → List ℕ → Option (List ℕ) → Type 0
 kept start calls p c = kept_of (held start calls p) c
 
--- the name of a folder is on the disk: it was there when the run began, or its own folder was synced since it was made, when the name of that one was on the disk
-abbrev pub is_named : List Call → List ℕ → Type 0
-is_named [] f = ⊤
-is_named (folder_made g ∷ calls) f = (f ≢ g) × is_named calls f
-is_named (folder_synced g ∷ calls) f = ((parent f ≡ g) × is_named calls g) ⊎ is_named calls f
+-- whether the name of a folder is on the disk: it was there when the run began, or its own folder was synced since it was made, when the name of that one was on the disk
+abbrev pub is_named : List Call → List ℕ → Bool
+is_named [] f = true
+is_named (folder_made g ∷ calls) f = if bytes_eq f g then false else is_named calls f
+is_named (folder_synced g ∷ calls) f = if bytes_eq (parent f) g then (if is_named calls g then true else is_named calls f) else is_named calls f
 is_named (created q ∷ calls) f = is_named calls f
 is_named (opened q ∷ calls) f = is_named calls f
 is_named (synced number bytes ∷ calls) f = is_named calls f
@@ -127,7 +136,7 @@ shown start calls (failed call) = shown start calls call
 
 -- what a crash can no longer take: where a folder's own name is on the disk and it was synced, each path in it leaves what it held then
 abbrev pub settled : Start → List Call → Call → Disk → Type 0
-settled start calls (folder_synced f) c = is_named calls f → (p : List ℕ) → parent p ≡ f → kept start calls p (c p)
+settled start calls (folder_synced f) c = is_named calls f ≡ true → (p : List ℕ) → parent p ≡ f → kept start calls p (c p)
 settled start calls (created q) c = ⊤
 settled start calls (opened q) c = ⊤
 settled start calls (synced number bytes) c = ⊤
@@ -181,3 +190,54 @@ NamesSome (Some log) p = node_at log.start log.calls p ≢ None
 abbrev pub holds : Option Log → List ℕ → Option (Option (List ℕ))
 holds None p = None
 holds (Some log) p = held log.start log.calls p
+
+-- the number of a file that is made now, where the log is known
+abbrev pub number_now : Option Log → Option ℕ
+number_now None = None
+number_now (Some log) = Some (length log.calls)
+
+-- it is a new folder
+abbrev pub is_folder : Option Node → Bool
+is_folder None = false
+is_folder (Some (there number)) = false
+is_folder (Some (made number)) = false
+is_folder (Some (folder number)) = true
+
+-- a path names a folder that was made by these calls, as far as is known
+abbrev pub names_folder : Option Log → List ℕ → Bool
+names_folder None p = false
+names_folder (Some log) p = is_folder (node_at log.start log.calls p)
+
+-- a file of this number was made new
+abbrev pub is_created : List Call → ℕ → Type 0
+is_created [] number = ⊥
+is_created (created q ∷ calls) number = (number ≡ length calls) ⊎ is_created calls number
+is_created (opened q ∷ calls) number = is_created calls number
+is_created (synced m bytes ∷ calls) number = is_created calls number
+is_created (renamed from to ∷ calls) number = is_created calls number
+is_created (removed q ∷ calls) number = is_created calls number
+is_created (folder_made q ∷ calls) number = is_created calls number
+is_created (folder_synced q ∷ calls) number = is_created calls number
+is_created (failed call ∷ calls) number = is_created calls number
+
+-- where it is a new file, it was made by these calls and not synced yet
+abbrev pub IsOpen : Option Log → Option ℕ → Type 0
+IsOpen None number = ⊤
+IsOpen (Some log) None = ⊤
+IsOpen (Some log) (Some number) = is_created log.calls number × (new_content log.calls number ≡ None)
+
+-- where it is a new file, it was made by these calls and is at this path
+abbrev pub IsAt : Option Log → List ℕ → Option ℕ → Type 0
+IsAt None p number = ⊤
+IsAt (Some log) p None = ⊤
+IsAt (Some log) p (Some number) = is_created log.calls number × (node_at log.start log.calls p ≡ Some (made number))
+
+-- no call was made yet, as far as is known
+abbrev pub IsFresh : Option Log → Type 0
+IsFresh None = ⊤
+IsFresh (Some log) = log.calls ≡ []
+
+-- the names of all folders but one are on the disk
+abbrev pub AreNamed : Option Log → Option (List ℕ) → Type 0
+AreNamed None but = ⊤
+AreNamed (Some log) but = (f : List ℕ) → but ≢ Some f → is_named log.calls f ≡ true

@@ -3,8 +3,9 @@
 --     parent path             the path of its folder: `.` where it has no slash, `/` where the only one is its first byte
 --     last path               the name in the folder
 --     joined folder name      the path of a name in a folder
+--     IsPart name             it is not empty, `.` or `..`
 --     IsDevice path           it is a device or an opened file by its name alone
-use Rattle.std.specs.Prelude.{◌⊎◌, ℕ, ◌-◌, List, [], ◌∷◌, ◌++◌, Bool, codes, nat_eq, nat_le, true, false, if◌then◌else◌, length, take}
+use Rattle.std.specs.Prelude.{◌≢◌, ◌⊎◌, ℕ, ◌-◌, List, [], ◌∷◌, ◌++◌, Bool, bytes_eq, codes, nat_eq, nat_le, true, false, if◌then◌else◌, length, take}
 use Rattle.std.specs.Io.{StartsWith}
 
 -- whether a path has a separator
@@ -34,8 +35,12 @@ last (x ∷ xs) = if has_slash (x ∷ xs) then last xs else x ∷ xs
 
 -- the path of a name in a folder; a name that begins with a slash is that path itself
 abbrev pub joined : List ℕ → List ℕ → List ℕ
-joined folder [] = folder ++ codes "/"
-joined folder (x ∷ xs) = if nat_eq x 47 then x ∷ xs else folder ++ codes "/" ++ x ∷ xs
+joined folder [] = if bytes_eq folder (codes "/") then codes "/" else folder ++ codes "/"
+joined folder (x ∷ xs) = if nat_eq x 47 then x ∷ xs else if bytes_eq folder (codes "/") then codes "/" ++ x ∷ xs else folder ++ codes "/" ++ x ∷ xs
+
+-- a name that leads on from its folder to what is in it
+abbrev pub IsPart : List ℕ → Type 0
+IsPart name = (name ≢ []) × (name ≢ codes ".") × (name ≢ codes "..")
 
 -- a device, or a file that is opened already, by its name alone, as `/dev/stdout` is
 abbrev pub IsDevice : List ℕ → Type 0

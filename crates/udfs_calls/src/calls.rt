@@ -1,11 +1,12 @@
 //! The system calls on files that the program makes, one method each, and what each does to a disk that can crash.
 
-ghost use Rattle.std.specs.Prelude.{◌≡◌, ◌≢◌, ◌⊎◌, ℕ, ◌≤◌, ◌<◌, All, List, Option, Some, None, [], ◌∷◌, length, IfOk, IfErr, IfSome, OnOk, OnErr, true, string_bytes};
+ghost use Rattle.std.specs.Prelude.{◌≡◌, ◌≢◌, ◌⊎◌, ℕ, ◌≤◌, ◌<◌, All, List, Option, Some, None, [], ◌∷◌, length, IfOk, IfErr, IfSome, OnOk, OnErr, true, false, string_bytes};
 ghost use Rattle.std.specs.IoError.{error_kind};
 ghost use Rattle.udfs_calls.specs.Files.{Descriptor, ReadsAt, ReadsOn, IsAtFront, IsEmpty, bytes_of, cut_to, read_on, went_to, wrote_on};
-ghost use Rattle.udfs_calls.specs.Log.{Log, Node, Names, NamesSome, after, after_sync, holds, moment_of, node_at};
+ghost use Rattle.udfs_calls.specs.Log.{IsOpen, Log, Node, Names, NamesSome, after, after_sync, holds, names_folder, node_at, number_now};
+ghost use Rattle.udfs_calls.specs.Lawful.{IsLawfulLog};
 ghost use Rattle.udfs_calls.specs.Log.Call.{created, opened, renamed, removed, folder_made, folder_synced, failed};
-ghost use Rattle.udfs_calls.specs.Paths.{IsDevice, joined, last, parent};
+ghost use Rattle.udfs_calls.specs.Paths.{IsDevice, IsPart, joined, last, parent};
 
 use std::alloc::Global;
 use std::fs::Permissions;
@@ -17,6 +18,8 @@ use std::time::SystemTime;
 pub struct About {
     /// Whether it is a regular file: its bytes are kept.
     pub is_file: bool,
+    /// Whether it is a folder.
+    pub is_folder: bool,
     /// How many bytes a regular file has.
     pub size: u64,
     /// The number of the device that it is on.
@@ -36,7 +39,7 @@ pub trait Opened {
     /// Its bytes, those that it had when it was opened with those that were written since, and its position, where they are known.
     ghost state: { Self → Option Descriptor };
 
-    /// The number of a file that was made new by this run: how many calls were made before.
+    /// The number of a file that was made new by this run: how many calls were made before. `None` where it was not, or that is not known.
     ghost number: { Self → Option ℕ };
 
     /// Reads from the position on into the front of the buffer (`read`).
@@ -146,7 +149,7 @@ pub trait Calls {
     ///
     /// As the system says.
     fn open(&self, path: &str) -> Result<Self::File, Error>
-        ensures bytes { IfOk result (λ file. IfSome (holds (log self.now) (real self.now path.now)) (λ held. bytes_of (Self.File.state file) ≡ held)) }
+        ensures bytes { IfOk result (λ file. IfSome (holds (log self.now) (real self.now path.now)) (λ held. IfSome held (λ all. bytes_of (Self.File.state file) ≡ Some all))) }
         ensures front { IfOk result (λ file. IsAtFront (Self.File.state file)) }
         ensures there { OnOk result (NamesSome (log self.now) (real self.now path.now)) }
         ensures shut { OnErr result (shut self.now path.now) };
@@ -167,6 +170,7 @@ pub trait Calls {
     fn about(&self, path: &str) -> Result<About, Error>
         ensures there { OnOk result (NamesSome (log self.now) (real self.now path.now)) }
         ensures other { IfOk result (λ about. about.is_file ≢ true → in_place self.now path.now) }
+        ensures folder { IfOk result (λ about. names_folder (log self.now) (real self.now path.now) ≡ true → about.is_folder ≡ true × about.is_file ≡ false) }
         ensures size { IfOk result (λ about. IfSome (holds (log self.now) (real self.now path.now)) (λ held. IfSome held (λ all. about.is_file ≡ true → about.size ≡ length all))) }
         ensures same { IfOk result (λ about. (node : Node) → Names (log self.now) (real self.now path.now) (Some node) → tells → identity self.now node ≡ (about.device, about.inode)) }
         ensures absent { IfErr result (λ error. error_kind error ≡ ErrorKind.NotFound → Names (log self.now) (real self.now path.now) None) }
@@ -200,7 +204,7 @@ pub trait Calls {
         ensures absent { OnOk result (Names (log self.old) path.now None) }
         ensures made { OnOk result (log self.new ≡ after (created path.now) (log self.old)) }
         ensures failed { OnErr result (log self.new ≡ after (failed (created path.now)) (log self.old)) }
-        ensures number { IfOk result (λ file. tells → Self.File.number file ≡ Some (moment_of (log self.old))) }
+        ensures number { IfOk result (λ file. Self.File.number file ≡ number_now (log self.old)) }
         ensures empty { IfOk result (λ file. IsEmpty (Self.File.state file)) }
         ensures front { IfOk result (λ file. IsAtFront (Self.File.state file)) }
         ensures link { OnOk result (link_at self.new path.now ≡ None) }
@@ -215,19 +219,21 @@ pub trait Calls {
     fn open_in_place(&mut self, path: &str) -> Result<Self::File, Error>
         ensures made { OnOk result (log self.new ≡ after (opened path.now) (log self.old)) }
         ensures failed { OnErr result (log self.new ≡ after (failed (opened path.now)) (log self.old)) }
-        ensures number { IfOk result (λ file. tells → Self.File.number file ≡ None) }
+        ensures number { IfOk result (λ file. Self.File.number file ≡ None) }
         ensures empty { IfOk result (λ file. IsEmpty (Self.File.state file)) }
         ensures front { IfOk result (λ file. IsAtFront (Self.File.state file)) }
         ensures real { real self.new ≡ real self.old };
 
-    /// The bytes of an opened file are on the disk (`fsync`). Its names may not be there yet.
+    /// The bytes of an opened file are on the disk, and it is closed (`fsync`, and `close`). Its names may not be there yet. It says of which file
+    /// of the disk: the one of its number.
     ///
     /// # Errors
     ///
     /// As the system says. `InvalidInput` where it can not be synced at all, as a pipe: that needs none.
-    fn sync(&mut self, file: &Self::File) -> Result<(), Error>
-        ensures done { OnOk result (log self.new ≡ after_sync (Self.File.number file.now) (bytes_of (Self.File.state file.now)) (log self.old)) }
-        ensures needless { IfErr result (λ error. error_kind error ≡ ErrorKind.InvalidInput → log self.new ≡ after_sync (Self.File.number file.now) (bytes_of (Self.File.state file.now)) (log self.old)) }
+    fn sync(&mut self, file: Self::File) -> Result<(), Error>
+        requires open { IsOpen (log self.old) (Self.File.number file) }
+        ensures done { OnOk result (log self.new ≡ after_sync (Self.File.number file) (bytes_of (Self.File.state file)) (log self.old)) }
+        ensures needless { IfErr result (λ error. error_kind error ≡ ErrorKind.InvalidInput → log self.new ≡ after_sync (Self.File.number file) (bytes_of (Self.File.state file)) (log self.old)) }
         ensures failed { IfErr result (λ error. error_kind error ≢ ErrorKind.InvalidInput → log self.new ≡ log self.old) }
         ensures links { (q : List ℕ) → link_at self.new q ≡ link_at self.old q }
         ensures real { real self.new ≡ real self.old };
@@ -298,14 +304,17 @@ pub trait Calls {
     /// It is known of all that is opened what its bytes are, or of nothing.
     ghost told_or_silent: { ((file : Self.File) → (d : Descriptor) × (Self.File.state file ≡ Some d)) ⊎ ((file : Self.File) → Self.File.state file ≡ None) };
 
+    /// Each call could be made when it was.
+    ghost lawful: { (calls : Self) → IsLawfulLog (log calls) };
+
     /// Two files have not the same numbers.
     ghost told_apart: { tells → (calls : Self) (p q : List ℕ) (a b : Node) → Names (log calls) p (Some a) → Names (log calls) q (Some b) → identity calls a ≡ identity calls b → a ≡ b };
 
     /// A link leads where what it says leads, from the folder that it is in.
     ghost link_leads: { tells → (calls : Self) (p text : List ℕ) → link_at calls p ≡ Some text → real calls p ≡ real calls (joined (parent p) text) };
 
-    /// What is no link is in the folder that its own folder leads to.
-    ghost name_leads: { tells → (calls : Self) (p : List ℕ) → link_at calls p ≡ None → real calls p ≡ joined (real calls (parent p)) (last p) };
+    /// What is no link is in the folder that its own folder leads to, by its own name.
+    ghost name_leads: { tells → (calls : Self) (p : List ℕ) → IsPart (last p) → link_at calls p ≡ None → real calls p ≡ joined (real calls (parent p)) (last p) };
 
     /// A device is not followed, and is written in place.
     ghost device_leads: { tells → (calls : Self) (p : List ℕ) → IsDevice p → (real calls p ≡ p) × in_place calls p };

@@ -17,6 +17,7 @@ use std::time::SystemTime;
 fn about(metadata: Metadata) -> About {
     About {
         is_file: metadata.is_file(),
+        is_folder: metadata.is_dir(),
         size: metadata.len(),
         device: metadata.dev(),
         inode: metadata.ino(),
@@ -107,6 +108,8 @@ where
 
     ghost told_or_silent = { inr (λ _. refl) };
 
+    ghost lawful = { λ _. tt };
+
     ghost told_apart = { λ never. absurd never };
 
     ghost link_leads = { λ never. absurd never };
@@ -150,7 +153,7 @@ where
         })
     }
 
-    fn sync(&mut self, file: &Self::File) -> Result<(), Error> {
+    fn sync(&mut self, file: Self::File) -> Result<(), Error> {
         file.file.sync_all()
     }
 

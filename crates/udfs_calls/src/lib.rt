@@ -4,6 +4,7 @@
 
 mod calls;
 mod host;
+pub mod laws;
 
 pub use calls::{About, Calls, Opened};
 pub use host::{Host, HostFile};

@@ -27,7 +27,7 @@ impl<F: Files> Digesting<F> {
         ensures some { IfOk result (λ n. 0 < length buf.now → 0 < n) }
         ensures bytes { WriteAppends (F.Output.stream self.old.output).contents (F.Output.stream self.new.output).contents result buf.now }
         ensures count { CountsFault (F.Output.stream self.old.output).faults (F.Output.stream self.new.output).faults result }
-        ensures place { F.Output.place self.new.output ≡ F.Output.place self.old.output }
+        ensures number { F.Output.number self.new.output ≡ F.Output.number self.old.output }
     {
         match self.output.put(buf) {
             Ok(count) => {
@@ -48,7 +48,7 @@ impl<F: Files> Sink for Digesting<F> {
 }
 
 impl<F: Files> Handle for Digesting<F> {
-    ghost place = { λ d. F.Output.place d.output };
+    ghost number = { λ d. F.Output.number d.output };
 
     fn put(&mut self, buf: &[u8]) -> Result<usize, DeviceFault> {
         self.take(buf)
@@ -67,7 +67,7 @@ pub struct Filled<F: Files> {
 /// Does a job on an output, and takes the digest.
 fn fill_and_digest<F: Files, J: Job>(output: F::Output, job: &J) -> Result<Filled<F>, J::Refusal>
     requires empty { F.tells → (F.Output.stream output).contents ≡ Some [] }
-    ensures place { IfOk result (λ full. F.Output.place full.output ≡ F.Output.place output) }
+    ensures number { IfOk result (λ full. F.Output.number full.output ≡ F.Output.number output) }
     ensures wrote { IfOk result (λ full. J.wrote job.now (F.Output.stream output).contents (F.Output.stream full.output).contents) }
     ensures digest { IfOk result (λ full. F.tells → (bytes : List ℕ) × ((F.Output.stream full.output).contents ≡ Some bytes) × (full.digest ≡ Some (sha256 bytes))) }
     ensures cause { IfErr result (λ refusal. J.blames_sink job.now refusal → SinkFails F.Output.stream) }
@@ -96,7 +96,7 @@ pub fn fill_noting<F: Files, J: Job>(
     digest: bool,
 ) -> Result<Filled<F>, J::Refusal>
     requires empty { F.tells → (F.Output.stream output).contents ≡ Some [] }
-    ensures place { IfOk result (λ full. F.Output.place full.output ≡ F.Output.place output) }
+    ensures number { IfOk result (λ full. F.Output.number full.output ≡ F.Output.number output) }
     ensures wrote { IfOk result (λ full. J.wrote job.now (F.Output.stream output).contents (F.Output.stream full.output).contents) }
     // The digest is that of the bytes that the output has.
     ensures digest { IfOk result (λ full. digest ≡ true → F.tells → (bytes : List ℕ) × ((F.Output.stream full.output).contents ≡ Some bytes) × (full.digest ≡ Some (sha256 bytes))) }

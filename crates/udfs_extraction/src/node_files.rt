@@ -138,7 +138,8 @@ pub fn give_up<F: Files>(path: &str, files: &mut F) -> Fate
 
 /// Brings a new file to the disk, with its name; or removes it.
 pub fn finish_file<F: Files>(path: &str, output: F::Output, files: &mut F) -> Fate
-    requires place { F.tells → F.Output.place output ≡ path.now }
+    requires number { F.tells → F.Output.number output ≢ None }
+    requires at { F.is_at files.old path.now (F.Output.number output) }
     requires open { F.holds files.old path.now ≡ None }
     ensures kept { result ≡ Fate.Written → F.tells → (bytes : List ℕ) → (F.Output.stream output).contents ≡ Some bytes → IsKept (F.holds files.new) (F.may_leave files.new) path.now bytes }
     ensures gone { result ≡ Fate.Failed → F.tells → F.holds files.new path.now ≡ Some None }
@@ -170,7 +171,8 @@ fn fill_file<F: Files>(
     files: &mut F,
 ) -> Result<Done, AllocError>
     requires index { index < length listing.now.nodes.items }
-    requires place { F.tells → F.Output.place output ≡ path.now }
+    requires number { F.tells → F.Output.number output ≢ None }
+    requires at { F.is_at files.old path.now (F.Output.number output) }
     requires empty { F.tells → (F.Output.stream output).contents ≡ Some [] }
     requires open { F.holds files.old path.now ≡ None }
     ensures written { IfOk result (λ done. done.fate ≡ Fate.Written → F.tells → (f : Found) (root : LongAd) (n : NodeFields) →

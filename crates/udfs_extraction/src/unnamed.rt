@@ -155,7 +155,8 @@ fn fill_lost<F: Files>(
 ) -> Result<Fate, AllocError>
     requires index { index < length entries.now }
     requires entries { AreUnnamed listing.now entries.now }
-    requires place { F.tells → F.Output.place output ≡ path.now }
+    requires number { F.tells → F.Output.number output ≢ None }
+    requires at { F.is_at files.old path.now (F.Output.number output) }
     requires empty { F.tells → (F.Output.stream output).contents ≡ Some [] }
     requires open { F.holds files.old path.now ≡ None }
     ensures written { IfOk result (λ fate. fate ≡ Fate.Written → F.tells → (profile : Profile) (last : ℕ) (u : Unnamed) →

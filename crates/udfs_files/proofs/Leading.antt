@@ -1,9 +1,10 @@
 -- Where a path leads by way of another.
 use Rattle.std.proofs.Common.{◌≡◌, ℕ, List, Some, None, Ok, Err, IfOk, IfSome, IsNone, refl, sym, ◌∙◌, subst, string_bytes}
 use Rattle.std.specs.Prelude.{Option, Result}
-use Rattle.udfs_calls.specs.Log.{Log, Names, NamesSome}
+use Rattle.udfs_calls.specs.Log.{Log, Names, NamesSome, holds}
+use Rattle.udfs_files.proofs.Logs.{absent_held}
 use Rattle.udfs_files.specs.Leading.{LeadsTo}
-use Rattle.udfs_files.specs.declared.files.Kind.TheVariants.{Other}
+use Rattle.udfs_files.specs.declared.files.Kind.TheVariants.{Absent, Other}
 use Rattle.udfs_files.specs.declared.files.Target.{Target}
 
 module _ (log : Option Log) (real : List ℕ → List ℕ) (in_place : List ℕ → Type 0) (at path : List ℕ) where
@@ -31,6 +32,13 @@ module _ (log : Option Log) (real : List ℕ → List ℕ) (in_place : List ℕ 
   led_all told link (Ok (Ok target)) same none leads = λ tells. led_on target (same tells) (leads tells (none tells))
   led_all told link (Ok (Err fault)) same none leads = tt
   led_all told link (Err error) same none leads = tt
+
+-- where a path is said to lead to nothing, it holds no file
+pub led_absent : {E A : Type 0} (log : Option Log) (real : List ℕ → List ℕ) (in_place : List ℕ → Type 0) (path : List ℕ) (told : Type 0) → (told → (l : Log) × (log ≡ Some l)) → (found : Result (Result Target E) A)
+    → IfOk found (λ one. IfOk one (λ target. told → LeadsTo log real in_place path target)) → IfOk found (λ one. IfOk one (λ target. target.kind ≡ Absent → told → holds log (real path) ≡ Some None))
+led_absent log real in_place path told known (Ok (Ok target)) leads = λ is tells. absent_held log (real path) (known tells) ((leads tells).absent is)
+led_absent log real in_place path told known (Ok (Err fault)) leads = tt
+led_absent log real in_place path told known (Err error) leads = tt
 
 -- no link is there where none was found
 pub none_found : {X : Type 0} (link : Option (List ℕ)) (found : Option X) → found ≡ None → (IsNone found → link ≡ None) → link ≡ None

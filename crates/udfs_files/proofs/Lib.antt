@@ -1,5 +1,6 @@
 pub mod Going
 pub mod Leading
+pub mod Logs
+pub mod Meeting
 pub mod Slashes
 pub mod Taken
-pub mod Untold

@@ -2,9 +2,9 @@
 use Rattle.std.proofs.Common.{refl, sym, ◌∙◌, ap, subst, arith}
 use Rattle.std.proofs.lemmas.List.{append-nil, append_assoc, drop-drop, drop_all, length-append, length-replicate, length-take-le, replicate-append-replicate, take-append-drop, take-replicate, take_all}
 use Rattle.std.specs.Io.KnownBytes.{Appends, Consumes, IsAtEnd, Keeps}
-use Rattle.std.specs.Prelude.{◌≡◌, ℕ, ◌+◌, ◌-◌, ◌≤◌, ◌<◌, List, ◌++◌, Bool, true, false, length, take, drop, Option, Some, None, Result, Ok, Err, IsErr, IfSome, All}
+use Rattle.std.specs.Prelude.{◌≡◌, ℕ, ◌+◌, ◌-◌, ◌≤◌, ◌<◌, List, [], ◌++◌, Bool, true, false, length, take, drop, Option, Some, None, Result, Ok, Err, IsErr, IfSome, All}
 use Rattle.udfs_reading.specs.Kind.{AreBytes}
-use Rattle.udfs_calls.specs.Files.{Descriptor, ReadsOn, bytes_of, cut_to, padded, read_on, rest_of, went_to, written, wrote_on, zeros}
+use Rattle.udfs_calls.specs.Files.{Descriptor, IsEmpty, ReadsOn, bytes_of, cut_to, padded, read_on, rest_of, went_to, written, wrote_on, zeros}
 use Rattle.udfs_files.specs.Opened.{IsOutput, contents_of}
 
 -- what is the same is kept
@@ -124,6 +124,11 @@ cut_whole (Some d) new size hole is e = ap bytes_of e ∙ ap (λ b. Some b) (tak
 pub whole_already : (state : Option Descriptor) (size : ℕ) (hole : Bool) → IsOutput state size hole → hole ≡ false → bytes_of state ≡ contents_of state size
 whole_already None size hole is flat = refl
 whole_already (Some d) size hole is flat = ap (λ b. Some b) (sym (padded_whole size d.bytes (is.1.1.1 flat)))
+
+-- an output of which nothing is written has taken nothing
+pub empty_contents : (state : Option Descriptor) → (d : Descriptor) × (state ≡ Some d) → IsEmpty state → contents_of state 0 ≡ Some []
+empty_contents None known empty = let bad : None ≡ Some known.0 = known.1 in cc
+empty_contents (Some d) known empty = ap (λ b. Some (padded 0 b)) empty
 
 -- the bytes of a file are bytes
 pub bytes_are_bytes : (state : Option Descriptor) → IfSome state (λ d. All (λ byte. byte < 256) d.bytes) → IfSome (bytes_of state) AreBytes

@@ -3,4 +3,4 @@ pub mod Jobs
 pub mod Leading
 pub mod Opened
 pub mod Telling
-pub mod There
+pub mod Told

@@ -44,6 +44,10 @@ all_before (Some d) front = ap (λ at. Some (drop at d.bytes)) (nothing d.at fro
 pub told_bytes : (state : Option Descriptor) → (d : Descriptor) × (state ≡ Some d) → (bytes : List ℕ) × (bytes_of state ≡ Some bytes)
 told_bytes state known = (known.0.bytes, ap bytes_of known.1)
 
+-- what an output has taken is known where its descriptor is
+pub told_contents : (state : Option Descriptor) (size : ℕ) → (d : Descriptor) × (state ≡ Some d) → (bytes : List ℕ) × (contents_of state size ≡ Some bytes)
+told_contents state size known = (padded size known.0.bytes, ap (λ s. contents_of s size) known.1)
+
 -- what an output has taken is not known where its descriptor is not
 pub untold_contents : (state : Option Descriptor) (size : ℕ) → state ≡ None → contents_of state size ≡ None
 untold_contents state size none = ap (λ s. contents_of s size) none

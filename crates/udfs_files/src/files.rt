@@ -18,8 +18,8 @@ use udfs_times::{Times, Zone};
 
 /// An output while it is written.
 pub trait Handle: Sink {
-    /// The path at which it was made, where that is known.
-    ghost place: { Self → List ℕ };
+    /// Which new file it is, by its number, where that is known.
+    ghost number: { Self → Option ℕ };
 
     /// As [`Sink::write`], and the output is still the same.
     ///
@@ -31,7 +31,7 @@ pub trait Handle: Sink {
         ensures some { IfOk result (λ n. 0 < length buf.now → 0 < n) }
         ensures bytes { WriteAppends (Self.stream self.old).contents (Self.stream self.new).contents result buf.now }
         ensures count { CountsFault (Self.stream self.old).faults (Self.stream self.new).faults result }
-        ensures place { place self.new ≡ place self.old };
+        ensures number { number self.new ≡ number self.old };
 }
 
 /// What is at a path.
@@ -79,6 +79,9 @@ pub trait Files {
 
     /// Where a path leads, every link followed.
     ghost real: { Self → List ℕ → List ℕ };
+
+    /// The new file of this number is the one at this path, as far as is known: nothing else was put there since it was made.
+    ghost is_at: { Self → List ℕ → Option ℕ → Type 0 };
 
     /// This path names no link, as far as is known.
     ghost is_no_link: { Self → List ℕ → Type 0 };
@@ -152,7 +155,8 @@ pub trait Files {
     ///
     /// `DeviceFault`, exactly where the count of faults goes up by one: also where something has the path. No path holds anything else then.
     fn make_new(&mut self, path: &str) -> Result<Self::Output, DeviceFault>
-        ensures handle { IfOk result (λ output. tells → Self.Output.place output ≡ path.now) }
+        ensures number { IfOk result (λ output. tells → Self.Output.number output ≢ None) }
+        ensures at { IfOk result (λ output. is_at self.new path.now (Self.Output.number output)) }
         ensures empty { IfOk result (λ output. tells → (Self.Output.stream output).contents ≡ Some []) }
         ensures absent { OnOk result (tells → holds self.old path.now ≡ Some None) }
         ensures link { OnOk result (is_no_link self.new path.now) }
@@ -173,7 +177,7 @@ pub trait Files {
     ///
     /// `DeviceFault`, exactly where the count of faults goes up by one. No path holds anything else then.
     fn make(&mut self, path: &str) -> Result<Self::Output, DeviceFault>
-        ensures handle { IfOk result (λ output. tells → Self.Output.place output ≡ path.now) }
+        ensures at { IfOk result (λ output. is_at self.new path.now (Self.Output.number output)) }
         ensures empty { IfOk result (λ output. tells → (Self.Output.stream output).contents ≡ Some []) }
         ensures written { OnOk result (holds self.new path.now ≡ None) }
         ensures failed { OnErr result ((q : List ℕ) → holds self.new q ≡ holds self.old q) }
@@ -183,16 +187,17 @@ pub trait Files {
         ensures count { CountsFault (faults self.old) (faults self.new) result }
         ensures crash { Goes moment may_leave left_since self.old self.new (SameBut path.now) };
 
-    /// The bytes that were written to the file of this path are on the disk, and it is closed. Its name may not be there yet.
+    /// The bytes that were written to the file of this path are on the disk, and it is closed. Its name may not be there yet. What was written to what is
+    /// no new file is not told.
     ///
     /// # Errors
     ///
     /// `DeviceFault`, exactly where the count of faults goes up by one. It is not specified what the path holds then.
     fn sync(&mut self, path: &str, output: Self::Output) -> Result<(), DeviceFault>
-        requires place { tells → Self.Output.place output ≡ path.now }
+        requires at { is_at self.old path.now (Self.Output.number output) }
         requires open { holds self.old path.now ≡ None }
-        ensures holds { OnOk result ((bytes : List ℕ) → tells → (Self.Output.stream output).contents ≡ Some bytes → holds self.new path.now ≡ Some (Some bytes)) }
-        ensures durable { OnOk result ((bytes : List ℕ) (c : Option (List ℕ)) → tells → (Self.Output.stream output).contents ≡ Some bytes → kept self.new path.now c → c ≡ Some bytes) }
+        ensures holds { OnOk result ((bytes : List ℕ) → tells → Self.Output.number output ≢ None → (Self.Output.stream output).contents ≡ Some bytes → holds self.new path.now ≡ Some (Some bytes)) }
+        ensures durable { OnOk result ((bytes : List ℕ) (c : Option (List ℕ)) → tells → Self.Output.number output ≢ None → (Self.Output.stream output).contents ≡ Some bytes → kept self.new path.now c → c ≡ Some bytes) }
         ensures others { (q : List ℕ) → q ≢ path.now → holds self.new q ≡ holds self.old q }
         ensures kept { (q : List ℕ) (c : Option (List ℕ)) → q ≢ path.now → kept self.new q c → kept self.old q c }
         ensures links { (q : List ℕ) → is_no_link self.old q → is_no_link self.new q }
@@ -268,7 +273,7 @@ pub trait Files {
     /// `DeviceFault` where it could not be set, and then it is as it was. It is not counted among the calls that change files.
     fn set_modified(&self, path: &str, micros: u64) -> Result<(), DeviceFault>;
 
-    /// Makes a folder, at a path that nothing has. It changes no file.
+    /// Makes a folder, at a path that nothing has. It changes no file, and is none.
     ///
     /// # Errors
     ///

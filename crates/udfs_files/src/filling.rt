@@ -23,26 +23,26 @@ pub trait Content {
         ensures { Writes (W.stream sink.old) (W.stream sink.new) (bytes self.now) result };
 }
 
-/// The path of a handle.
-trait Place {
-    ghost path: { List ℕ };
+/// Which new file a handle is.
+trait Numbered {
+    ghost number: { Option ℕ };
 }
 
-impl Place for Brand {
-    ghost use Rattle.std.specs.Prelude.{[]};
+impl Numbered for Brand {
+    ghost use Rattle.std.specs.Prelude.{None};
 
-    ghost path = { [] };
+    ghost number = { None };
 }
 
-/// A handle of which it is known at which path it is, whoever writes to it.
+/// A handle of which it is known which new file it is, whoever writes to it.
 #[derive(Drop)]
-struct Placed<K: Place, H: Handle> {
+struct Placed<K: Numbered, H: Handle> {
     handle: H,
     of: PhantomData<K>,
-    ghost at: { H.place handle ≡ K.path },
+    ghost is: { H.number handle ≡ K.number },
 }
 
-impl<K: Place, H: Handle> Sink for Placed<K, H> {
+impl<K: Numbered, H: Handle> Sink for Placed<K, H> {
     ghost stream = { λ p. H.stream p.handle };
 
     fn write(&mut self, buf: &[u8]) -> Result<usize, DeviceFault> {
@@ -71,10 +71,10 @@ pub trait Job {
         ensures cause { IfErr result (λ refusal. blames_sink self.now refusal → SinkFails W.stream) };
 }
 
-/// Does a job on a handle of this path.
-fn do_at<K: Place, H: Handle + Drop, J: Job>(handle: H, job: &J) -> Result<H, J::Refusal>
-    requires { H.place handle ≡ K.path }
-    ensures place { IfOk result (λ full. H.place full ≡ K.path) }
+/// Does a job on a handle of this number.
+fn do_at<K: Numbered, H: Handle + Drop, J: Job>(handle: H, job: &J) -> Result<H, J::Refusal>
+    requires { H.number handle ≡ K.number }
+    ensures number { IfOk result (λ full. H.number full ≡ K.number) }
     ensures wrote { IfOk result (λ full. J.wrote job.now (H.stream handle).contents (H.stream full).contents) }
     ensures cause { IfErr result (λ refusal. J.blames_sink job.now refusal → SinkFails H.stream) }
 {
@@ -96,7 +96,7 @@ fn do_at<K: Place, H: Handle + Drop, J: Job>(handle: H, job: &J) -> Result<H, J:
 ///
 /// The job's error. Then the output is closed.
 pub fn fill_by<H: Handle + Drop, J: Job>(handle: H, job: &J) -> Result<H, J::Refusal>
-    ensures place { IfOk result (λ full. H.place full ≡ H.place handle) }
+    ensures number { IfOk result (λ full. H.number full ≡ H.number handle) }
     ensures wrote { IfOk result (λ full. J.wrote job.now (H.stream handle).contents (H.stream full).contents) }
     ensures cause { IfErr result (λ refusal. J.blames_sink job.now refusal → SinkFails H.stream) }
 {
@@ -127,7 +127,7 @@ impl<'a, C: Content> Job for ContentJob<'a, C> {
 ///
 /// `WriteFault` where the output failed, and it is closed.
 pub fn fill<H: Handle + Drop, C: Content>(handle: H, content: &C) -> Result<H, WriteFault>
-    ensures place { IfOk result (λ full. H.place full ≡ H.place handle) }
+    ensures number { IfOk result (λ full. H.number full ≡ H.number handle) }
     ensures written { IfOk result (λ full. Appends (H.stream handle).contents (H.stream full).contents (C.bytes content.now)) }
     ensures cause { OnErr result (SinkFails H.stream) }
 {

@@ -4,6 +4,7 @@
 
 mod files;
 mod filling;
+mod folders;
 mod machine;
 mod opened;
 mod output;

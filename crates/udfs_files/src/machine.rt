@@ -1,24 +1,18 @@
 //! The machine's files, over the system calls that reach them.
 
 ghost use Rattle.std.proofs.Common.{inl, inr, refl, ⊎_elim};
-ghost use Rattle.udfs_calls.specs.Log.{after, after_sync};
-ghost use Rattle.udfs_calls.specs.Log.Call.{folder_synced};
-ghost use Rattle.udfs_calls.specs.Paths.{parent};
-ghost use Rattle.udfs_files.specs.Disk.{Disk, Goes, Same, SameBut, folder_of};
-ghost use Rattle.udfs_files.specs.Leading.{LeadsTo};
-ghost use Rattle.udfs_files.specs.Opened.{all_before, contents_of, told_bytes, untold_contents};
-ghost use Rattle.udfs_files.specs.There.{holds_from_start};
-ghost use Rattle.udfs_files.specs.declared.files.Kind.{Kind};
+ghost use Rattle.udfs_calls.specs.Log.{AreNamed, IsAt, IsFresh, holds, moment_of};
+ghost use Rattle.udfs_files.specs.Opened.{all_before, contents_of, told_bytes, told_contents, untold_contents};
+ghost use Rattle.udfs_files.specs.Told.{AreNamed-prop, IsLedInPlace, kept_by, kept_none, left_by, left_since_by, log_counts_now, log_only_now, path_of, some_left};
 ghost use Rattle.udfs_reading.specs.Device.{CountsFault};
-ghost use Rattle.std.specs.Prelude.{◌≡◌, ◌≢◌, ℕ, List, Option, Some, None, Ok, IfOk, IsErr, OnErr, OnOk, string_bytes, ⊤};
+ghost use Rattle.std.specs.Prelude.{◌≡◌, Some, None, Ok, IfOk, IsErr, OnErr, ⊤};
 
 use crate::files::{Files, Target};
+use crate::folders::{make_folder, sync_names};
 use crate::opened::{MachineImage, MachineInput, MachineStored};
 use crate::output::MachineFile;
-use crate::places::split;
 use crate::reaching::{
-    create, open_image, open_in_place, open_input, open_stored, remove, rename, sync_folder,
-    sync_output,
+    create, open_image, open_in_place, open_input, open_stored, remove, rename, sync_output,
 };
 use crate::resolving::resolve;
 use crate::watch::{Stage, Watch, heeded};
@@ -30,8 +24,8 @@ use udfs_calls::Calls;
 use udfs_reading::DeviceFault;
 use udfs_times::{Times, Zone};
 
-/// The machine's files, over its system calls. What a file holds that was there when the run began is known where the calls tell it; of what is
-/// written nothing is told. A link is neither moved nor replaced. The runtime gives memory and the zone of its clock alone.
+/// The machine's files, over its system calls: they tell what the calls tell. A link is neither moved nor replaced, and a folder is not opened. The name
+/// of a new folder comes to the disk before a second folder is made, or the names in it. The runtime gives memory and the zone of its clock alone.
 #[derive(Drop)]
 pub struct Machine<'a, C: Calls, R: std::rt::Files + Env + AllocGlobal, N: Watch> {
     calls: C,
@@ -39,17 +33,23 @@ pub struct Machine<'a, C: Calls, R: std::rt::Files + Env + AllocGlobal, N: Watch
     watch: &'a N,
     faults: u64,
     times: Times,
+    /// The folder that was made last, where its name may not be on the disk.
+    unnamed: Option<String>,
+    ghost named: { AreNamed (C.log calls) (path_of unnamed) } by { AreNamed-prop (C.log calls) (path_of unnamed) },
 }
 
 impl<'a, C: Calls, R: std::rt::Files + Env + AllocGlobal, N: Watch> Machine<'a, C, R, N> {
-    /// The files that these calls reach, of which no call has failed yet, and who watches what is done with them.
-    pub fn new(calls: C, rt: &'a R, watch: &'a N) -> Machine<'a, C, R, N> {
+    /// The files that these calls reach, of which none was made yet, and who watches what is done with them.
+    pub fn new(calls: C, rt: &'a R, watch: &'a N) -> Machine<'a, C, R, N>
+        requires { IsFresh (C.log calls) }
+    {
         Machine {
             calls,
             rt,
             watch,
             faults: 0,
             times: Times::new(),
+            unnamed: None,
         }
     }
 }
@@ -68,6 +68,7 @@ impl<'a, C: Calls, R: std::rt::Files + Env + AllocGlobal, N: Watch> Machine<'a, 
         ensures value { IfOk result (λ value. outcome ≡ Ok value) }
         ensures none { OnErr result (IsErr outcome) }
         ensures calls { self.new.calls ≡ self.old.calls }
+        ensures unnamed { self.new.unnamed ≡ self.old.unnamed }
         ensures count { CountsFault self.old.faults self.new.faults result }
     {
         match heeded(self.watch, outcome) {
@@ -89,29 +90,31 @@ impl<'a, C: Calls, R: std::rt::Files + Env + AllocGlobal, N: Watch> Files for Ma
 
     type Output = MachineFile<'a, C::File, N>;
 
-    ghost tells = { ⊥ };
+    ghost tells = { C.tells };
 
-    ghost holds = { λ m. holds_from_start (C.log m.calls) };
+    ghost holds = { λ m. holds (C.log m.calls) };
 
     ghost real = { λ m. C.real m.calls };
 
+    ghost is_at = { λ m. IsAt (C.log m.calls) };
+
     ghost is_no_link = { λ m p. C.link_at m.calls p ≡ None };
 
-    ghost in_place = { λ _ _. ⊤ };
+    ghost in_place = { λ m p. C.tells → IsLedInPlace (C.real m.calls) (C.in_place m.calls) p };
 
     ghost shut = { λ _ _. ⊤ };
 
-    ghost kept = { λ _ _ _. ⊤ };
+    ghost kept = { λ m. kept_by (C.log m.calls) };
 
-    ghost may_leave = { λ _ _. ⊤ };
+    ghost may_leave = { λ m. left_by (C.log m.calls) };
 
-    ghost moment = { λ _. 0 };
+    ghost moment = { λ m. moment_of (C.log m.calls) };
 
-    ghost left_since = { λ _ _ _. ⊤ };
+    ghost left_since = { λ m. left_since_by (C.log m.calls) };
 
     ghost faults = { λ m. m.faults };
 
-    ghost stored_told = { λ never. absurd never };
+    ghost stored_told = { λ tells s. told_bytes (C.File.state s.file) (C.files_told tells s.file) };
 
     ghost stored_as_input = { λ s. (record { file = s.file; number = s.number; watch = s.watch; faults = 0 }, all_before (C.File.state s.file) s.front) };
 
@@ -119,15 +122,15 @@ impl<'a, C: Calls, R: std::rt::Files + Env + AllocGlobal, N: Watch> Files for Ma
 
     ghost told_or_silent = { ⊎_elim (λ known. inl (λ s. told_bytes (C.File.state s.file) (known s.file))) (λ none. inr (λ f. untold_contents (C.File.state f.file) f.size (none f.file))) C.told_or_silent };
 
-    ghost output_told = { λ never. absurd never };
+    ghost output_told = { λ tells f. told_contents (C.File.state f.file) f.size (C.files_told tells f.file) };
 
-    ghost some_crash = { λ _. (λ _. None, tt) };
+    ghost some_crash = { λ m. some_left (C.log m.calls) (C.lawful m.calls) };
 
-    ghost absent_kept = { λ _ _ _ never _ _. absurd never };
+    ghost absent_kept = { λ m q c _ none kept. kept_none (C.log m.calls) q c none kept };
 
-    ghost counts_now = { λ _ _ _ _ _. tt };
+    ghost counts_now = { λ m t c _ left. log_counts_now (C.log m.calls) t c left };
 
-    ghost only_now = { λ _ _ _. tt };
+    ghost only_now = { λ m c left. log_only_now (C.log m.calls) c left };
 
     fn open(&self, path: &str) -> Result<Self::Input, DeviceFault> {
         open_input(&self.calls, self.watch, path)
@@ -141,60 +144,45 @@ impl<'a, C: Calls, R: std::rt::Files + Env + AllocGlobal, N: Watch> Files for Ma
         open_stored(&self.calls, self.watch, path)
     }
 
-    fn resolve(&self, alloc: Global, path: &str) -> Result<Result<Target, DeviceFault>, AllocError>
-        ensures led { IfOk result (λ found. IfOk found (λ target. C.tells → LeadsTo (C.log self.now.calls) (C.real self.now.calls) (C.in_place self.now.calls) path.now target)) }
-        // The trait's, of files that do not tell.
-        ensures leads { IfOk result (λ found. IfOk found (λ target. ⊥ → string_bytes target.path ≡ C.real self.now.calls path.now)) }
-        ensures other { IfOk result (λ found. IfOk found (λ target. target.kind ≡ Kind.Other → ⊤)) }
-        ensures absent { IfOk result (λ found. IfOk found (λ target. target.kind ≡ Kind.Absent → ⊥ → holds_from_start (C.log self.now.calls) (C.real self.now.calls path.now) ≡ Some None)) }
-        ensures fails { IfOk result (λ found. OnErr found ⊤) }
-    {
+    fn resolve(
+        &self,
+        alloc: Global,
+        path: &str,
+    ) -> Result<Result<Target, DeviceFault>, AllocError> {
         resolve(&self.calls, self.watch, alloc, path)
     }
 
+    #[tactic(auto, using(crate::proofs::Logs::kept_same))]
     fn make_new(&mut self, path: &str) -> Result<Self::Output, DeviceFault> {
         let outcome = create(&mut self.calls, self.watch, path);
         self.heeded(outcome)
     }
 
+    #[tactic(auto, using(crate::proofs::Logs::kept_same))]
     fn make(&mut self, path: &str) -> Result<Self::Output, DeviceFault> {
         let outcome = open_in_place(&mut self.calls, self.watch, path);
         self.heeded(outcome)
     }
 
-    fn sync(&mut self, _path: &str, output: Self::Output) -> Result<(), DeviceFault>
-        ensures synced { OnOk result (C.log self.new.calls ≡ after_sync (C.File.number output.entry.file) (contents_of (C.File.state output.entry.file) output.entry.size) (C.log self.old.calls)) }
-        // The trait's, of files that do not tell.
-        ensures holds { OnOk result ((bytes : List ℕ) → ⊥ → contents_of (C.File.state output.entry.file) output.entry.size ≡ Some bytes → holds_from_start (C.log self.new.calls) _path.now ≡ Some (Some bytes)) }
-        ensures durable { OnOk result ((bytes : List ℕ) (c : Option (List ℕ)) → ⊥ → contents_of (C.File.state output.entry.file) output.entry.size ≡ Some bytes → ⊤ → c ≡ Some bytes) }
-        ensures others { (q : List ℕ) → q ≢ _path.now → holds_from_start (C.log self.new.calls) q ≡ holds_from_start (C.log self.old.calls) q }
-        ensures links { (q : List ℕ) → C.link_at self.old.calls q ≡ None → C.link_at self.new.calls q ≡ None }
-        ensures real { C.real self.new.calls ≡ C.real self.old.calls }
-        ensures count { CountsFault self.old.faults self.new.faults result }
-        ensures crash { Goes (λ _. 0) (λ _ _. ⊤) (λ _ _ _. ⊤) self.old self.new (SameBut _path.now) }
-    {
-        let outcome = sync_output(&mut self.calls, output);
+    #[tactic(auto, using(crate::proofs::Logs::kept_same))]
+    fn sync(&mut self, path: &str, output: Self::Output) -> Result<(), DeviceFault> {
+        let outcome = sync_output(&mut self.calls, path, output);
         self.heeded(outcome)
     }
 
+    #[tactic(auto, using(crate::proofs::Logs::kept_same))]
     fn rename(&mut self, from: &str, to: &str) -> Result<(), DeviceFault> {
         let outcome = rename(&mut self.calls, self.rt.alloc(), from, to);
         self.heeded(outcome)
     }
 
-    fn sync_folder(&mut self, path: &str) -> Result<(), DeviceFault>
-        ensures synced { OnOk result (C.log self.new.calls ≡ after (folder_synced (parent path.now)) (C.log self.old.calls)) }
-        // The trait's, of files that do not tell.
-        ensures durable { OnOk result ((c : Disk) (q : List ℕ) → ⊤ → folder_of q ≡ folder_of path.now → ⊤) }
-        ensures others { (q : List ℕ) → holds_from_start (C.log self.new.calls) q ≡ holds_from_start (C.log self.old.calls) q }
-        ensures real { C.real self.new.calls ≡ C.real self.old.calls }
-        ensures count { CountsFault self.old.faults self.new.faults result }
-        ensures crash { Goes (λ _. 0) (λ _ _. ⊤) (λ _ _ _. ⊤) self.old self.new Same }
-    {
-        let outcome = sync_folder(&mut self.calls, split(path).0);
+    #[tactic(auto, using(crate::proofs::Logs::kept_same))]
+    fn sync_folder(&mut self, path: &str) -> Result<(), DeviceFault> {
+        let outcome = sync_names(&mut self.calls, &mut self.unnamed, path);
         self.heeded(outcome)
     }
 
+    #[tactic(auto, using(crate::proofs::Logs::kept_same))]
     fn remove(&mut self, path: &str) -> Result<(), DeviceFault> {
         let outcome = remove(&mut self.calls, path);
         self.heeded(outcome)
@@ -221,8 +209,10 @@ impl<'a, C: Calls, R: std::rt::Files + Env + AllocGlobal, N: Watch> Files for Ma
         }
     }
 
+    #[tactic(auto, using(crate::proofs::Logs::kept_same))]
     fn make_folder(&mut self, path: &str) -> Result<(), DeviceFault> {
-        let outcome = self.calls.make_folder(path);
+        let alloc = self.rt.alloc();
+        let outcome = make_folder(&mut self.calls, alloc, &mut self.unnamed, path);
         self.heeded(outcome)
     }
 

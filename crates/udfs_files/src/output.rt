@@ -1,9 +1,10 @@
 //! What the machine opened to be written. In a new file long runs of zeros are left out, so that it is sparse where the file system can be.
 
-ghost use Rattle.std.specs.Prelude.{◌≡◌, ◌≤◌, [], ◌+◌, length, take, true, false, Bool, IfOk, IfErr, OnOk, OnErr};
+ghost use Rattle.std.specs.Prelude.{◌≡◌, ◌≤◌, ◌<◌, ◌+◌, length, take, true, false, Bool, IfOk, IfErr, OnOk, OnErr};
 ghost use Rattle.udfs_calls.specs.Files.{bytes_of, zeros};
 ghost use Rattle.udfs_files.specs.Opened.{IsOutput, IsOutput-prop, contents_of};
 ghost use Rattle.std.specs.Io.KnownBytes.{WriteAppends};
+ghost use Rattle.udfs_reading.specs.Device.{CountsFault};
 
 use crate::files::Handle;
 use crate::watch::{Watch, heeded};
@@ -115,6 +116,27 @@ impl<'a, O: Opened + Drop, N: Watch> MachineFile<'a, O, N> {
         self.append(&bytes[..count])
     }
 
+    /// Writes a front of these bytes. It is a fault where nothing could be written.
+    fn take(&mut self, buf: &[u8]) -> Result<usize, DeviceFault>
+        ensures number { O.number self.new.file ≡ O.number self.old.file }
+        ensures bound { IfOk result (λ n. n ≤ length buf.now) }
+        ensures some { IfOk result (λ n. 0 < length buf.now → 0 < n) }
+        ensures bytes { WriteAppends (contents_of (O.state self.old.file) self.old.size) (contents_of (O.state self.new.file) self.new.size) result buf.now }
+        ensures count { CountsFault self.old.faults self.new.faults result }
+    {
+        let outcome = self.put_front(buf);
+        match heeded(self.watch, outcome) {
+            Some(count) if count > 0 || buf.is_empty() => {
+                self.watch.wrote(count);
+                Ok(count)
+            }
+            _ => {
+                self.faults = self.faults.wrapping_add(1);
+                Err(DeviceFault)
+            }
+        }
+    }
+
     /// The file, with the zeros at its end that were left out.
     #[tactic(auto, using(crate::proofs::Taken::cut_whole, crate::proofs::Taken::whole_already))]
     pub(crate) fn into_file(self) -> Result<O, Error>
@@ -139,24 +161,14 @@ impl<'a, O: Opened + Drop, N: Watch> Sink for MachineFile<'a, O, N> {
     ghost stream = { λ f. record { contents = contents_of (O.state f.file) f.size; faults = f.faults } };
 
     fn write(&mut self, buf: &[u8]) -> Result<usize, DeviceFault> {
-        let outcome = self.put_front(buf);
-        match heeded(self.watch, outcome) {
-            Some(count) if count > 0 || buf.is_empty() => {
-                self.watch.wrote(count);
-                Ok(count)
-            }
-            _ => {
-                self.faults = self.faults.wrapping_add(1);
-                Err(DeviceFault)
-            }
-        }
+        self.take(buf)
     }
 }
 
 impl<'a, O: Opened + Drop, N: Watch> Handle for MachineFile<'a, O, N> {
-    ghost place = { λ _. [] };
+    ghost number = { λ f. O.number f.file };
 
     fn put(&mut self, buf: &[u8]) -> Result<usize, DeviceFault> {
-        self.write(buf)
+        self.take(buf)
     }
 }

@@ -1,7 +1,7 @@
 //! The parts of a path, as the machine reads it.
 
 ghost use Rattle.std.specs.Prelude.{◌≡◌, ◌↔◌, IfOk, IsTrue, string_bytes};
-ghost use Rattle.udfs_calls.specs.Paths.{IsDevice, joined, last, parent};
+ghost use Rattle.udfs_calls.specs.Paths.{IsDevice, IsPart, joined, last, parent};
 
 use std::alloc::{AllocError, Global};
 
@@ -25,9 +25,27 @@ pub(crate) fn name_in(alloc: Global, folder: &str, name: &str) -> Result<String,
         return String::from_str(alloc, name);
     }
     let mut path = String::from_str(alloc, folder)?;
-    path.push('/')?;
+    if folder != "/" {
+        path.push('/')?;
+    }
     path.push_str(name)?;
     Ok(path)
+}
+
+/// Whether a name leads on from its folder to what is in it.
+pub(crate) fn is_part(name: &str) -> bool
+    ensures { IsTrue result → IsPart name.now }
+{
+    if name == "" {
+        return false;
+    }
+    if name == "." {
+        return false;
+    }
+    if name == ".." {
+        return false;
+    }
+    true
 }
 
 /// Whether what is at the path is a device or an opened file by the name alone, as `/dev/stdout` is.

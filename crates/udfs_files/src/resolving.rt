@@ -6,7 +6,7 @@ ghost use Rattle.udfs_files.specs.Leading.{LeadsTo};
 ghost use Rattle.udfs_files.specs.declared.files.Kind.{Kind};
 
 use crate::files::{Kind, Target};
-use crate::places::{is_device, name_in, split};
+use crate::places::{is_device, is_part, name_in, split};
 use crate::reaching::link_at;
 use crate::watch::{Watch, heeded};
 use std::alloc::{AllocError, Global};
@@ -57,7 +57,8 @@ fn real_path<C: Calls, N: Watch>(
     }
 }
 
-/// The path that a path leads to which is no link, where nothing is there: the name in the folder that its own folder leads to.
+/// The path that a path leads to which is no link, where nothing is there: the name in the folder that its own folder leads to. It is a fault where
+/// the path ends with no name.
 fn absent_path<C: Calls, N: Watch>(
     calls: &C,
     watch: &N,
@@ -68,7 +69,8 @@ fn absent_path<C: Calls, N: Watch>(
 {
     let (folder, name) = split(path);
     match real_path(calls, watch, alloc, folder)? {
-        Ok(real) => Ok(Ok(name_in(alloc, real.as_str(), name)?)),
+        Ok(real) if is_part(name) => Ok(Ok(name_in(alloc, real.as_str(), name)?)),
+        Ok(_) => Ok(Err(DeviceFault)),
         Err(fault) => Ok(Err(fault)),
     }
 }

@@ -180,8 +180,6 @@ impl Stored for MemoryStored {
 /// An output that was made, on a device.
 #[derive(Drop)]
 pub struct MemoryFile {
-    /// Where it was made.
-    pub path: Vec<u8>,
     /// What was written so far.
     pub bytes: Vec<u8>,
     device: Device,
@@ -189,31 +187,27 @@ pub struct MemoryFile {
 }
 
 impl MemoryFile {
-    /// A file at this path, with nothing in it.
-    pub fn new(alloc: Global, path: Vec<u8>, device: Device) -> MemoryFile
-        ensures place { result.path ≡ path }
+    /// A file with nothing in it.
+    pub fn new(alloc: Global, device: Device) -> MemoryFile
         ensures empty { result.bytes.items ≡ [] }
     {
         MemoryFile {
-            path,
             bytes: Vec::new(alloc),
             device,
             faults: 0,
         }
     }
 
-    /// Where it was made, and what was written.
-    pub fn into_parts(self) -> (Vec<u8>, Vec<u8>)
-        ensures place { result.0 ≡ self.path }
-        ensures bytes { result.1 ≡ self.bytes }
+    /// What was written.
+    pub fn into_bytes(self) -> Vec<u8>
+        ensures { result ≡ self.bytes }
     {
         let MemoryFile {
-            path,
             bytes,
             device: _,
             faults: _,
         } = self;
-        (path, bytes)
+        bytes
     }
 
     /// How many of these bytes the device takes, or none where it fails.
@@ -239,7 +233,8 @@ impl Sink for MemoryFile {
 }
 
 impl Handle for MemoryFile {
-    ghost place = { λ f. f.path.items };
+    // Which file it is, is of no account: it is written to the path that it is handed over with.
+    ghost number = { λ _. Some 0 };
 
     fn put(&mut self, buf: &[u8]) -> Result<usize, DeviceFault> {
         if let Some(count) = self.taken(buf) {

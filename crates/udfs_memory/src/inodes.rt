@@ -112,6 +112,7 @@ impl Inode {
         };
         About {
             is_file: self.kind == InodeKind::File,
+            is_folder: self.kind == InodeKind::Folder,
             size,
             device: 1,
             inode: self.number as u64,

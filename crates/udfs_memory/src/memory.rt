@@ -366,6 +366,8 @@ impl Files for Memory {
 
     ghost real = { λ _ p. p };
 
+    ghost is_at = { λ _ _ _. ⊤ };
+
     ghost is_no_link = { λ _ _. ⊤ };
 
     ghost in_place = { λ m p. IsNoFile m.folders.items p };
@@ -450,22 +452,22 @@ impl Files for Memory {
         if !self.has_parent(path) {
             return self.fail();
         }
-        let own = self.copied(path.as_bytes());
-        let begun = self.copied(path.as_bytes());
-        if let (Ok(own), Ok(begun)) = (own, begun) {
+        if let Ok(begun) = self.copied(path.as_bytes()) {
             if self.tell(Event::Begun(begun)).is_ok() {
-                return Ok(MemoryFile::new(self.alloc, own, self.outputs));
+                return Ok(MemoryFile::new(self.alloc, self.outputs));
             }
         }
         self.fail()
     }
 
-    fn sync(&mut self, _path: &str, output: MemoryFile) -> Result<(), DeviceFault> {
-        let (path, bytes) = output.into_parts();
-        match self.tell(Event::Written(path, bytes)) {
-            Ok(()) => Ok(()),
-            Err(DeviceFault) => self.fail(),
+    fn sync(&mut self, path: &str, output: MemoryFile) -> Result<(), DeviceFault> {
+        let bytes = output.into_bytes();
+        if let Ok(path) = self.copied(path.as_bytes()) {
+            if self.tell(Event::Written(path, bytes)).is_ok() {
+                return Ok(());
+            }
         }
+        self.fail()
     }
 
     fn rename(&mut self, from: &str, to: &str) -> Result<(), DeviceFault> {

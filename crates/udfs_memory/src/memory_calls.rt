@@ -273,6 +273,8 @@ impl<'a> Calls for MemoryCalls<'a> {
 
     ghost told_or_silent = { inl (λ d. (record { bytes = d.bytes.items; at = d.at }, refl)) };
 
+    ghost lawful = { λ _. tt };
+
     ghost told_apart = { λ never. absurd never };
 
     ghost link_leads = { λ never. absurd never };
@@ -309,8 +311,8 @@ impl<'a> Calls for MemoryCalls<'a> {
         self.disk.open_in_place(path)
     }
 
-    fn sync(&mut self, file: &MemoryDescriptor) -> Result<(), Error> {
-        self.disk.sync(file)
+    fn sync(&mut self, file: MemoryDescriptor) -> Result<(), Error> {
+        self.disk.sync(&file)
     }
 
     fn sync_folder(&mut self, path: &str) -> Result<(), Error> {

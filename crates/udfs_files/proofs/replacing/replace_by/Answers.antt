@@ -1,5 +1,5 @@
 use Rattle.std.proofs.Common.{refl, ℕ, List}
-use Rattle.udfs_files.proofs.Going.{agree, not_made, not_tried, not_written, written, then_removed, then_named}
+use Rattle.udfs_files.proofs.Going.{not_made, not_tried, not_written, written, then_removed, then_named}
 use Rattle.udfs_files.proofs.replacing.replace_by.Goals as goal
 
 pub returns-in-Err-Files-NotMade-clause-any_moment : goal.returns-in-Err-Files-NotMade-clause-any_moment

@@ -1,4 +1,4 @@
-use Rattle.std.proofs.Common.{◌≡◌, string_bytes, ap, sym, ◌∙◌, subst}
+use Rattle.std.proofs.Common.{string_bytes, ap, sym, ◌∙◌, subst}
 use Rattle.udfs_files.specs.Disk.{IsOwn}
 use Rattle.udfs_files.proofs.Going.{own_apart, tried_then_replaced, only_tried}
 use Rattle.udfs_files.proofs.replacing.replace_by_one.Goals as goal

@@ -4,10 +4,10 @@ use Rattle.std.proofs.lemmas.Bool.{cases_Bool, eq-eqb, eqb-true}
 use Rattle.std.proofs.lemmas.Slice.Eq.{bytes_eq-Decides}
 use Rattle.std.specs.Prelude.{◌≡◌, ◌≢◌, ◌⊎◌, ℕ, ◌≤◌, ◌<◌, Bool, true, false, List, [], ◌∷◌, length, Option, Some, None, if◌then◌else◌, bytes_eq, nat_eq, ⊤}
 use Rattle.udfs_calls.specs.Disk.{Disk, SameBut, Moved, Gone}
-use Rattle.udfs_memory.specs.Lawful.{IsLawful, SomeCrash, is_created}
-use Rattle.udfs_calls.specs.Log.{Call, Made, Node, Start, held_by, content, kept, kept_of, new_content, node_at, outcome, shown}
+use Rattle.udfs_calls.specs.Lawful.{IsLawful, SomeCrash}
+use Rattle.udfs_calls.specs.Log.{Call, Made, Node, Start, held_by, content, is_created, kept, kept_of, new_content, node_at, outcome, shown, told_bytes}
 use Rattle.udfs_calls.specs.Log.Call.{created, opened, synced, renamed, removed, folder_made, folder_synced, failed}
-use Rattle.udfs_calls.specs.Log.Node.{there, made}
+use Rattle.udfs_calls.specs.Log.Node.{there, made, folder}
 use Rattle.udfs_calls.specs.Paths.{parent}
 
 pub apart : (p q : List ℕ) → p ≢ q → bytes_eq p q ≡ false
@@ -19,15 +19,15 @@ apart p q other = elim (cases_Bool (bytes_eq p q)) [
 pub alike : (q : List ℕ) → bytes_eq q q ≡ true
 alike q = (bytes_eq-Decides q q).1 refl
 
--- what the new files have in the end, by their numbers: folders nothing
+-- what the new files have in the end, by their numbers
 abbrev Ends : Type 0
 Ends = ℕ → Option (List ℕ)
 
--- those that were synced have what was synced, and what was made a folder has nothing
+-- those that were synced have what was synced
 abbrev Agrees : Ends → List Call → Type 0
 Agrees ends [] = ⊤
 Agrees ends (synced number bytes ∷ calls) = (ends number ≡ Some bytes) × Agrees ends calls
-Agrees ends (folder_made q ∷ calls) = (ends (length calls) ≡ None) × Agrees ends calls
+Agrees ends (folder_made q ∷ calls) = Agrees ends calls
 Agrees ends (created q ∷ calls) = Agrees ends calls
 Agrees ends (opened q ∷ calls) = Agrees ends calls
 Agrees ends (renamed from to ∷ calls) = Agrees ends calls
@@ -44,7 +44,7 @@ synced_ends ends (synced m xs ∷ calls) agrees number bytes is = elim (cases_Bo
       ap ends same ∙ agrees.0 ∙ sym (ap (λ b. if b then Some xs else new_content calls number) hit) ∙ is
   | inr miss ↦ synced_ends ends calls agrees.1 number bytes (sym (ap (λ b. if b then Some xs else new_content calls number) miss) ∙ is)
 ]
-synced_ends ends (folder_made q ∷ calls) agrees number bytes is = synced_ends ends calls agrees.1 number bytes is
+synced_ends ends (folder_made q ∷ calls) agrees number bytes is = synced_ends ends calls agrees number bytes is
 synced_ends ends (created q ∷ calls) agrees number bytes is = synced_ends ends calls agrees number bytes is
 synced_ends ends (opened q ∷ calls) agrees number bytes is = synced_ends ends calls agrees number bytes is
 synced_ends ends (renamed from to ∷ calls) agrees number bytes is = synced_ends ends calls agrees number bytes is
@@ -57,21 +57,23 @@ abbrev end_of : Ends → Start → Option Node → Option (List ℕ)
 end_of ends start None = None
 end_of ends start (Some (there number)) = start.content number
 end_of ends start (Some (made number)) = ends number
+end_of ends start (Some (folder number)) = None
 
 -- what paths may hold, once all is written
 abbrev best : Ends → Start → List Call → Disk
 best ends start calls p = end_of ends start (node_at start calls p)
 
 -- where bytes are known, nothing else is left
-known_kept : (x : Option (List ℕ)) (node : Node) (c : Option (List ℕ)) → ((xs : List ℕ) → x ≡ Some xs → c ≡ Some xs) → kept_of (held_by (λ _. x) (Some node)) c
-known_kept None node c is = tt
-known_kept (Some xs) node c is = is xs refl
+known_kept : (x c : Option (List ℕ)) → ((xs : List ℕ) → x ≡ Some xs → c ≡ Some xs) → kept_of (told_bytes x) c
+known_kept None c is = tt
+known_kept (Some xs) c is = is xs refl
 
 -- a crash may leave it
 entry_kept : (ends : Ends) (start : Start) (calls : List Call) → Agrees ends calls → (entry : Option Node) → kept_of (held_by (content start calls) entry) (end_of ends start entry)
 entry_kept ends start calls agrees None = refl
-entry_kept ends start calls agrees (Some (there number)) = known_kept (start.content number) (there number) (start.content number) (λ xs is. is)
-entry_kept ends start calls agrees (Some (made number)) = known_kept (new_content calls number) (made number) (ends number) (synced_ends ends calls agrees number)
+entry_kept ends start calls agrees (Some (there number)) = known_kept (start.content number) (start.content number) (λ xs is. is)
+entry_kept ends start calls agrees (Some (made number)) = known_kept (new_content calls number) (ends number) (synced_ends ends calls agrees number)
+entry_kept ends start calls agrees (Some (folder number)) = refl
 
 best_kept : (ends : Ends) (start : Start) (calls : List Call) → Agrees ends calls → (p : List ℕ) → kept start calls p (best ends start calls p)
 best_kept ends start calls agrees p = entry_kept ends start calls agrees (node_at start calls p)
@@ -173,16 +175,16 @@ module _ (ends : Ends) (start : Start) (these : List ℕ → Bool) where
       )
   commit (folder_made q ∷ calls) agrees lawful d left =
       let before = left.0.0 in
-      let new : Option Node = Some (made (length calls)) in
+      let new : Option Node = Some (folder (length calls)) in
       let same : (p : List ℕ) → best ends start (folder_made q ∷ calls) p ≡ best ends start calls p = λ p. elim (cases_Bool (bytes_eq p q)) [
         | inl hit ↦
             let is : p ≡ q = (bytes_eq-Decides p q).0 hit in
-            ap (λ b. end_of ends start (if b then new else node_at start calls p)) hit ∙ agrees.0 ∙ sym (ap (λ r. end_of ends start (node_at start calls r)) is ∙ ap (end_of ends start) lawful.0)
+            ap (λ b. end_of ends start (if b then new else node_at start calls p)) hit ∙ sym (ap (λ r. end_of ends start (node_at start calls r)) is ∙ ap (end_of ends start) lawful.0)
         | inr miss ↦ ap (λ b. end_of ends start (if b then new else node_at start calls p)) miss
       ] in (
         (
           with_best calls before,
-          commit calls agrees.1 lawful.1 before left.0.1,
+          commit calls agrees lawful.1 before left.0.1,
           λ p. both these (best ends start calls) (best ends start (folder_made q ∷ calls)) before d p (same p) (left.0.2 p),
         ),
         tt,
@@ -254,7 +256,7 @@ left ends start (opened q ∷ calls) agrees lawful = let c = left ends start cal
 left ends start (synced number bytes ∷ calls) agrees lawful = let c = left ends start calls agrees.1 lawful.1 in (c.0, ((c.0, c.1, nothing_shown start calls (synced number bytes) c.0), tt))
 left ends start (renamed from to ∷ calls) agrees lawful = let c = left ends start calls agrees lawful.1 in (c.0, ((c.0, c.1, nothing_shown start calls (renamed from to) c.0), tt))
 left ends start (removed q ∷ calls) agrees lawful = let c = left ends start calls agrees lawful.1 in (c.0, ((c.0, c.1, nothing_shown start calls (removed q) c.0), tt))
-left ends start (folder_made q ∷ calls) agrees lawful = let c = left ends start calls agrees.1 lawful.1 in (c.0, ((c.0, c.1, nothing_shown start calls (folder_made q) c.0), tt))
+left ends start (folder_made q ∷ calls) agrees lawful = let c = left ends start calls agrees lawful.1 in (c.0, ((c.0, c.1, nothing_shown start calls (folder_made q) c.0), tt))
 left ends start (folder_synced f ∷ calls) agrees lawful =
     let c = left ends start calls agrees lawful.1 in
     let d : Disk = brought (below f) (best ends start calls) c.0 in (
@@ -315,9 +317,7 @@ module _ (ends : Ends) (number : ℕ) (bytes : List ℕ) where
         let other : m ≢ number = λ is. (let bad : true ≡ false = sym (eq-eqb number m (sym is)) ∙ miss in cc) in
         (more_other m other ∙ agrees.0, more_agrees calls agrees.1 new (sym (ap (λ b. if b then Some xs else new_content calls number) miss) ∙ none))
   ]
-  more_agrees (folder_made q ∷ calls) agrees new none =
-      let l = early calls number new in
-      (more_other (length calls) (λ is. omega (arith, is, l)) ∙ agrees.0, more_agrees calls agrees.1 new none)
+  more_agrees (folder_made q ∷ calls) agrees new none = more_agrees calls agrees new none
   more_agrees (created q ∷ calls) agrees (inl last) none = fresh calls agrees (omega (arith, last)) none
     where
       fresh : (calls : List Call) → Agrees ends calls → length calls ≤ number → new_content calls number ≡ None → Agrees more calls
@@ -328,7 +328,7 @@ module _ (ends : Ends) (number : ℕ) (bytes : List ℕ) where
             let other : m ≢ number = λ is. (let bad : true ≡ false = sym (eq-eqb number m (sym is)) ∙ miss in cc) in
             (more_other m other ∙ agrees.0, fresh calls agrees.1 (omega (arith, le)) (sym (ap (λ b. if b then Some xs else new_content calls number) miss) ∙ none))
       ]
-      fresh (folder_made q ∷ calls) agrees le none = (more_other (length calls) (λ is. omega (arith, is, le)) ∙ agrees.0, fresh calls agrees.1 (omega (arith, le)) none)
+      fresh (folder_made q ∷ calls) agrees le none = fresh calls agrees (omega (arith, le)) none
       fresh (created q ∷ calls) agrees le none = fresh calls agrees (omega (arith, le)) none
       fresh (opened q ∷ calls) agrees le none = fresh calls agrees (omega (arith, le)) none
       fresh (renamed from to ∷ calls) agrees le none = fresh calls agrees (omega (arith, le)) none
@@ -349,7 +349,7 @@ in_the_end start (synced number bytes ∷ calls) lawful = (
   ap (λ b. if b then Some bytes else new_content calls number) (eq-eqb number number refl),
   more_agrees (new_content calls) number bytes calls (in_the_end start calls lawful.1) lawful.0.0 lawful.0.1,
 )
-in_the_end start (folder_made q ∷ calls) lawful = (later_unknown start calls (length calls) lawful.1 (omega arith), in_the_end start calls lawful.1)
+in_the_end start (folder_made q ∷ calls) lawful = in_the_end start calls lawful.1
 in_the_end start (created q ∷ calls) lawful = in_the_end start calls lawful.1
 in_the_end start (opened q ∷ calls) lawful = in_the_end start calls lawful.1
 in_the_end start (renamed from to ∷ calls) lawful = in_the_end start calls lawful.1

@@ -1,24 +1,12 @@
 -- Calls that can follow one another: a crash after them leaves something.
---     is_created calls number          the file of this number was made new
 --     can_follow start calls call      this call can be made after these
 --     IsLawful start calls             each call could be made when it was
+--     IsLawfulLog log                  the same of a log, where it is known
 --     SomeCrash                        after such calls a crash leaves something
-use Rattle.std.specs.Prelude.{◌≡◌, ◌⊎◌, ℕ, List, [], ◌∷◌, length, None, ⊤}
+use Rattle.std.specs.Prelude.{◌≡◌, ℕ, List, [], ◌∷◌, Option, Some, None, ⊤}
 use Rattle.udfs_calls.specs.Disk.{Disk}
-use Rattle.udfs_calls.specs.Log.{Call, Start, new_content, node_at, outcome}
+use Rattle.udfs_calls.specs.Log.{Call, Log, Start, is_created, new_content, node_at, outcome}
 use Rattle.udfs_calls.specs.Log.Call.{created, opened, synced, renamed, removed, folder_made, folder_synced, failed}
-
--- the file of this number was made new
-abbrev pub is_created : List Call → ℕ → Type 0
-is_created [] number = ⊥
-is_created (created q ∷ calls) number = (number ≡ length calls) ⊎ is_created calls number
-is_created (opened q ∷ calls) number = is_created calls number
-is_created (synced m bytes ∷ calls) number = is_created calls number
-is_created (renamed from to ∷ calls) number = is_created calls number
-is_created (removed q ∷ calls) number = is_created calls number
-is_created (folder_made q ∷ calls) number = is_created calls number
-is_created (folder_synced q ∷ calls) number = is_created calls number
-is_created (failed call ∷ calls) number = is_created calls number
 
 -- This call can be made after these: a new file or folder is made where nothing is, and a new file is synced once, when all is written.
 abbrev pub can_follow : Start → List Call → Call → Type 0
@@ -35,6 +23,11 @@ can_follow start calls (failed call) = ⊤
 abbrev pub IsLawful : Start → List Call → Type 0
 IsLawful start [] = ⊤
 IsLawful start (call ∷ calls) = can_follow start calls call × IsLawful start calls
+
+-- the same of a log, where it is known
+abbrev pub IsLawfulLog : Option Log → Type 0
+IsLawfulLog None = ⊤
+IsLawfulLog (Some log) = IsLawful log.start log.calls
 
 -- after calls that can follow one another, a crash leaves something
 abbrev pub SomeCrash : Type 0

@@ -1,0 +1,80 @@
+-- What the log of the machine's calls tells of its files. Where the log is not known, nothing is told.
+--     kept_by log path c              what a crash may leave of what is at a path, were its name on the disk
+--     left_by log disk                what a crash may leave at all paths
+--     left_since_by log moment disk   what a crash might have left since then
+--     LogGoes old new step            from an old log to a new one a crash leaves what it might have left before, after this step
+--     Settles old new folder          whatever a crash leaves now, each path of this folder has what was held there before
+--     IsLedInPlace .. path            some path that leads to the same says that it is no regular file
+--     path_of text                    the path in a text, where there is one
+use Rattle.std.proofs.Common.{inl, ⊎_elim, subst, arith}
+use Rattle.std.specs.Coded.{Coded-set, coded_bool, Π_prop, Unit-prop}
+use Rattle.std.specs.Prelude.{◌≡◌, ℕ, List, [], ◌∷◌, length, Option, Some, None, String, string_bytes, true, ⊤}
+use Rattle.std.specs.declared.alloc.Global.{Global}
+use Rattle.udfs_calls.proofs.PublicLaws.{a_crash_leaves_something}
+use Rattle.udfs_calls.specs.Lawful.{IsLawfulLog}
+use Rattle.udfs_calls.specs.Log.{AreNamed, Call, Start, Log, holds, is_named, kept_of, moment_of, outcome, outcome_since}
+use Rattle.udfs_calls.specs.Paths.{parent}
+use Rattle.udfs_files.specs.Disk.{Disk, Goes}
+
+-- what a crash may leave of what is at a path, were its name on the disk: what it holds, and anything where that is not known
+abbrev pub kept_by : Option Log → List ℕ → Option (List ℕ) → Type 0
+kept_by log p c = kept_of (holds log p) c
+
+-- what a crash may leave at all paths
+abbrev pub left_by : Option Log → Disk → Type 0
+left_by None c = ⊤
+left_by (Some log) c = outcome log.start log.calls c
+
+-- what a crash might have left since then
+abbrev pub left_since_by : Option Log → ℕ → Disk → Type 0
+left_since_by None t c = ⊤
+left_since_by (Some log) t c = outcome_since log.start log.calls t c
+
+-- From an old log to a new one, a crash at any moment leaves what one might have left before, after this step.
+abbrev pub LogGoes : Option Log → Option Log → (Disk → Disk → Type 0) → Type 0
+LogGoes old new step = Goes moment_of left_by left_since_by old new step
+
+-- Whatever a crash leaves now, each path of this folder has what was held there before.
+abbrev pub Settles : Option Log → Option Log → List ℕ → Type 0
+Settles old new folder = (c : Disk) (q : List ℕ) → left_by new c → parent q ≡ folder → kept_by old q (c q)
+
+-- some path that leads to the same may be that of no regular file
+abbrev pub IsLedInPlace : (List ℕ → List ℕ) → (List ℕ → Type 0) → List ℕ → Type 0
+IsLedInPlace real in_place path = (q : List ℕ) × (real q ≡ real path) × in_place q
+
+-- the path in a text, where there is one
+abbrev pub path_of : Option (String Global) → Option (List ℕ)
+path_of None = None
+path_of (Some text) = Some (string_bytes text)
+
+-- the names of all folders but one are on the disk in one way
+pub AreNamed-prop : (log : Option Log) (but : Option (List ℕ)) → IsProp (AreNamed log but)
+AreNamed-prop None but = Unit-prop
+AreNamed-prop (Some log) but = Π_prop (λ f. Π_prop (λ _. Coded-set coded_bool (is_named log.calls f) true))
+
+-- where no file is, a crash leaves none once the names of the folder are on the disk
+pub kept_none : (log : Option Log) (p : List ℕ) (c : Option (List ℕ)) → holds log p ≡ Some None → kept_by log p c → c ≡ None
+kept_none log p c e is = subst (λ h. kept_of h c) e is
+
+-- a crash leaves something
+pub some_left : (log : Option Log) → IsLawfulLog log → (c : Disk) × left_by log c
+some_left None lawful = ((λ q. None), tt)
+some_left (Some log) lawful = a_crash_leaves_something log.start log.calls lawful
+
+-- this moment is one of those since an earlier one
+now_counts : (start : Start) (calls : List Call) (t : ℕ) (c : Disk) → outcome start calls c → outcome_since start calls t c
+now_counts start [] t c now = now
+now_counts start (call ∷ calls) t c now = inl now
+
+pub log_counts_now : (log : Option Log) (t : ℕ) (c : Disk) → left_by log c → left_since_by log t c
+log_counts_now None t c now = tt
+log_counts_now (Some log) t c now = now_counts log.start log.calls t c now
+
+-- since this moment there is no other
+now_only : (start : Start) (calls : List Call) (c : Disk) → outcome_since start calls (length calls) c → outcome start calls c
+now_only start [] c left = left
+now_only start (call ∷ calls) c left = ⊎_elim (λ now. now) (λ before. absurd (let le = before.0 in omega (arith, le))) left
+
+pub log_only_now : (log : Option Log) (c : Disk) → left_since_by log (moment_of log) c → left_by log c
+log_only_now None c left = tt
+log_only_now (Some log) c left = now_only log.start log.calls c left
