@@ -78,8 +78,11 @@ impl<'a, S: Stored> Index<'a, S> {
         None
     }
 
-    /// The number of a block from which on nothing is said of any.
-    pub fn end(&self) -> u32 {
+    /// The number of a block from which on nothing is said of any, 4,194,304 at most.
+    pub fn end(&self) -> u32
+        ensures most { result ≤ 4194304 }
+        ensures rest { (n : ℕ) → result ≤ n → n < 4194304 → slot_at self.now.places.packets.items n ≡ Unknown }
+    {
         end_of(&self.places.packets)
     }
 

@@ -1,12 +1,14 @@
 -- The blocks of an index are those of the table that it took.
-use Rattle.std.proofs.Common.{◌≡◌, ◌≢◌, ◌∙◌, ◌+◌, ◌<◌, ◌≤◌, ◌⊎◌, arith, ap, inl, inr, refl, sym, subst, cond, ℕ, Bool, true, false, List, Option, nat_lt}
+use Rattle.std.proofs.Common.{◌≡◌, ◌≢◌, ◌∙◌, ◌+◌, ◌<◌, ◌≤◌, ◌⊎◌, arith, ap, inl, inr, refl, sym, cond, ℕ, Bool, true, false, List, Option, map, nat_lt}
 use Rattle.std.specs.Borrow.{Bor}
 use Rattle.std.proofs.lemmas.Bool.{ltb-false, ltb-true}
 use Rattle.udfs_index.proofs.IndexLemmas.{told_all}
 use Rattle.udfs_index.proofs.StoreLemmas.{took_states}
 use Rattle.udfs_index.specs.Copying.{AreAllTold}
 use Rattle.udfs_index.specs.Index.{Took, contents_of}
-use Rattle.udfs_index.specs.Stores.{states_of}
+use Rattle.udfs_index.specs.Places.{state_by}
+use Rattle.udfs_index.specs.Slots.{slot_at}
+use Rattle.udfs_index.specs.Stores.{bytes_of, states_of}
 use Rattle.udfs_index.specs.declared.packet.Packet.{Packet}
 use Rattle.udfs_lattice.specs.States.{State}
 use Rattle.udfs_lattice.specs.Tables.{IsStateAt, IsTable, Table, state_of}
@@ -76,6 +78,22 @@ least_past blocks last block past before some = record {
   not_unknown = λ none. some (ap known_as none);
   least = λ m lt known. let below : (m < block) → ⊥ = λ l. known (before m lt l) in omega (arith, below);
 }
+
+-- where an index says nothing of a block, nothing is known of it
+pub unsaid : (contents : List (Option (List ℕ))) (packets : List Packet) (n : ℕ) → slot_at packets n ≡ Unknown → bounded (states_of contents packets) n ≡ Unknown
+unsaid contents packets n none = go (nat_lt n 4194304)
+  where
+    go : (b : Bool) → cond b (states_of contents packets n) Unknown ≡ Unknown
+    go true = ap (state_by (map bytes_of contents)) none
+    go false = refl
+
+-- nothing is known up to this block, nor from it on
+pub none_behind : (blocks : Blocks) (last block : ℕ) → ((n : ℕ) → last < n → n < block → blocks n ≡ Unknown) → ((n : ℕ) → block ≤ n → n < 4194304 → blocks n ≡ Unknown) → IsNothingBehind blocks last
+none_behind blocks last block before rest n past lt = go (nat_lt n block) refl
+  where
+    go : (b : Bool) → nat_lt n block ≡ b → blocks n ≡ Unknown
+    go true e = before n past (ltb-true n block e)
+    go false e = rest n (ltb-false n block e) lt
 
 -- where no volume has more blocks, nothing is known of any after the last
 pub nothing_past : (blocks : Blocks) (last : ℕ) → IsNothingBehind (bounded blocks) last → IsNothingPast (bounded blocks) last

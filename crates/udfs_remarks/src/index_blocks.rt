@@ -55,7 +55,7 @@ impl<'i, 'a, S: Stored> IndexBlocks<'i, 'a, S> {
         if last >= BLOCKS {
             return None;
         }
-        for block in last + 1..BLOCKS {
+        for block in last + 1..self.index.end() {
             match self.knowledge(block) {
                 Fact::Unknown => {}
                 Fact::Known(()) => return Some(block),
