@@ -1,10 +1,11 @@
 -- Files of a type that is not written: they are no directories, no files by the rules and no links, and yet have bytes.
 --     left_out_type n           the file type of such a node
 --     left_out_types nodes      their file types, one for each of them
+--     wide_writes nodes         whether the wide rules write some of them
 --     left_out_note types       what is said of them
 --     left_out_line types       the line of the summary, if there are any
 --     left_out_remark nodes     what is said beside a report, if there are any
-use Rattle.std.specs.Prelude.{ℕ, ◌++◌, ◌==◌, List, [], ◌∷◌, cond, length, Option, Some, None, codes, count_by, decimal, filter, filter_map, flat_map, nat_eq, nat_lt, unwrap_or, if◌then◌else◌}
+use Rattle.std.specs.Prelude.{Bool, ℕ, ◌++◌, ◌==◌, List, [], ◌∷◌, cond, length, Option, Some, None, codes, count_by, decimal, filter, filter_map, flat_map, nat_eq, nat_lt, unwrap_or, if◌then◌else◌}
 use Rattle.std.specs.List.{list_any, range_with_len}
 use Rattle.udfs_volume.specs.declared.profiles.Profile.TheVariants.{Wide}
 use Rattle.udfs_volume.specs.Profiles.{is_file_type}
@@ -53,6 +54,10 @@ occurring types = types_below 256 types
 -- how many of them the wide rules take for files
 unfoldable pub wide_count : List ℕ → ℕ
 wide_count types = count_by (is_file_type Wide) types
+
+-- whether they write some of the files that are left out
+unfoldable pub wide_writes : List NodeFields → Bool
+wide_writes nodes = nat_lt 0 (wide_count (left_out_types nodes))
 
 -- what a type is called (ECMA-167 4/14.6.6; 249 by UDF 2.01 2.3.5.2)
 abbrev pub type_name : ℕ → List ℕ

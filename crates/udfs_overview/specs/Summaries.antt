@@ -2,7 +2,7 @@
 --     folders_line tally path      the line of the folders, and where names may be missing
 --     next_lines words rules table last report        what to do next
 --     summary_text words rules table last report answer      all lines, where this is known of its lawfulness
-use Rattle.std.specs.Prelude.{ℕ, ◌-◌, ◌==◌, ◌&&◌, Bool, List, [], ◌∷◌, ◌++◌, Option, Some, None, codes, find, length, option_map, if◌then◌else◌}
+use Rattle.std.specs.Prelude.{ℕ, ◌-◌, ◌==◌, ◌&&◌, Bool, List, [], ◌∷◌, ◌++◌, Option, Some, None, codes, cond, find, length, option_map, if◌then◌else◌}
 use Rattle.udfs_lattice.specs.Tables.{Table, state_of}
 use Rattle.udfs_lattice.specs.Volumes.{Blocks}
 use Rattle.udfs_volume.specs.Answers.{Answer, found, holes, faulty}
@@ -15,7 +15,7 @@ use Rattle.udfs_lawfulness.specs.declared.answers.Lawfulness.{Lawfulness}
 use Rattle.udfs_overview.specs.Disagreements.{apart_lines}
 use Rattle.udfs_overview.specs.DiscTallies.{disc_of, unnamed_of}
 use Rattle.udfs_overview.specs.Guarantees.{guarantee_line}
-use Rattle.udfs_overview.specs.LeftOut.{left_out_line, left_out_types}
+use Rattle.udfs_overview.specs.LeftOut.{left_out_line, left_out_types, wide_writes}
 use Rattle.udfs_overview.specs.MovedTags.{moved_count, moved_line}
 use Rattle.udfs_overview.specs.Narrow.{narrow}
 use Rattle.udfs_overview.specs.NextCommands.{extract_command, needed_steps, summary_command}
@@ -122,9 +122,13 @@ abbrev pub next_by : GivenWords → Profile → Table → ℕ → Report → Lis
 next_by g rules table last r [] = no_need_lines g rules table last r r.volume
 next_by g rules table last r (n ∷ ns) = again_lines g rules last (disc_of table last r.reread)
 
+-- the summary by the wide rules, where these write files that the strict ones leave out
+unfoldable pub left_out_lines : GivenWords → ℕ → List ℕ
+left_out_lines g last = codes "Next       The wide rules write files that are left out here. See by them:\n           " ++ summary_command g profile.Wide last
+
 -- what to do next
 unfoldable pub next_lines : GivenWords → Profile → Table → ℕ → Report → List ℕ
-next_lines g rules table last r = next_by g rules table last r r.reread
+next_lines g rules table last r = cond (wide_writes r.nodes) (left_out_lines g last) (next_by g rules table last r r.reread)
 
 -- all lines of a report by the rules of a profile, of a disc that is read with these arguments, where this answers whether it is lawful
 unfoldable pub summary_text : GivenWords → Profile → Table → ℕ → Report → Lawfulness → List ℕ

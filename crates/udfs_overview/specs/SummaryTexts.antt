@@ -38,7 +38,7 @@ others_line t =
 unfoldable pub unnamed_line : UnnamedTally → List ℕ
 unnamed_line t =
     if t.with_data == 0 && t.empty == 0 then []
-    else codes "No name    " ++ counted t.with_data (codes " whole files with data, ") ++ counted t.empty (codes " empty: extract --unnamed lost\n")
+    else codes "No name    " ++ counted t.with_data (by_number t.with_data (codes " whole file with data, ") (codes " whole files with data, ")) ++ counted t.empty (codes " empty: extract --lost lost\n")
 
 -- how many blocks are worth reading again, and in how many places
 unfoldable pub needed_text : DiscTally → List ℕ

@@ -3,7 +3,7 @@
 ghost use Rattle.std.specs.Prelude.{◌≡◌, ◌≤◌, ◌++◌, IfOk, OnOk, flat_map, option_map};
 ghost use Rattle.std.specs.String.{string_bytes};
 ghost use Rattle.udfs_salvage.specs.Surveys.{survey_now};
-ghost use Rattle.udfs_overview.specs.LeftOut.{files_text, further_type, left_out_line, left_out_note, left_out_remark, left_out_type, left_out_types, of_types, other_type, remark_of, sized_type, type_name, type_text, types_below, types_text, which_of, wide_count, wide_text};
+ghost use Rattle.udfs_overview.specs.LeftOut.{files_text, further_type, left_out_line, left_out_note, left_out_remark, left_out_type, left_out_types, of_types, other_type, remark_of, sized_type, type_name, type_text, types_below, types_text, which_of, wide_count, wide_text, wide_writes};
 
 use crate::figures::push_grouped;
 use std::alloc::Global;
@@ -97,6 +97,19 @@ fn wide_count(types: &[u8]) -> usize
         .iter()
         .filter(|file_type| Profile::Wide.is_file_type(**file_type))
         .count()
+}
+
+/// Whether the wide rules write some of the files of a report that are left out. By the wide rules none of these is left out.
+///
+/// # Errors
+///
+/// If memory runs out.
+#[tactic(auto, unfolding(crate::specs::LeftOut::wide_writes))]
+pub fn wide_writes(alloc: Global, survey: &Survey<'_>) -> Result<bool, OutOfMemory>
+    ensures { IfOk result (λ so. so ≡ wide_writes (survey_now survey.now).nodes) }
+{
+    let types = left_out_types(alloc, survey)?;
+    Ok(wide_count(&types) > 0)
 }
 
 /// What a type is called, with a comma before it; empty for one without a name here (ECMA-167 4/14.6.6, UDF 2.01 2.3.5.2).

@@ -39,7 +39,7 @@ pub use disc_tallies::{DiscTally, UnnamedTally, count_disc, count_unnamed};
 pub use errors::PrintError;
 pub use figures::{push_grouped, push_percent, push_size};
 pub use guarantees::{push_guarantee, push_guarantee_line, push_why_place, push_why_words};
-pub use left_out::{left_out_remark, left_out_types, push_left_out};
+pub use left_out::{left_out_remark, left_out_types, push_left_out, wide_writes};
 pub use lost_found::{
     Lost, Rootless, find_lost, found_trees_are_the_volumes, places_are_the_volumes,
 };

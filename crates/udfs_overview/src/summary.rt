@@ -9,7 +9,7 @@ ghost use Rattle.udfs_salvage.specs.Surveys.{survey_now};
 ghost use Rattle.udfs_overview.specs.DiscTallies.{disc_of};
 ghost use Rattle.udfs_overview.specs.Repeating.{given_now};
 ghost use Rattle.udfs_overview.specs.Sentences.{sentence};
-ghost use Rattle.udfs_overview.specs.Summaries.{again_lines, counts_lines, extract_lines, fault_lines, folders_counts, folders_line, found_lines, is_all_whole, missing_in, missing_line, names_missing, next_lines, no_need_lines, nodes_lines, summary_text, torn_folder, wide_lines};
+ghost use Rattle.udfs_overview.specs.Summaries.{again_lines, counts_lines, extract_lines, fault_lines, folders_counts, folders_line, found_lines, is_all_whole, left_out_lines, missing_in, missing_line, names_missing, next_by, next_lines, no_need_lines, nodes_lines, summary_text, torn_folder, wide_lines};
 ghost use Rattle.udfs_overview.specs.Guarantees.{guarantee_line};
 ghost use Rattle.udfs_overview.specs.LeftOut.{left_out_line};
 ghost use Rattle.udfs_overview.specs.Spares.{spares_disagree, spares_line};
@@ -23,7 +23,7 @@ ghost use Rattle.udfs_overview.specs.TornLists.{torn_rows, torn_text};
 use crate::disagreements::push_apart;
 use crate::disc_tallies::{DiscTally, UnnamedTally, count_disc, count_unnamed};
 use crate::guarantees::push_guarantee_line;
-use crate::left_out::{left_out_types, push_left_out};
+use crate::left_out::{left_out_types, push_left_out, wide_writes};
 use crate::moved_tags::{count_moved, push_moved};
 use crate::next_commands::{Margins, Pass, push_extract, push_needed_steps, push_summary_by};
 use crate::node_widenings::{count_wider, push_wider};
@@ -373,6 +373,38 @@ fn push_again(
     push_needed_steps(text, MARGINS, given, pass, disc.needed_in_conflict)
 }
 
+/// The summary by the wide rules, where these write files that the strict ones leave out.
+#[tactic(auto, unfolding(crate::specs::Summaries::left_out_lines))]
+fn push_left_out_lines(
+    text: &mut String,
+    given: &Given<'_>,
+    last: u32,
+) -> Result<(), OutOfMemory>
+    ensures { OnOk result (string_bytes text.new ≡ string_bytes text.old ++ left_out_lines (given_now given.now) last) }
+{
+    text.push_str(
+        "Next       The wide rules write files that are left out here. See by them:\n           ",
+    )?;
+    push_summary_by(text, given, Profile::Wide, last)
+}
+
+/// What to do next by these rules.
+fn push_next_by(
+    alloc: Global,
+    text: &mut String,
+    given: &Given<'_>,
+    survey: &Survey<'_>,
+    disc: &DiscTally,
+) -> Result<(), OutOfMemory>
+    requires { disc.now ≡ disc_of survey.now.table.now survey.now.last survey.now.reread.items }
+    ensures { OnOk result (string_bytes text.new ≡ string_bytes text.old ++ next_by (given_now given.now) survey.now.profile survey.now.table.now survey.now.last (survey_now survey.now) survey.now.reread.items) }
+{
+    match survey.reread.as_slice() {
+        [] => push_no_need(alloc, text, given, survey),
+        _ => push_again(alloc, text, given, survey, disc),
+    }
+}
+
 /// What to do next.
 #[tactic(auto, unfolding(crate::specs::Summaries::next_lines))]
 fn push_next(
@@ -385,9 +417,10 @@ fn push_next(
     requires { disc.now ≡ disc_of survey.now.table.now survey.now.last survey.now.reread.items }
     ensures { OnOk result (string_bytes text.new ≡ string_bytes text.old ++ next_lines (given_now given.now) survey.now.profile survey.now.table.now survey.now.last (survey_now survey.now)) }
 {
-    match survey.reread.as_slice() {
-        [] => push_no_need(alloc, text, given, survey),
-        _ => push_again(alloc, text, given, survey, disc),
+    if wide_writes(alloc, survey)? {
+        push_left_out_lines(text, given, survey.last)
+    } else {
+        push_next_by(alloc, text, given, survey, disc)
     }
 }
 

@@ -123,6 +123,15 @@ pub fn push_others(text: &mut String, tally: &Tally) -> Result<(), OutOfMemory>
     push_loops(text, tally.loops as u64)
 }
 
+/// How many whole files with data no name leads to.
+fn push_with_data(text: &mut String, count: u64) -> Result<(), OutOfMemory>
+    ensures { OnOk result (string_bytes text.new ≡ string_bytes text.old
+        ++ counted count (by_number count (codes " whole file with data, ") (codes " whole files with data, "))) }
+{
+    let words = by_number(count, " whole file with data, ", " whole files with data, ");
+    push_counted(text, count, words)
+}
+
 /// Appends the line of whole files that no name leads to, if there are any.
 ///
 /// # Errors
@@ -136,8 +145,8 @@ pub fn push_unnamed(text: &mut String, tally: &UnnamedTally) -> Result<(), OutOf
         return Ok(());
     }
     text.push_str("No name    ")?;
-    push_counted(text, tally.with_data as u64, " whole files with data, ")?;
-    push_counted(text, tally.empty as u64, " empty: extract --unnamed lost\n")
+    push_with_data(text, tally.with_data as u64)?;
+    push_counted(text, tally.empty as u64, " empty: extract --lost lost\n")
 }
 
 /// How many blocks are worth reading again, if any are.

@@ -2,7 +2,7 @@
 --     Called                              how the page is called, and where it is written
 --     page_command words called rules last   the command that makes such a page
 --     next_html words called rules table last report     what to do next
-use Rattle.std.specs.Prelude.{ℕ, ◌==◌, Bool, List, [], ◌∷◌, ◌++◌, Option, Some, None, codes, if◌then◌else◌}
+use Rattle.std.specs.Prelude.{ℕ, ◌==◌, Bool, List, [], ◌∷◌, ◌++◌, Option, Some, None, codes, cond, if◌then◌else◌}
 use Rattle.udfs_lattice.specs.Tables.{Table, state_of}
 use Rattle.udfs_volume.specs.Answers.{Answer, found, holes, faulty}
 use Rattle.udfs_volume.specs.declared.profiles.Profile.{Profile}
@@ -10,6 +10,7 @@ use Rattle.udfs_volume.specs.declared.profiles.Profile.TheVariants as profile
 use Rattle.udfs_salvage.specs.Found.{Found}
 use Rattle.udfs_salvage.specs.Reports.{Report}
 use Rattle.udfs_overview.specs.DiscTallies.{disc_of}
+use Rattle.udfs_overview.specs.LeftOut.{wide_writes}
 use Rattle.udfs_overview.specs.NextCommands.{cleaned, extract_command, inputs_end, joined, needed_steps}
 use Rattle.udfs_overview.specs.Repeating.{GivenWords, disc_words, pass_number, shell_path, shell_word}
 use Rattle.udfs_overview.specs.Summaries.{is_all_whole}
@@ -93,7 +94,16 @@ files_steps g (found f) rules last = extract_html g rules last
 files_steps g (holes blocks) rules last = []
 files_steps g (faulty f) rules last = []
 
+-- the page by the wide rules, where these write files that the strict ones leave out
+unfoldable pub left_out_html : GivenWords → CalledWords → ℕ → List ℕ
+left_out_html g called last =
+    markup (codes "<p>The wide rules write files that are left out here. Make the page by them:</p>\n") ++ commands_html (page_command g called profile.Wide last)
+
+-- what to read again, if anything, and the command that writes the files
+unfoldable pub steps_html : GivenWords → CalledWords → Profile → Table → ℕ → Report → List ℕ
+steps_html g called rules table last r = again_html g called rules table last r r.reread ++ files_steps g r.volume rules last
+
 -- what to do next
 unfoldable pub next_html : GivenWords → CalledWords → Profile → Table → ℕ → Report → List ℕ
 next_html g called rules table last r =
-    markup (codes "<h2>What to do next</h2>\n") ++ again_html g called rules table last r r.reread ++ files_steps g r.volume rules last
+    markup (codes "<h2>What to do next</h2>\n") ++ cond (wide_writes r.nodes) (left_out_html g called last) (steps_html g called rules table last r)

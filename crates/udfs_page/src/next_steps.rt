@@ -11,7 +11,7 @@ ghost use Rattle.udfs_overview.specs.Widenings.{widening_text};
 ghost use Rattle.udfs_page.specs.Escapes.{html_text};
 ghost use Rattle.udfs_page.specs.Markups.{markup};
 ghost use Rattle.udfs_page.specs.Naming.{called_now};
-ghost use Rattle.udfs_page.specs.NextSteps.{again_html, commands_html, extract_html, fault_html, files_steps, needed_html, needed_words, next_html, no_need_html, page_command, page_end, page_front, renewed, title_words, whole_words, wide_html};
+ghost use Rattle.udfs_page.specs.NextSteps.{again_html, commands_html, extract_html, fault_html, files_steps, left_out_html, needed_html, needed_words, next_html, no_need_html, page_command, page_end, page_front, renewed, steps_html, title_words, whole_words, wide_html};
 
 use crate::escapes::push_html;
 use crate::markups::push_markup;
@@ -21,7 +21,7 @@ use udfs_osta::OutOfMemory;
 use udfs_overview::{
     DiscTally, Given, Margins, Pass, Widening, cleaned, count_disc, is_all_whole, pass_number,
     push_disc_words, push_extract, push_inputs_end, push_needed_steps, push_shell_path,
-    push_shell_word, push_widening, table_path, widening_by,
+    push_shell_word, push_widening, table_path, wide_writes, widening_by,
 };
 use udfs_salvage::{Survey, Volume};
 use udfs_volume::Profile;
@@ -366,6 +366,41 @@ fn push_files_steps(
     }
 }
 
+/// The page by the wide rules, where these write files that the strict ones leave out.
+#[tactic(auto, unfolding(crate::specs::NextSteps::left_out_html))]
+fn push_left_out(
+    alloc: Global,
+    text: &mut String,
+    given: &Given<'_>,
+    called: &Called<'_>,
+    last: u32,
+) -> Result<(), OutOfMemory>
+    ensures { OnOk result (string_bytes text.new ≡ string_bytes text.old ++ left_out_html (given_now given.now) (called_now called.now) last) }
+{
+    push_markup(
+        text,
+        "<p>The wide rules write files that are left out here. Make the page by them:</p>\n",
+    )?;
+    push_page_box(alloc, text, given, called, Profile::Wide, last)
+}
+
+/// What to read again, if anything, and the command that writes the files.
+#[tactic(auto, unfolding(crate::specs::NextSteps::steps_html))]
+fn push_steps(
+    alloc: Global,
+    text: &mut String,
+    given: &Given<'_>,
+    called: &Called<'_>,
+    survey: &Survey<'_>,
+) -> Result<(), OutOfMemory>
+    ensures { OnOk result (string_bytes text.new ≡ string_bytes text.old
+        ++ steps_html (given_now given.now) (called_now called.now) survey.now.profile survey.now.table.now survey.now.last (survey_now survey.now)) }
+{
+    let disc = count_disc(survey);
+    push_again(alloc, text, given, called, survey, &disc)?;
+    push_files_steps(alloc, text, given, survey)
+}
+
 /// What to do next, of a page that is called so.
 #[tactic(auto, unfolding(crate::specs::NextSteps::next_html))]
 pub(crate) fn push_next(
@@ -378,8 +413,10 @@ pub(crate) fn push_next(
     ensures { OnOk result (string_bytes text.new ≡ string_bytes text.old
         ++ next_html (given_now given.now) (called_now called.now) survey.now.profile survey.now.table.now survey.now.last (survey_now survey.now)) }
 {
-    let disc = count_disc(survey);
     push_markup(text, "<h2>What to do next</h2>\n")?;
-    push_again(alloc, text, given, called, survey, &disc)?;
-    push_files_steps(alloc, text, given, survey)
+    if wide_writes(alloc, survey)? {
+        push_left_out(alloc, text, given, called, survey.last)
+    } else {
+        push_steps(alloc, text, given, called, survey)
+    }
 }

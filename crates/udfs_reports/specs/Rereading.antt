@@ -74,7 +74,9 @@ runs_in (n ∷ ns) = 1 + breaks n ns
 
 -- `B blocks in R runs`
 abbrev pub wanted_words : List ℕ → List ℕ
-wanted_words wanted = decimal (length wanted) ++ codes " blocks in " ++ decimal (runs_in wanted) ++ codes " runs"
+wanted_words wanted =
+    decimal (length wanted) ++ (if length wanted == 1 then codes " block in " else codes " blocks in ")
+    ++ decimal (runs_in wanted) ++ (if runs_in wanted == 1 then codes " run" else codes " runs")
 
 -- `, and W known ones to compare`, where there are some
 abbrev pub known_words : ℕ → List ℕ

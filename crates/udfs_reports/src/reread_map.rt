@@ -76,7 +76,10 @@ fn wanted_text(alloc: Global, wanted: &[u32]) -> Result<String, AllocError>
     let mut text = String::new(alloc);
     let count = wanted.len();
     let runs = count_runs(wanted);
-    write!(text, "{count} blocks in {runs} runs")?;
+    write!(text, "{count}")?;
+    text.push_str(if count == 1 { " block in " } else { " blocks in " })?;
+    write!(text, "{runs}")?;
+    text.push_str(if runs == 1 { " run" } else { " runs" })?;
     Ok(text)
 }
 

@@ -157,7 +157,7 @@ file round.map text 0 + 1\n0x00000000 0x00010000 ?\n0x00010000 0x00000800 +\n0x0
 
 $ reread --last 600 --mapfile want.map disc.tab
 status 1
-out 1 blocks in 1 runs, and 6 known ones to compare\n
+out 1 block in 1 run, and 6 known ones to compare\n
 
 $ merge --out t.tab disc.tab --ddrescue wrong.img round.map
 refused udfsalvage: input 2: disagrees in 6 of 6 blocks\n

@@ -62,7 +62,7 @@ write 48 240 \0\x02
 but 278
 $ reread --last 600 --profile wide --mapfile want.map disc.tab
 status 1
-out 1 blocks in 1 runs, and 6 known ones to compare\n
+out 1 block in 1 run, and 6 known ones to compare\n
 
 write 32 240 \0\x02
 write 48 240 \0\x02
@@ -194,10 +194,10 @@ $ extract --last 600 --to out --unnamed lost disc.tab
 out written unnamed 4\n
 
 $ summary --last 600 --profile wide disc.tab
-out-has \nNo name    2 whole files with data, 0 empty: extract --unnamed lost\n
+out-has \nNo name    2 whole files with data, 0 empty: extract --lost lost\n
 
 $ summary --last 600 disc.tab
-out-has \nNo name    1 whole files with data, 0 empty: extract --unnamed lost\n
+out-has \nNo name    1 whole file with data, 0 empty: extract --lost lost\n
 
 = a_file_of_no_type_is_one_by_the_wide_rules
 # Old writers left the type 0, which says nothing.
@@ -277,7 +277,7 @@ remarked /A: of type 249, which is not written\n1 file of a type that is not wri
 files 2
 
 $ summary --last 600 disc.tab
-out TEST   UDF 1.50, type 1   601 blocks, 1.2 MB\n1 file is complete,\n1 of a type that is not written\nFiles      1 whole (2 B)\nFolders    1 whole\nOther      1 file of a type that is not written (249, real-time): --profile wide writes it\nGuarantee  holds: nothing on this disc contradicts the standard\nDisc       601 known   0 not known   0 in conflict\nNext       No block is worth reading again. Write out what is whole:\n           udfsalvage extract --last 600 --to files disc.tab\n
+out TEST   UDF 1.50, type 1   601 blocks, 1.2 MB\n1 file is complete,\n1 of a type that is not written\nFiles      1 whole (2 B)\nFolders    1 whole\nOther      1 file of a type that is not written (249, real-time): --profile wide writes it\nGuarantee  holds: nothing on this disc contradicts the standard\nDisc       601 known   0 not known   0 in conflict\nNext       The wide rules write files that are left out here. See by them:\n           udfsalvage summary --last 600 --profile wide disc.tab\n
 
 = what_is_said_of_files_of_other_types
 # Torn ones too, several, and none that is empty.

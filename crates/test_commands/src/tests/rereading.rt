@@ -68,7 +68,7 @@ file note text # Mapfile. Created by udfsalvage 0.1.0\n# Blocks to read again, f
 # logical volume descriptor at 32, the file set at 272 and the root's entry at 273. An old mapfile is written over, and nothing else.
 at 32 33 34 256 272 273 274 275 276 277 279
 then status 1
-then out 1 blocks in 1 runs, and 4 known ones to compare\n
+then out 1 block in 1 run, and 4 known ones to compare\n
 then error
 then has want.map text # Mapfile. Created by udfsalvage 0.1.0\n# Blocks to read again, for ddrescue -m: not the mapfile of a pass\n0x00000000     +               1\n0x00000000  0x00010000  ?\n0x00010000  0x00000800  +\n0x00010800  0x0006F800  ?\n0x00080000  0x00000800  +\n0x00080800  0x00007800  ?\n0x00088000  0x00001000  +\n0x00089000  0x00002000  ?\n0x0008B000  0x00000800  +\n0x0008B800  0x000A1000  ?\n
 then survives want.map text # Mapfile. Created by udfsalvage 0.1.0\n# Blocks to read again, for ddrescue -m: not the mapfile of a pass\n0x00000000     +               1\n0x00000000  0x00010000  ?\n0x00010000  0x00000800  +\n0x00010800  0x0006F800  ?\n0x00080000  0x00000800  +\n0x00080800  0x00007800  ?\n0x00088000  0x00001000  +\n0x00089000  0x00002000  ?\n0x0008B000  0x00000800  +\n0x0008B800  0x000A1000  ?\n
@@ -76,7 +76,7 @@ then survives want.map text # Mapfile. Created by udfsalvage 0.1.0\n# Blocks to 
 $ reread --last 600 --mapfile want.map disc.tab
 
 $ reread --last 600 --mapfile want.map disc.tab
-done 1 1 blocks in 1 runs, and 4 known ones to compare\n
+done 1 1 block in 1 run, and 4 known ones to compare\n
 $ reread --size 1230848 disc.tab --domain=want.map
 
 = the_counts_of_a_mapfile
@@ -122,13 +122,13 @@ has m text # Mapfile. Created by udfsalvage 0.1.0\n# Blocks to read again, for d
 but 278
 $ reread --last 600 --mapfile m disc.tab
 status 1
-out 1 blocks in 1 runs, and 6 known ones to compare\n
+out 1 block in 1 run, and 6 known ones to compare\n
 has m text # Mapfile. Created by udfsalvage 0.1.0\n# Blocks to read again, for ddrescue -m: not the mapfile of a pass\n0x00000000     +               1\n0x00000000  0x00010000  ?\n0x00010000  0x00000800  +\n0x00010800  0x0006F800  ?\n0x00080000  0x00000800  +\n0x00080800  0x00007800  ?\n0x00088000  0x00001000  +\n0x00089000  0x00002000  ?\n0x0008B000  0x00000800  +\n0x0008B800  0x00020800  ?\n0x000AC000  0x00000800  +\n0x000AC800  0x0007F800  ?\n0x0012C000  0x00000800  +\n
 
 but 278
 $ reread --last 600 --no-witnesses --mapfile m disc.tab
 status 1
-out 1 blocks in 1 runs\n
+out 1 block in 1 run\n
 has m text # Mapfile. Created by udfsalvage 0.1.0\n# Blocks to read again, for ddrescue -m: not the mapfile of a pass\n0x00000000     +               1\n0x00000000  0x0008B000  ?\n0x0008B000  0x00000800  +\n0x0008B800  0x000A1000  ?\n
 
 = known_blocks_from_all_over_the_disc
@@ -238,29 +238,29 @@ then error
 
 but 278 285
 $ reread --last 600 --group 16 --no-witnesses --mapfile m disc.tab
-out 1 blocks in 1 runs, 8 in the map\n
+out 1 block in 1 run, 8 in the map\n
 has m text # Mapfile. Created by udfsalvage 0.1.0\n# Blocks to read again, for ddrescue -m: not the mapfile of a pass\n0x00000000     +               1\n0x00000000  0x0008B000  ?\n0x0008B000  0x00004000  +\n0x0008F000  0x0009D800  ?\n
 
 but 278 285
 $ reread --last 600 --mapfile m --group=32 --no-witnesses disc.tab
-out 1 blocks in 1 runs, 8 in the map\n
+out 1 block in 1 run, 8 in the map\n
 
 but 278 285
 $ reread --last 600 --group 8 --no-witnesses --mapfile m disc.tab
-out 1 blocks in 1 runs, 1 in the map\n
+out 1 block in 1 run, 1 in the map\n
 
 but 278 285
 $ reread --last 600 --no-witnesses --mapfile m disc.tab
-out 1 blocks in 1 runs\n
+out 1 block in 1 run\n
 
 at 32 33 34 256 272 273 274 275 276 277 279
 $ reread --last 600 --group 16 --no-witnesses --mapfile m disc.tab
-out 1 blocks in 1 runs, 10 in the map\n
+out 1 block in 1 run, 10 in the map\n
 has m text # Mapfile. Created by udfsalvage 0.1.0\n# Blocks to read again, for ddrescue -m: not the mapfile of a pass\n0x00000000     +               1\n0x00000000  0x0008B000  ?\n0x0008B000  0x00005000  +\n0x00090000  0x0009C800  ?\n
 
 at 32 33 34 256 272 273 274 275 276 277 279
 $ reread --last 600 --group 4 --no-witnesses --mapfile m disc.tab
-out 1 blocks in 1 runs, 1 in the map\n
+out 1 block in 1 run, 1 in the map\n
 
 = the_last_group_ends_with_the_disc
 # Of an unread disc the anchors are wanted, with 256 to 271, 336 to 351, and 592 to 600, the last block.
@@ -278,7 +278,7 @@ has m text # Mapfile. Created by udfsalvage 0.1.0\n# Blocks to read again, for d
 but 271 278
 $ reread --last 600 --group 32 --mapfile m disc.tab
 status 1
-out 1 blocks in 1 runs, and 6 known ones to compare, 12 in the map\n
+out 1 block in 1 run, and 6 known ones to compare, 12 in the map\n
 
 but 271
 $ reread --last 600 --group 32 --mapfile m disc.tab

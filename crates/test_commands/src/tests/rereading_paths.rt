@@ -168,7 +168,7 @@ then error
 
 $ reread --last 600 --only /D --no-witnesses --mapfile m disc.tab
 status 1
-out 1 blocks in 1 runs\n
+out 1 block in 1 run\n
 has m text # Mapfile. Created by udfsalvage 0.1.0\n# Blocks to read again, for ddrescue -m: not the mapfile of a pass\n0x00000000     +               1\n0x00000000  0x0008B000  ?\n0x0008B000  0x00000800  +\n0x0008B800  0x000A1000  ?\n
 
 $ reread --last 600 --only /D --only /DX --no-witnesses --mapfile m disc.tab
@@ -177,12 +177,12 @@ out 2 blocks in 2 runs\n
 
 $ reread --last 600 --only /D --group 16 --no-witnesses --mapfile m disc.tab
 status 1
-out 1 blocks in 1 runs, 3 in the map\n
+out 1 block in 1 run, 3 in the map\n
 has m text # Mapfile. Created by udfsalvage 0.1.0\n# Blocks to read again, for ddrescue -m: not the mapfile of a pass\n0x00000000     +               1\n0x00000000  0x0008A000  ?\n0x0008A000  0x00001800  +\n0x0008B800  0x000A1000  ?\n
 
 $ reread --last 600 --only /D --group 16 --mapfile m disc.tab
 status 1
-out 1 blocks in 1 runs, and 6 known ones to compare, 9 in the map\n
+out 1 block in 1 run, and 6 known ones to compare, 9 in the map\n
 
 $ reread --last 600 --only /E --group 16 --mapfile m disc.tab
 status 0

@@ -87,7 +87,7 @@ done 1 «HEAD»1 file is complete, 1 could not be looked at;\nat least 1 block i
 
 but 274
 $ summary --last 600 disc.tab
-done 1 «HEAD»No file is complete,\n1 folder may lack names;\nat least 1 block is worth reading again\nFiles      0 whole (0 B)\nFolders    0 whole   1 torn\n           names may be missing in /\nNo name    2 whole files with data, 0 empty: extract --unnamed lost\nGuarantee  nothing seen contradicts the standard;\n           1 block that could is not known\nDisc       600 known   1 not known   0 in conflict\n           1 of these is needed, in 1 place\n«P600»
+done 1 «HEAD»No file is complete,\n1 folder may lack names;\nat least 1 block is worth reading again\nFiles      0 whole (0 B)\nFolders    0 whole   1 torn\n           names may be missing in /\nNo name    2 whole files with data, 0 empty: extract --lost lost\nGuarantee  nothing seen contradicts the standard;\n           1 block that could is not known\nDisc       600 known   1 not known   0 in conflict\n           1 of these is needed, in 1 place\n«P600»
 
 but 272
 $ summary --last 600 disc.tab
@@ -307,7 +307,7 @@ write 292 176 \xb8\x0b\0\0\x08
 
 but 278 281
 $ summary --last 600 disc.tab
-out TEST   UDF 1.50, type 1   601 blocks, 1.2 MB\nNo file is complete, 4 damaged;\n2 blocks are worth reading again\nFiles      0 whole (0 B)\n           4 torn (7.1 kB of 18.0 kB lost)\nFolders    1 whole\nNo name    1 whole files with data, 0 empty: extract --unnamed lost\nGuarantee  holds: nothing on this disc contradicts the standard\nDisc       599 known   2 not known   0 in conflict\n           2 of these are needed, in 2 places\nTorn       41.0 %  /a      2.0 kB of 5.0 kB lost\n           41.0 %  /b      2.0 kB of 5.0 kB lost\n           41.0 %  /日本   2.0 kB of 5.0 kB lost\n           31.7 %  /c       952 B of 3.0 kB lost\nNext       udfsalvage reread --last 600 --mapfile want.map disc.tab\n           ddrescue -d -r3 -b2048 -m want.map /dev/sr0 p599.img p599.map\n           udfsalvage merge --out disc.tab disc.tab --ddrescue p599.img p599.map\n
+out TEST   UDF 1.50, type 1   601 blocks, 1.2 MB\nNo file is complete, 4 damaged;\n2 blocks are worth reading again\nFiles      0 whole (0 B)\n           4 torn (7.1 kB of 18.0 kB lost)\nFolders    1 whole\nNo name    1 whole file with data, 0 empty: extract --lost lost\nGuarantee  holds: nothing on this disc contradicts the standard\nDisc       599 known   2 not known   0 in conflict\n           2 of these are needed, in 2 places\nTorn       41.0 %  /a      2.0 kB of 5.0 kB lost\n           41.0 %  /b      2.0 kB of 5.0 kB lost\n           41.0 %  /日本   2.0 kB of 5.0 kB lost\n           31.7 %  /c       952 B of 3.0 kB lost\nNext       udfsalvage reread --last 600 --mapfile want.map disc.tab\n           ddrescue -d -r3 -b2048 -m want.map /dev/sr0 p599.img p599.map\n           udfsalvage merge --out disc.tab disc.tab --ddrescue p599.img p599.map\n
 
 = no_more_than_twenty_torn_files
 directory 1 v=3 u=3 t=3 s=3 r=3 q=3 p=3 o=3 n=3 m=3 l=3 k=3 j=3 i=3 h=3 g=3 f=3 e=3 d=3 c=3 b=3 a=3

@@ -62,7 +62,7 @@ fn lines(rt: HostRuntime) -> Result<(), Fail> {
     assert_same(
         &rt,
         text.as_str(),
-        "Files      287 whole (888.8 kB)\n           15 torn (at least 149.7 kB of 1.7 MB lost)\n           30 not yet known: files or whole folders\nOther      7 links and devices\nFaults     2 with faults\nNo name    75 whole files with data, 159 empty: extract --unnamed lost\nDisc       4,639 known   481 not known   0 in conflict\n           108 of these are needed, in 43 places\n",
+        "Files      287 whole (888.8 kB)\n           15 torn (at least 149.7 kB of 1.7 MB lost)\n           30 not yet known: files or whole folders\nOther      7 links and devices\nFaults     2 with faults\nNo name    75 whole files with data, 159 empty: extract --lost lost\nDisc       4,639 known   481 not known   0 in conflict\n           108 of these are needed, in 43 places\n",
     );
     Ok(())
 }
