@@ -24,9 +24,9 @@ pass_words n = image_name n ++ codes " " ++ mapfile_name n
 unfoldable pub inputs_end : GivenWords → List ℕ
 inputs_end g = inputs_words g ++ codes "\n"
 
--- the blocks that are worth reading again, in a domain mapfile
+-- the blocks that are worth reading again, in a domain mapfile that asks for whole groups of 16: a DVD drive reads these as one
 unfoldable pub reread_command : GivenWords → Profile → ℕ → List ℕ
-reread_command g rules last = codes "udfsalvage reread" ++ disc_words g rules last ++ codes " --mapfile want.map" ++ inputs_end g
+reread_command g rules last = codes "udfsalvage reread" ++ disc_words g rules last ++ codes " --group 16 --mapfile want.map" ++ inputs_end g
 
 -- a pass over them
 unfoldable pub ddrescue_command : ℕ → List ℕ

@@ -75,7 +75,7 @@ pub fn push_inputs_end(text: &mut String, given: &Given<'_>) -> Result<(), OutOf
     text.push_str("\n")
 }
 
-/// The command that puts the blocks that are worth reading again into a domain mapfile.
+/// The command that puts the blocks that are worth reading again into a domain mapfile, by whole groups of 16, which a DVD drive reads as one.
 #[tactic(auto, unfolding(crate::specs::NextCommands::reread_command))]
 fn push_reread(
     text: &mut String,
@@ -87,7 +87,7 @@ fn push_reread(
 {
     text.push_str("udfsalvage reread")?;
     push_disc_words(text, given, profile, last)?;
-    text.push_str(" --mapfile want.map")?;
+    text.push_str(" --group 16 --mapfile want.map")?;
     push_inputs_end(text, given)
 }
 

@@ -32,7 +32,7 @@ out-lines 1 «ONE»
 
 but 274
 $ summary --last 600 disc.tab
-out TEST   UDF 1.50, type 1   601 blocks, 1.2 MB\nNo file is complete,\n1 folder may lack names;\nat least 1 block is worth reading again\nFiles      0 whole (0 B)\nFolders    0 whole   1 torn\n           names may be missing in /\nNo name    2 whole files with data, 0 empty: extract --lost lost\n«ONE»\nGuarantee  nothing seen contradicts the standard;\n           1 block that could is not known\nDisc       600 known   1 not known   0 in conflict\n           1 of these is needed, in 1 place\nNext       udfsalvage reread --last 600 --mapfile want.map disc.tab\n           ddrescue -d -r3 -b2048 -m want.map /dev/sr0 p600.img p600.map\n           udfsalvage merge --out disc.tab disc.tab --ddrescue p600.img p600.map\n
+out TEST   UDF 1.50, type 1   601 blocks, 1.2 MB\nNo file is complete,\n1 folder may lack names;\nat least 1 block is worth reading again\nFiles      0 whole (0 B)\nFolders    0 whole   1 torn\n           names may be missing in /\nNo name    2 whole files with data, 0 empty: extract --lost lost\n«ONE»\nGuarantee  nothing seen contradicts the standard;\n           1 block that could is not known\nDisc       600 known   1 not known   0 in conflict\n           1 of these is needed, in 1 place\nNext       udfsalvage reread --last 600 --group 16 --mapfile want.map disc.tab\n           ddrescue -d -r3 -b2048 -m want.map /dev/sr0 p600.img p600.map\n           udfsalvage merge --out disc.tab disc.tab --ddrescue p600.img p600.map\n
 
 but 275
 $ summary --last 600 disc.tab

@@ -18,7 +18,7 @@ then file-has p.html <div>1 file is complete, 1 damaged;</div>\n<div>1 block is 
 then file-has p.html <div>Guarantee  holds: nothing on this disc contradicts the standard</div>\n<div>Disc       600 known   1 not known   0 in conflict</div>\n<div>           1 of these is needed, in 1 place</div>\n
 then file-has p.html <title>blocks 278 to 278: needed</title></path>
 then file-has p.html <title>blocks 277 to 277: known</title></path>\n
-then file-has p.html --mapfile want.map disc.tab\nddrescue -d -r3 -b2048 -m want.map /dev/sr0 p600.img p600.map\nudfsalvage merge --out disc.tab disc.tab --ddrescue p600.img p600.map\n</pre>\n
+then file-has p.html --group 16 --mapfile want.map disc.tab\nddrescue -d -r3 -b2048 -m want.map /dev/sr0 p600.img p600.map\nudfsalvage merge --out disc.tab disc.tab --ddrescue p600.img p600.map\n</pre>\n
 then file-has p.html <tr><td><bdi>/A</bdi><td>41.0 %<td>2.0 kB<td>5.0 kB\n
 then file-has p.html <details open class=w><summary><bdi>/</bdi><small>folder</small></summary>\n<div class=t><bdi>A</bdi><small>5.0 kB, torn: 2.0 kB lost, bytes 2048&ndash;4095</small></div>\n
 then file-has p.html «END»
@@ -56,7 +56,7 @@ $ page --last 600 --out p.html disc.tab
 status 1
 file-has p.html <title>a disc that does not open</title>
 file-has p.html <div>does not open: block 272 is needed</div>\n<div>Guarantee  nothing seen contradicts the standard;</div>\n<div>           1 block that could is not known</div>\n
-file-has p.html --mapfile want.map disc.tab\n
+file-has p.html --group 16 --mapfile want.map disc.tab\n
 file-lacks p.html udfsalvage extract
 file-lacks p.html <h2>All files</h2>
 
@@ -79,7 +79,7 @@ also 277 07
 $ page --last 600 --profile wide --out p.html disc.tab
 status 1
 file-has p.html 600 known   0 not known   1 in conflict</div>\n<div>           1 of these is needed, in 1 place</div>\n
-file-has p.html <pre>udfsalvage forget --conflicts --out clean.tab disc.tab\nudfsalvage reread --last 600 --profile wide --mapfile want.map clean.tab\nddrescue -d -r3 -b2048 -m want.map /dev/sr0 p600.img p600.map\nudfsalvage merge --out clean.tab clean.tab --ddrescue p600.img p600.map\n</pre>\n
+file-has p.html <pre>udfsalvage forget --conflicts --out clean.tab disc.tab\nudfsalvage reread --last 600 --profile wide --group 16 --mapfile want.map clean.tab\nddrescue -d -r3 -b2048 -m want.map /dev/sr0 p600.img p600.map\nudfsalvage merge --out clean.tab clean.tab --ddrescue p600.img p600.map\n</pre>\n
 file-has p.html <pre>udfsalvage page --last 600 --profile wide --out p.html clean.tab\n</pre>\n
 file-has p.html <pre>udfsalvage extract --last 600 --profile wide --to files disc.tab\n</pre>\n
 ";

@@ -13,11 +13,11 @@ done 0 TEST   UDF 1.50, type 1   601 blocks, 1.2 MB\n2 files are complete\nFiles
 
 but 277 279
 $ summary --size 1230848 disc.tab
-done 1 TEST   UDF 1.50, type 1   601 blocks, 1.2 MB\n1 file is complete, 1 damaged;\n2 blocks are worth reading again\nFiles      1 whole (2 B)\n           1 torn (3.0 kB of 5.0 kB lost)\nFolders    1 whole\nGuarantee  holds: nothing on this disc contradicts the standard\nDisc       599 known   2 not known   0 in conflict\n           2 of these are needed, in 2 places\nTorn       59.0 %  /A   3.0 kB of 5.0 kB lost\nNext       udfsalvage reread --size 1230848 --mapfile want.map disc.tab\n           ddrescue -d -r3 -b2048 -m want.map /dev/sr0 p599.img p599.map\n           udfsalvage merge --out disc.tab disc.tab --ddrescue p599.img p599.map\n
+done 1 TEST   UDF 1.50, type 1   601 blocks, 1.2 MB\n1 file is complete, 1 damaged;\n2 blocks are worth reading again\nFiles      1 whole (2 B)\n           1 torn (3.0 kB of 5.0 kB lost)\nFolders    1 whole\nGuarantee  holds: nothing on this disc contradicts the standard\nDisc       599 known   2 not known   0 in conflict\n           2 of these are needed, in 2 places\nTorn       59.0 %  /A   3.0 kB of 5.0 kB lost\nNext       udfsalvage reread --size 1230848 --group 16 --mapfile want.map disc.tab\n           ddrescue -d -r3 -b2048 -m want.map /dev/sr0 p599.img p599.map\n           udfsalvage merge --out disc.tab disc.tab --ddrescue p599.img p599.map\n
 
 but 256 344 600
 $ summary --last 600 disc.tab
-done 1 does not open: blocks 256, 344 and 600 are needed\nGuarantee  nothing seen contradicts the standard;\n           3 blocks that could are not known\nDisc       598 known   3 not known   0 in conflict\n           3 of these are needed, in 3 places\nNext       udfsalvage reread --last 600 --mapfile want.map disc.tab\n           ddrescue -d -r3 -b2048 -m want.map /dev/sr0 p598.img p598.map\n           udfsalvage merge --out disc.tab disc.tab --ddrescue p598.img p598.map\n
+done 1 does not open: blocks 256, 344 and 600 are needed\nGuarantee  nothing seen contradicts the standard;\n           3 blocks that could are not known\nDisc       598 known   3 not known   0 in conflict\n           3 of these are needed, in 3 places\nNext       udfsalvage reread --last 600 --group 16 --mapfile want.map disc.tab\n           ddrescue -d -r3 -b2048 -m want.map /dev/sr0 p598.img p598.map\n           udfsalvage merge --out disc.tab disc.tab --ddrescue p598.img p598.map\n
 
 = what_to_do_next
 # A block in conflict that is needed has to be forgotten first; the rules are kept in what is suggested; and a volume that the strict rules refuse for its revision is read by the wide ones.
@@ -27,13 +27,13 @@ then error
 but 279
 also 277 07
 $ summary --last 600 disc.tab
-out-ends Disc       599 known   1 not known   1 in conflict\n           2 of these are needed, in 2 places\nTorn       59.0 %  /A   3.0 kB of 5.0 kB lost\nNext       udfsalvage forget --conflicts --out clean.tab disc.tab\n           udfsalvage reread --last 600 --mapfile want.map clean.tab\n           ddrescue -d -r3 -b2048 -m want.map /dev/sr0 p599.img p599.map\n           udfsalvage merge --out clean.tab clean.tab --ddrescue p599.img p599.map\n
+out-ends Disc       599 known   1 not known   1 in conflict\n           2 of these are needed, in 2 places\nTorn       59.0 %  /A   3.0 kB of 5.0 kB lost\nNext       udfsalvage forget --conflicts --out clean.tab disc.tab\n           udfsalvage reread --last 600 --group 16 --mapfile want.map clean.tab\n           ddrescue -d -r3 -b2048 -m want.map /dev/sr0 p599.img p599.map\n           udfsalvage merge --out clean.tab clean.tab --ddrescue p599.img p599.map\n
 
 write 32 240 \0\x02
 write 48 240 \0\x02
 but 277
 $ summary --last 600 --profile wide disc.tab
-out-ends Next       udfsalvage reread --last 600 --profile wide --mapfile want.map disc.tab\n           ddrescue -d -r3 -b2048 -m want.map /dev/sr0 p600.img p600.map\n           udfsalvage merge --out disc.tab disc.tab --ddrescue p600.img p600.map\n
+out-ends Next       udfsalvage reread --last 600 --profile wide --group 16 --mapfile want.map disc.tab\n           ddrescue -d -r3 -b2048 -m want.map /dev/sr0 p600.img p600.map\n           udfsalvage merge --out disc.tab disc.tab --ddrescue p600.img p600.map\n
 
 write 32 240 \0\x02
 write 48 240 \0\x02
@@ -69,7 +69,7 @@ static OF_SAMPLE_VOLUMES: &str = r#"
 # A block of a file, which holds 2,048 of its 5,000 bytes, and two of its blocks; the entry of a file; the root's body, without which no name leads to the
 # files; and the file set.
 let HEAD TEST   UDF 1.50, type 1   601 blocks, 1.2 MB\n
-let NEXT Next       udfsalvage reread --last 600 --mapfile want.map disc.tab\n           ddrescue -d -r3 -b2048 -m want.map /dev/sr0
+let NEXT Next       udfsalvage reread --last 600 --group 16 --mapfile want.map disc.tab\n           ddrescue -d -r3 -b2048 -m want.map /dev/sr0
 let P600 «NEXT» p600.img p600.map\n           udfsalvage merge --out disc.tab disc.tab --ddrescue p600.img p600.map\n
 let P599 «NEXT» p599.img p599.map\n           udfsalvage merge --out disc.tab disc.tab --ddrescue p599.img p599.map\n
 
@@ -269,7 +269,7 @@ out-has Torn       81.9 %  /A   4.1 kB of 5.0 kB lost\n
 but 278
 then status 2
 then error udfsalvage: cannot write output\n
-then out-front TEST   UDF 1.50, type 1   601 blocks, 1.2 MB\n1 file is complete, 1 damaged;\n1 block is worth reading again\nFiles      1 whole (2 B)\n           1 torn (2.0 kB of 5.0 kB lost)\nFolders    1 whole\nGuarantee  holds: nothing on this disc contradicts the standard\nDisc       600 known   1 not known   0 in conflict\n           1 of these is needed, in 1 place\nTorn       41.0 %  /A   2.0 kB of 5.0 kB lost\nNext       udfsalvage reread --last 600 --mapfile want.map disc.tab\n           ddrescue -d -r3 -b2048 -m want.map /dev/sr0 p600.img p600.map\n           udfsalvage merge --out disc.tab disc.tab --ddrescue p600.img p600.map\n
+then out-front TEST   UDF 1.50, type 1   601 blocks, 1.2 MB\n1 file is complete, 1 damaged;\n1 block is worth reading again\nFiles      1 whole (2 B)\n           1 torn (2.0 kB of 5.0 kB lost)\nFolders    1 whole\nGuarantee  holds: nothing on this disc contradicts the standard\nDisc       600 known   1 not known   0 in conflict\n           1 of these is needed, in 1 place\nTorn       41.0 %  /A   2.0 kB of 5.0 kB lost\nNext       udfsalvage reread --last 600 --group 16 --mapfile want.map disc.tab\n           ddrescue -d -r3 -b2048 -m want.map /dev/sr0 p600.img p600.map\n           udfsalvage merge --out disc.tab disc.tab --ddrescue p600.img p600.map\n
 
 terminal-fails 0
 $ summary --last 600 disc.tab
@@ -307,7 +307,7 @@ write 292 176 \xb8\x0b\0\0\x08
 
 but 278 281
 $ summary --last 600 disc.tab
-out TEST   UDF 1.50, type 1   601 blocks, 1.2 MB\nNo file is complete, 4 damaged;\n2 blocks are worth reading again\nFiles      0 whole (0 B)\n           4 torn (7.1 kB of 18.0 kB lost)\nFolders    1 whole\nNo name    1 whole file with data, 0 empty: extract --lost lost\nGuarantee  holds: nothing on this disc contradicts the standard\nDisc       599 known   2 not known   0 in conflict\n           2 of these are needed, in 2 places\nTorn       41.0 %  /a      2.0 kB of 5.0 kB lost\n           41.0 %  /b      2.0 kB of 5.0 kB lost\n           41.0 %  /日本   2.0 kB of 5.0 kB lost\n           31.7 %  /c       952 B of 3.0 kB lost\nNext       udfsalvage reread --last 600 --mapfile want.map disc.tab\n           ddrescue -d -r3 -b2048 -m want.map /dev/sr0 p599.img p599.map\n           udfsalvage merge --out disc.tab disc.tab --ddrescue p599.img p599.map\n
+out TEST   UDF 1.50, type 1   601 blocks, 1.2 MB\nNo file is complete, 4 damaged;\n2 blocks are worth reading again\nFiles      0 whole (0 B)\n           4 torn (7.1 kB of 18.0 kB lost)\nFolders    1 whole\nNo name    1 whole file with data, 0 empty: extract --lost lost\nGuarantee  holds: nothing on this disc contradicts the standard\nDisc       599 known   2 not known   0 in conflict\n           2 of these are needed, in 2 places\nTorn       41.0 %  /a      2.0 kB of 5.0 kB lost\n           41.0 %  /b      2.0 kB of 5.0 kB lost\n           41.0 %  /日本   2.0 kB of 5.0 kB lost\n           31.7 %  /c       952 B of 3.0 kB lost\nNext       udfsalvage reread --last 600 --group 16 --mapfile want.map disc.tab\n           ddrescue -d -r3 -b2048 -m want.map /dev/sr0 p599.img p599.map\n           udfsalvage merge --out disc.tab disc.tab --ddrescue p599.img p599.map\n
 
 = no_more_than_twenty_torn_files
 directory 1 v=3 u=3 t=3 s=3 r=3 q=3 p=3 o=3 n=3 m=3 l=3 k=3 j=3 i=3 h=3 g=3 f=3 e=3 d=3 c=3 b=3 a=3

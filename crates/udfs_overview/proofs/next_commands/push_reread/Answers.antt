@@ -10,5 +10,5 @@ unfolding reread_command
 returns c =
     let g = given_now c.args.given.now in
     four_appended c.push_inputs_end.result (string_bytes c.args.text.now) (string_bytes c.push_str.new.self) (string_bytes c.push_disc_words.new.text) (string_bytes c.push_str-2.new.self)
-    (string_bytes c.push_inputs_end.new.text) (codes "udfsalvage reread") (disc_words g c.args.profile c.args.last) (codes " --mapfile want.map") (inputs_end g)
+    (string_bytes c.push_inputs_end.new.text) (codes "udfsalvage reread") (disc_words g c.args.profile c.args.last) (codes " --group 16 --mapfile want.map") (inputs_end g)
     c.in_ok-push_str.ensures.bytes c.in_ok-push_disc_words.ensures c.in_ok-push_str-2.ensures.bytes c.push_inputs_end.ensures
