@@ -3,7 +3,7 @@
 use std::alloc::{AllocError, Global};
 use udfs_common::files::Files;
 use udfs_common::shown::Shown;
-use udfs_files::Kind;
+use udfs_files::{Aim, Kind};
 use udfs_overview::push_grouped;
 use udfs_reading::Source;
 
@@ -25,7 +25,7 @@ fn front_of<R: Source>(source: &mut R) -> Option<[u8; HEADER]> {
 
 /// How many records a file says that it has. What is no file is not read again.
 fn count_of<F: Files>(alloc: Global, path: &str, files: &F) -> Result<Option<u32>, AllocError> {
-    match files.resolve(alloc, path)? {
+    match files.resolve(alloc, path, Aim::Reading)? {
         Ok(target) if target.kind == Kind::Regular => {}
         _ => return Ok(None),
     }
@@ -41,7 +41,7 @@ fn count_of<F: Files>(alloc: Global, path: &str, files: &F) -> Result<Option<u32
 
 /// Whether a file has no byte. What is no file is not read again.
 fn is_empty<F: Files>(alloc: Global, path: &str, files: &F) -> Result<bool, AllocError> {
-    match files.resolve(alloc, path)? {
+    match files.resolve(alloc, path, Aim::Reading)? {
         Ok(target) if target.kind == Kind::Regular => {}
         _ => return Ok(false),
     }

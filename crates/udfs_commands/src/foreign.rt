@@ -3,7 +3,7 @@
 use std::alloc::{AllocError, Global};
 use std::fmt;
 use udfs_common::files::Files;
-use udfs_files::Kind;
+use udfs_files::{Aim, Kind};
 use udfs_rescue::Image;
 
 /// The size of a sector of a disc, in bytes.
@@ -104,7 +104,7 @@ pub fn foreign_at<F: Files>(
     path: &str,
     files: &F,
 ) -> Result<Option<Foreign>, AllocError> {
-    match files.resolve(alloc, path)? {
+    match files.resolve(alloc, path, Aim::Reading)? {
         Ok(target) if target.kind == Kind::Regular => {}
         _ => return Ok(None),
     }

@@ -9,7 +9,7 @@ use std::io::{Error, ErrorKind};
 use udfs_common::files::Files;
 use udfs_common::refusal::Refusal;
 use udfs_common::shown::{Said, Shown};
-use udfs_files::Kind;
+use udfs_files::{Aim, Kind};
 use udfs_reading::{ReadingError, ReadingFault};
 use udfs_rescue::MapFault;
 use udfs_words::input_path::InputPath;
@@ -94,7 +94,7 @@ fn of_input<F: Files>(
 
 /// Whether a path leads to nothing, or to a file that can not be opened. What is no file is not opened for this.
 fn is_shut<F: Files>(alloc: Global, path: &str, files: &F) -> Result<bool, AllocError> {
-    match files.resolve(alloc, path)? {
+    match files.resolve(alloc, path, Aim::Reading)? {
         Ok(target) if target.kind == Kind::Other => Ok(false),
         Ok(target) if target.kind == Kind::Regular => Ok(files.open(path).is_err()),
         _ => Ok(true),
@@ -447,7 +447,7 @@ fn of_no_size<F: Files>(
     let Some(LastSource::OfMap(map)) = last_of(request) else {
         return Ok(None);
     };
-    let line = match (files.resolve(alloc, map)?, reason) {
+    let line = match (files.resolve(alloc, map, Aim::Reading)?, reason) {
         (Ok(target), _) if target.kind == Kind::Absent => {
             format!(in alloc; "{} is not there", Shown(map))?
         }

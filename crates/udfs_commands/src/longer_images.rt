@@ -5,7 +5,7 @@ use std::alloc::{AllocError, Global};
 use std::fmt::Write;
 use udfs_common::files::Files;
 use udfs_common::shown::Shown;
-use udfs_files::Kind;
+use udfs_files::{Aim, Kind};
 use udfs_overview::push_size;
 use udfs_rescue::{Image, Mapfile};
 use udfs_words::input_path::InputPath;
@@ -13,7 +13,7 @@ use udfs_words::request::Request;
 
 /// Whether a path leads to a file, and no pipe or device.
 fn is_file<F: Files>(alloc: Global, path: &str, files: &F) -> Result<bool, AllocError> {
-    match files.resolve(alloc, path)? {
+    match files.resolve(alloc, path, Aim::Reading)? {
         Ok(target) => Ok(target.kind == Kind::Regular),
         Err(_) => Ok(false),
     }

@@ -4,7 +4,7 @@ use std::alloc::{AllocError, Global};
 use udfs_common::files::Files;
 use udfs_common::guard::is_among;
 use udfs_common::shown::Shown;
-use udfs_files::Kind;
+use udfs_files::{Aim, Kind};
 use udfs_words::request::{ImageRequest, Inputs, Request};
 
 /// Whether one of these paths leads where this one does.
@@ -14,7 +14,7 @@ fn leads_there<F: Files>(
     out: &str,
     files: &F,
 ) -> Result<bool, AllocError> {
-    let Ok(target) = files.resolve(alloc, out)? else {
+    let Ok(target) = files.resolve(alloc, out, Aim::Reading)? else {
         return Ok(false);
     };
     match is_among(alloc, paths, target.path.as_str(), files)? {
@@ -38,7 +38,7 @@ fn is_input<F: Files>(
 
 /// Whether nothing is at a path.
 fn is_absent<F: Files>(alloc: Global, path: &str, files: &F) -> Result<bool, AllocError> {
-    match files.resolve(alloc, path)? {
+    match files.resolve(alloc, path, Aim::Reading)? {
         Ok(target) => Ok(target.kind == Kind::Absent),
         Err(_) => Ok(false),
     }

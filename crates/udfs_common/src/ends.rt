@@ -14,7 +14,7 @@ use crate::known::Known;
 use crate::refusal::Refusal;
 use crate::sources::AnySource;
 use std::alloc::{AllocError, Global};
-use udfs_files::Kind;
+use udfs_files::{Aim, Kind};
 use udfs_reading::Source;
 use udfs_rescue::{MapError, Mapfile};
 use udfs_words::input_path::InputPath;
@@ -25,7 +25,7 @@ use udfs_words::request::LastSource;
 fn end_of_map<F: Files>(alloc: Global, path: &str, files: &F) -> Result<Option<u64>, AllocError>
     ensures { IfOk result (λ found. IfSome found (λ end. IfSome (F.holds files.now (F.real files.now path.now)) (λ held. IfSome held (EndsMap end)))) }
 {
-    match files.resolve(alloc, path)? {
+    match files.resolve(alloc, path, Aim::Reading)? {
         Ok(target) if target.kind == Kind::Regular => {}
         _ => return Ok(None),
     }

@@ -6,7 +6,7 @@ ghost use Rattle.udfs_common.specs.Guarding.{BeginsOtherwise, IsFree, IsFreeMap,
 
 use crate::files::Files;
 use std::alloc::{AllocError, Global};
-use udfs_files::Kind;
+use udfs_files::{Aim, Kind};
 use udfs_reading::{DeviceFault, Source};
 
 /// The bytes with which a table file begins, in either version.
@@ -102,7 +102,7 @@ fn leads_to<F: Files>(
     ensures no { IfOk result (λ found. IfOk found (λ leads. leads ≡ false → F.tells → F.real files.now path.now ≢ place.now)) }
     ensures fault { IfOk result (λ found. OnErr found (F.shut files.now path.now)) }
 {
-    match files.resolve(alloc, path)? {
+    match files.resolve(alloc, path, Aim::Reading)? {
         Ok(target) => Ok(Ok(target.path.as_str() == place)),
         Err(DeviceFault) => Ok(Err(DeviceFault)),
     }
@@ -160,7 +160,7 @@ pub fn look_at<F: Files>(
     ensures spared { IfOk result (λ found. found ≡ Outlook.Spared → F.tells → IsSpared (F.holds files.now) (F.real files.now) (map (λ path. path.now) inputs.now) (map (λ path. path.now) parts.now) force out.now) }
     ensures unknown { IfOk result (λ found. found ≡ Outlook.Unknown → F.shut files.now out.now ⊎ SomeShut (F.shut files.now) (map (λ path. path.now) parts.now) ⊎ SomeShut (F.shut files.now) (map (λ path. path.now) inputs.now) ⊎ Fails F.Input.faults) }
 {
-    let Ok(target) = files.resolve(alloc, out)? else {
+    let Ok(target) = files.resolve(alloc, out, Aim::Writing)? else {
         return Ok(Outlook::Unknown);
     };
     match is_among(alloc, parts, target.path.as_str(), files)? {
@@ -197,7 +197,7 @@ pub fn look_at_own<F: Files>(
     ensures spared { IfOk result (λ found. found ≡ Outlook.Spared → F.tells → IsSparedOwn kind.now (F.holds files.now) (F.real files.now) (map (λ path. path.now) inputs.now) (map (λ path. path.now) parts.now) out.now) }
     ensures unknown { IfOk result (λ found. found ≡ Outlook.Unknown → MayNotBeSeen (F.shut files.now) (Fails F.Input.faults) (map (λ path. path.now) inputs.now) (map (λ path. path.now) parts.now) out.now) }
 {
-    let Ok(place) = files.resolve(alloc, out)? else {
+    let Ok(place) = files.resolve(alloc, out, Aim::Writing)? else {
         return Ok(Outlook::Unknown);
     };
     match is_among(alloc, inputs, place.path.as_str(), files)? {

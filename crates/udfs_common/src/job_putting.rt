@@ -9,7 +9,7 @@ ghost use Rattle.udfs_common.specs.Refusing.{IsUnput};
 use crate::files::Files;
 use crate::refusal::Refusal;
 use std::alloc::{AllocError, Global};
-use udfs_files::{Job, JobError, Kind, ReplaceError, Stage, fill_by, replace_by_job};
+use udfs_files::{Aim, Job, JobError, Kind, ReplaceError, Stage, fill_by, replace_by_job};
 use udfs_reading::DeviceFault;
 
 /// Puts a file that a job writes at the path, whole or not at all, or has the job write to what is there and is no file.
@@ -45,7 +45,7 @@ pub fn put_job<F: Files, J: Job>(
     ensures why { IfErr result (IsUnput (F.shut files.old out.now ⊎ Fails F.faults ⊎ SinkFails F.Output.stream)) }
 {
     files.begin(Stage::Writing);
-    let target = match files.resolve(alloc, out) {
+    let target = match files.resolve(alloc, out, Aim::Writing) {
         Ok(Ok(target)) => target,
         Ok(Err(DeviceFault)) => return Err(Refusal::Output),
         Err(AllocError) => return Err(Refusal::Memory(AllocError)),

@@ -9,7 +9,7 @@ use crate::files::Files;
 use crate::guard::is_among;
 use crate::refusal::Refusal;
 use std::alloc::{AllocError, Global};
-use udfs_files::{Kind, Target};
+use udfs_files::{Aim, Kind, Target};
 use udfs_reading::DeviceFault;
 
 /// Where an image and its mapfile go, every link followed.
@@ -59,7 +59,7 @@ fn place<F: Files>(alloc: Global, out: &str, force: bool, files: &F) -> Result<T
     ensures cause { IsErrOf result Refusal.Output → F.shut files.now out.now }
     ensures spared { IsErrOf result Refusal.Spared → F.in_place files.now out.now ⊎ (force ≡ false) }
 {
-    let target = match files.resolve(alloc, out) {
+    let target = match files.resolve(alloc, out, Aim::Writing) {
         Ok(Ok(target)) => target,
         Ok(Err(DeviceFault)) => return Err(Refusal::Output),
         Err(AllocError) => return Err(Refusal::Memory(AllocError)),

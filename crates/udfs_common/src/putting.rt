@@ -10,7 +10,7 @@ use crate::files::Files;
 use crate::known::Known;
 use crate::refusal::Refusal;
 use std::alloc::{AllocError, Global};
-use udfs_files::{Content, Kind, ReplaceError, Stage, fill, replace};
+use udfs_files::{Aim, Content, Kind, ReplaceError, Stage, fill, replace};
 use udfs_reading::DeviceFault;
 
 /// Puts a file with this content at the path, whole or not at all, or writes it to what is there and is no file.
@@ -39,7 +39,7 @@ pub fn put_file<F: Files, C: Content>(
     ensures puts { Puts ⟦<F as Known>⟧.reach (λ bytes. bytes ≡ C.bytes content.now) out.now files.old files.new result }
 {
     files.begin(Stage::Writing);
-    let target = match files.resolve(alloc, out) {
+    let target = match files.resolve(alloc, out, Aim::Writing) {
         Ok(Ok(target)) => target,
         Ok(Err(DeviceFault)) => return Err(Refusal::Output),
         Err(AllocError) => return Err(Refusal::Memory(AllocError)),

@@ -12,7 +12,7 @@ use std::alloc::{AllocError, Global};
 use udfs_common::files::Files;
 use udfs_common::placing::{begin_so, is_no_input};
 use udfs_common::refusal::Refusal;
-use udfs_files::Kind;
+use udfs_files::{Aim, Kind};
 use udfs_reading::{DeviceFault, Source};
 use udfs_salvage::choosing::goes_on;
 
@@ -136,7 +136,7 @@ fn is_away<F: Files>(alloc: Global, folder: &str, place: &str, files: &F) -> Res
     ensures near { IsErrOf result Refusal.Spared → F.tells → IsNear (F.real files.now (bare folder.now)) place.now (place.now ++ codes ".unfinished") }
     ensures cause { IsErrOf result Refusal.Folder → F.shut files.now (bare folder.now) }
 {
-    let target = match files.resolve(alloc, bare(folder)) {
+    let target = match files.resolve(alloc, bare(folder), Aim::Writing) {
         Ok(Ok(target)) => target,
         Ok(Err(DeviceFault)) => return Err(Refusal::Folder),
         Err(AllocError) => return Err(Refusal::Memory(AllocError)),
@@ -194,7 +194,7 @@ pub fn find_manifest<F: Files>(
     ensures cause { IsErrOf result Refusal.Output → MayNotBeSeen (F.shut files.now) (Fails F.Input.faults) (map (λ path. path.now) inputs.now) (map (λ path. path.now) parts.now) out.now }
     ensures unmade { IsErrOf result Refusal.Folder → F.shut files.now (bare folder.now) }
 {
-    let target = match files.resolve(alloc, out) {
+    let target = match files.resolve(alloc, out, Aim::Writing) {
         Ok(Ok(target)) => target,
         Ok(Err(DeviceFault)) => return Err(Refusal::Output),
         Err(AllocError) => return Err(Refusal::Memory(AllocError)),

@@ -7,7 +7,7 @@ use std::alloc::{AllocError, Global};
 use udfs_common::files::Files;
 use udfs_common::guard::is_among;
 use udfs_common::refusal::Refusal;
-use udfs_files::Kind;
+use udfs_files::{Aim, Kind};
 use udfs_reading::DeviceFault;
 
 /// Judges where a folder is to be made: nothing may be there, and these other paths may not lead there.
@@ -20,7 +20,7 @@ pub fn find_new_folder<F: Files>(
     ensures free { OnOk result (F.tells → IsNewFolder (F.holds files.now) (F.real files.now) (map (λ path. path.now) others.now) folder.now) }
     ensures told { IfErr result (λ refusal. (refusal ≡ Refusal.LostSpared) ⊎ (refusal ≡ Refusal.Memory alloc_error)) }
 {
-    let target = match files.resolve(alloc, folder) {
+    let target = match files.resolve(alloc, folder, Aim::Writing) {
         Ok(Ok(target)) => target,
         Ok(Err(DeviceFault)) => return Err(Refusal::LostSpared),
         Err(AllocError) => return Err(Refusal::Memory(AllocError)),

@@ -54,6 +54,15 @@ pub struct Target {
     pub kind: Kind,
 }
 
+/// What a path is followed for.
+#[derive(Clone, Copy, Debug, PartialEq, Eq)]
+pub enum Aim {
+    /// What is there is read, or only looked at.
+    Reading,
+    /// A file is to go in the place of what is there.
+    Writing,
+}
+
 /// Opens, makes, moves and removes files by their paths. The machine's are [`Machine`](crate::Machine).
 ///
 /// Unless stated otherwise, a path is the name of a file without links: two paths are two files. What is said of a crash holds for the end of the
@@ -142,8 +151,14 @@ pub trait Files {
     ///
     /// # Errors
     ///
-    /// `AllocError` where memory ran out. `DeviceFault` inside, only of a path that may fail to open: as where it leads into a folder that is not there.
-    fn resolve(&self, alloc: Global, path: &str) -> Result<Result<Target, DeviceFault>, AllocError>
+    /// `AllocError` where memory ran out. `DeviceFault` inside, only of a path that may fail to open: as where it leads into a folder that is not there, or,
+    /// where it is followed for writing, to a regular file that may not be written.
+    fn resolve(
+        &self,
+        alloc: Global,
+        path: &str,
+        aim: Aim,
+    ) -> Result<Result<Target, DeviceFault>, AllocError>
         ensures leads { IfOk result (λ found. IfOk found (λ target. tells → string_bytes target.path ≡ real self.now path.now)) }
         ensures other { IfOk result (λ found. IfOk found (λ target. target.kind ≡ Kind.Other → in_place self.now path.now)) }
         ensures absent { IfOk result (λ found. IfOk found (λ target. target.kind ≡ Kind.Absent → tells → holds self.now (real self.now path.now) ≡ Some None)) }

@@ -14,7 +14,7 @@ mod replacing;
 mod resolving;
 mod watch;
 
-pub use files::{Files, Handle, Kind, Target};
+pub use files::{Aim, Files, Handle, Kind, Target};
 pub(crate) use filling::ContentJob;
 pub use filling::{Content, Job, fill, fill_by};
 pub use machine::Machine;

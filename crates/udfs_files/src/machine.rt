@@ -7,7 +7,7 @@ ghost use Rattle.udfs_files.specs.Told.{AreNamed-prop, IsLedInPlace, kept_by, ke
 ghost use Rattle.udfs_reading.specs.Device.{CountsFault};
 ghost use Rattle.std.specs.Prelude.{◌≡◌, Some, None, Ok, IfOk, IsErr, OnErr, ⊤};
 
-use crate::files::{Files, Target};
+use crate::files::{Aim, Files, Target};
 use crate::folders::{make_folder, sync_names};
 use crate::opened::{MachineImage, MachineInput, MachineStored};
 use crate::output::MachineFile;
@@ -148,8 +148,9 @@ impl<'a, C: Calls, R: std::rt::Files + Env + AllocGlobal, N: Watch> Files for Ma
         &self,
         alloc: Global,
         path: &str,
+        aim: Aim,
     ) -> Result<Result<Target, DeviceFault>, AllocError> {
-        resolve(&self.calls, self.watch, alloc, path)
+        resolve(&self.calls, self.watch, alloc, path, aim)
     }
 
     #[tactic(auto, using(crate::proofs::Logs::kept_same))]

@@ -5,7 +5,7 @@ ghost use Rattle.udfs_calls.specs.Log.{Names, NamesSome};
 ghost use Rattle.udfs_files.specs.Leading.{LeadsTo};
 ghost use Rattle.udfs_files.specs.declared.files.Kind.{Kind};
 
-use crate::files::{Kind, Target};
+use crate::files::{Aim, Kind, Target};
 use crate::places::{is_device, is_part, name_in, split};
 use crate::reaching::link_at;
 use crate::watch::{Watch, heeded};
@@ -17,17 +17,40 @@ use udfs_reading::DeviceFault;
 /// How many links are followed one after the other, as the system does.
 const LINKS: usize = 40;
 
-/// What is at a path. A regular file that may not be written is a fault.
-fn kind_at<C: Calls, N: Watch>(calls: &C, watch: &N, path: &str) -> Result<Kind, DeviceFault>
+/// Whether a regular file serves what its path is followed for: one that may not be written is a fault where it is to be.
+fn serves<C: Calls, N: Watch>(
+    calls: &C,
+    watch: &N,
+    path: &str,
+    aim: Aim,
+) -> Result<(), DeviceFault>
+    ensures { OnErr result (C.shut calls.now path.now) }
+{
+    if aim == Aim::Reading {
+        return Ok(());
+    }
+    match heeded(watch, calls.try_to_write(path)) {
+        Some(()) => Ok(()),
+        None => Err(DeviceFault),
+    }
+}
+
+/// What is at a path. A regular file that may not be written is a fault where it is to be.
+fn kind_at<C: Calls, N: Watch>(
+    calls: &C,
+    watch: &N,
+    path: &str,
+    aim: Aim,
+) -> Result<Kind, DeviceFault>
     ensures absent { IfOk result (λ kind. kind ≡ Kind.Absent → Names (C.log calls.now) (C.real calls.now path.now) None) }
     ensures regular { IfOk result (λ kind. kind ≡ Kind.Regular → NamesSome (C.log calls.now) (C.real calls.now path.now)) }
     ensures other { IfOk result (λ kind. kind ≡ Kind.Other → C.in_place calls.now path.now) }
     ensures shut { OnErr result (C.shut calls.now path.now) }
 {
     match calls.about(path) {
-        Ok(about) if about.is_file => match heeded(watch, calls.try_to_write(path)) {
-            Some(()) => Ok(Kind::Regular),
-            None => Err(DeviceFault),
+        Ok(about) if about.is_file => match serves(calls, watch, path, aim) {
+            Ok(()) => Ok(Kind::Regular),
+            Err(fault) => Err(fault),
         },
         Ok(_) => Ok(Kind::Other),
         Err(error) if error.kind() == ErrorKind::NotFound => Ok(Kind::Absent),
@@ -81,10 +104,11 @@ fn settled<C: Calls, N: Watch>(
     watch: &N,
     alloc: Global,
     path: &str,
+    aim: Aim,
 ) -> Result<Result<Target, DeviceFault>, AllocError>
     ensures { IfOk result (λ found. IfOk found (λ target. C.tells → C.link_at calls.now path.now ≡ None → LeadsTo (C.log calls.now) (C.real calls.now) (C.in_place calls.now) path.now target)) }
 {
-    let kind = match kind_at(calls, watch, path) {
+    let kind = match kind_at(calls, watch, path, aim) {
         Ok(kind) => kind,
         Err(fault) => return Ok(Err(fault)),
     };
@@ -123,12 +147,14 @@ fn next<C: Calls, N: Watch>(
 ///
 /// # Errors
 ///
-/// `AllocError` where memory ran out. `DeviceFault` inside where it leads into nothing, to a file that may not be written, or along too many links.
+/// `AllocError` where memory ran out. `DeviceFault` inside where it leads into nothing, or along too many links, or, where it is followed for writing, to a
+/// file that may not be written.
 pub(crate) fn resolve<C: Calls, N: Watch>(
     calls: &C,
     watch: &N,
     alloc: Global,
     path: &str,
+    aim: Aim,
 ) -> Result<Result<Target, DeviceFault>, AllocError>
     ensures { IfOk result (λ found. IfOk found (λ target. C.tells → LeadsTo (C.log calls.now) (C.real calls.now) (C.in_place calls.now) path.now target)) }
 {
@@ -142,7 +168,7 @@ pub(crate) fn resolve<C: Calls, N: Watch>(
         }
         match next(calls, watch, alloc, at.as_str())? {
             Ok(Some(next)) => at = next,
-            Ok(None) => return settled(calls, watch, alloc, at.as_str()),
+            Ok(None) => return settled(calls, watch, alloc, at.as_str(), aim),
             Err(fault) => return Ok(Err(fault)),
         }
     }
