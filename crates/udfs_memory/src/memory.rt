@@ -16,7 +16,7 @@ use crate::modified::ModifiedTimes;
 use std::alloc::{AllocError, Global};
 use std::cell::{Cell, RefCell};
 use std::io::Error;
-use udfs_files::{Files, Kind, Stage, Target};
+use udfs_files::{Aim, Files, Kind, Stage, Target};
 use udfs_reading::DeviceFault;
 use udfs_times::{Times, Zone};
 
@@ -432,7 +432,9 @@ impl Files for Memory {
         &self,
         alloc: Global,
         path: &str,
+        aim: Aim,
     ) -> Result<Result<Target, DeviceFault>, AllocError> {
+        let _ = aim;
         let kind = self.kind(path);
         let path = String::from_str(alloc, path)?;
         Ok(Ok(Target { path, kind }))
