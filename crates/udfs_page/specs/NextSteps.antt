@@ -103,7 +103,10 @@ left_out_html g called last =
 unfoldable pub steps_html : GivenWords → CalledWords → Profile → Table → ℕ → Report → List ℕ
 steps_html g called rules table last r = again_html g called rules table last r r.reread ++ files_steps g r.volume rules last
 
+-- the one or the other
+unfoldable pub advice_html : GivenWords → CalledWords → Profile → Table → ℕ → Report → List ℕ
+advice_html g called rules table last r = cond (wide_writes r.nodes) (left_out_html g called last) (steps_html g called rules table last r)
+
 -- what to do next
 unfoldable pub next_html : GivenWords → CalledWords → Profile → Table → ℕ → Report → List ℕ
-next_html g called rules table last r =
-    markup (codes "<h2>What to do next</h2>\n") ++ cond (wide_writes r.nodes) (left_out_html g called last) (steps_html g called rules table last r)
+next_html g called rules table last r = markup (codes "<h2>What to do next</h2>\n") ++ advice_html g called rules table last r

@@ -11,7 +11,7 @@ ghost use Rattle.udfs_overview.specs.Widenings.{widening_text};
 ghost use Rattle.udfs_page.specs.Escapes.{html_text};
 ghost use Rattle.udfs_page.specs.Markups.{markup};
 ghost use Rattle.udfs_page.specs.Naming.{called_now};
-ghost use Rattle.udfs_page.specs.NextSteps.{again_html, commands_html, extract_html, fault_html, files_steps, left_out_html, needed_html, needed_words, next_html, no_need_html, page_command, page_end, page_front, renewed, steps_html, title_words, whole_words, wide_html};
+ghost use Rattle.udfs_page.specs.NextSteps.{advice_html, again_html, commands_html, extract_html, fault_html, files_steps, left_out_html, needed_html, needed_words, next_html, no_need_html, page_command, page_end, page_front, renewed, steps_html, title_words, whole_words, wide_html};
 
 use crate::escapes::push_html;
 use crate::markups::push_markup;
@@ -401,6 +401,25 @@ fn push_steps(
     push_files_steps(alloc, text, given, survey)
 }
 
+/// The one or the other.
+#[tactic(auto, unfolding(crate::specs::NextSteps::advice_html))]
+fn push_advice(
+    alloc: Global,
+    text: &mut String,
+    given: &Given<'_>,
+    called: &Called<'_>,
+    survey: &Survey<'_>,
+) -> Result<(), OutOfMemory>
+    ensures { OnOk result (string_bytes text.new ≡ string_bytes text.old
+        ++ advice_html (given_now given.now) (called_now called.now) survey.now.profile survey.now.table.now survey.now.last (survey_now survey.now)) }
+{
+    if wide_writes(alloc, survey)? {
+        push_left_out(alloc, text, given, called, survey.last)
+    } else {
+        push_steps(alloc, text, given, called, survey)
+    }
+}
+
 /// What to do next, of a page that is called so.
 #[tactic(auto, unfolding(crate::specs::NextSteps::next_html))]
 pub(crate) fn push_next(
@@ -414,9 +433,5 @@ pub(crate) fn push_next(
         ++ next_html (given_now given.now) (called_now called.now) survey.now.profile survey.now.table.now survey.now.last (survey_now survey.now)) }
 {
     push_markup(text, "<h2>What to do next</h2>\n")?;
-    if wide_writes(alloc, survey)? {
-        push_left_out(alloc, text, given, called, survey.last)
-    } else {
-        push_steps(alloc, text, given, called, survey)
-    }
+    push_advice(alloc, text, given, called, survey)
 }
