@@ -72,11 +72,17 @@ abbrev pub runs_in : List ℕ → ℕ
 runs_in [] = 0
 runs_in (n ∷ ns) = 1 + breaks n ns
 
+-- what follows so many blocks
+abbrev pub blocks_words : ℕ → List ℕ
+blocks_words count = if count == 1 then codes " block in " else codes " blocks in "
+
+-- what follows so many runs
+abbrev pub runs_words : ℕ → List ℕ
+runs_words runs = if runs == 1 then codes " run" else codes " runs"
+
 -- `B blocks in R runs`
 abbrev pub wanted_words : List ℕ → List ℕ
-wanted_words wanted =
-    decimal (length wanted) ++ (if length wanted == 1 then codes " block in " else codes " blocks in ")
-    ++ decimal (runs_in wanted) ++ (if runs_in wanted == 1 then codes " run" else codes " runs")
+wanted_words wanted = decimal (length wanted) ++ blocks_words (length wanted) ++ decimal (runs_in wanted) ++ runs_words (runs_in wanted)
 
 -- `, and W known ones to compare`, where there are some
 abbrev pub known_words : ℕ → List ℕ

@@ -7,7 +7,7 @@ ghost use Rattle.udfs_rescue.specs.Writing.{domain_text};
 ghost use Rattle.udfs_salvage.specs.Texts.{line};
 ghost use Rattle.udfs_common.specs.Puts.{PutFails, PutsAs};
 ghost use Rattle.udfs_common.specs.Refusing.{IsUnput};
-ghost use Rattle.udfs_reports.specs.Rereading.{IsMap, IsMapFree, IsMapOf, IsMapSpared, IsMapUnseen, IsRefusedDomain, MapRefused, breaks, domain_line, group_words, known_words, runs_in, wanted_words};
+ghost use Rattle.udfs_reports.specs.Rereading.{blocks_words, runs_words, IsMap, IsMapFree, IsMapOf, IsMapSpared, IsMapUnseen, IsRefusedDomain, MapRefused, breaks, domain_line, group_words, known_words, runs_in, wanted_words};
 
 use crate::comparing::{Asked, asked_in};
 use crate::paths::listed_for;
@@ -69,6 +69,24 @@ fn count_runs(blocks: &[u32]) -> usize
     }
 }
 
+/// What follows so many blocks.
+fn blocks_words(count: usize) -> &'static str
+    ensures { result.now ≡ blocks_words count }
+{
+    if count == 1 {
+        " block in "
+    } else {
+        " blocks in "
+    }
+}
+
+/// What follows so many runs.
+fn runs_words(runs: usize) -> &'static str
+    ensures { result.now ≡ runs_words runs }
+{
+    if runs == 1 { " run" } else { " runs" }
+}
+
 /// How many blocks and runs there are.
 fn wanted_text(alloc: Global, wanted: &[u32]) -> Result<String, AllocError>
     ensures { IfOk result (λ text. string_bytes text ≡ wanted_words wanted.now) }
@@ -76,10 +94,9 @@ fn wanted_text(alloc: Global, wanted: &[u32]) -> Result<String, AllocError>
     let mut text = String::new(alloc);
     let count = wanted.len();
     let runs = count_runs(wanted);
-    write!(text, "{count}")?;
-    text.push_str(if count == 1 { " block in " } else { " blocks in " })?;
-    write!(text, "{runs}")?;
-    text.push_str(if runs == 1 { " run" } else { " runs" })?;
+    let of_blocks = blocks_words(count);
+    let of_runs = runs_words(runs);
+    write!(text, "{count}{of_blocks}{runs}{of_runs}")?;
     Ok(text)
 }
 
