@@ -5,16 +5,16 @@
 --     LogGoes old new step            from an old log to a new one a crash leaves what it might have left before, after this step
 --     Settles old new folder          whatever a crash leaves now, each path of this folder has what was held there before
 --     IsLedInPlace .. path            some path that leads to the same says that it is no regular file
---     path_of text                    the path in a text, where there is one
+--     path_of last                    the path of the folder that was made last, where its name may not be on the disk
 use Rattle.std.proofs.Common.{inl, ⊎_elim, subst, arith}
 use Rattle.std.specs.Coded.{Coded-set, coded_bool, Π_prop, Unit-prop}
-use Rattle.std.specs.Prelude.{◌≡◌, ℕ, List, [], ◌∷◌, length, Option, Some, None, String, string_bytes, true, ⊤}
-use Rattle.std.specs.declared.alloc.Global.{Global}
+use Rattle.std.specs.Prelude.{◌≡◌, ℕ, List, [], ◌∷◌, length, Option, Some, None, string_bytes, true, if◌then◌else◌, ⊤}
 use Rattle.udfs_calls.proofs.PublicLaws.{a_crash_leaves_something}
 use Rattle.udfs_calls.specs.Lawful.{IsLawfulLog}
 use Rattle.udfs_calls.specs.Log.{AreNamed, Call, Start, Log, holds, is_named, kept_of, moment_of, outcome, outcome_since}
 use Rattle.udfs_calls.specs.Paths.{parent}
 use Rattle.udfs_files.specs.Disk.{Disk, Goes}
+use Rattle.udfs_files.specs.declared.folders.LastFolder.{LastFolder}
 
 -- what a crash may leave of what is at a path, were its name on the disk: what it holds, and anything where that is not known
 abbrev pub kept_by : Option Log → List ℕ → Option (List ℕ) → Type 0
@@ -42,10 +42,9 @@ Settles old new folder = (c : Disk) (q : List ℕ) → left_by new c → parent 
 abbrev pub IsLedInPlace : (List ℕ → List ℕ) → (List ℕ → Type 0) → List ℕ → Type 0
 IsLedInPlace real in_place path = (q : List ℕ) × (real q ≡ real path) × in_place q
 
--- the path in a text, where there is one
-abbrev pub path_of : Option (String Global) → Option (List ℕ)
-path_of None = None
-path_of (Some text) = Some (string_bytes text)
+-- the path of the folder that was made last, where its name may not be on the disk
+abbrev pub path_of : LastFolder → Option (List ℕ)
+path_of last = if last.waits then Some (string_bytes last.path) else None
 
 -- the names of all folders but one are on the disk in one way
 pub AreNamed-prop : (log : Option Log) (but : Option (List ℕ)) → IsProp (AreNamed log but)

@@ -8,9 +8,16 @@ ghost use Rattle.udfs_files.specs.Disk.{Same};
 ghost use Rattle.udfs_files.specs.Told.{LogGoes, Settles, path_of};
 
 use crate::places::split;
-use std::alloc::Global;
 use std::io::{Error, ErrorKind};
 use udfs_calls::Calls;
+
+/// The folder that was made last: whether its name may not be on the disk, and its path where that is so. The room for its path is kept from one folder to the
+/// next, so that no memory is taken while folders are made.
+#[derive(Drop)]
+pub(crate) struct LastFolder {
+    pub path: String,
+    pub waits: bool,
+}
 
 /// Brings the names in a folder to the disk. What can not be synced at all, as some folders on a network, needs no sync.
 fn sync_folder<C: Calls>(calls: &mut C, folder: &str) -> Result<(), Error>
@@ -47,7 +54,7 @@ fn name_folder<C: Calls>(calls: &mut C, folder: &str) -> Result<(), Error>
 
 /// Brings the name of the folder to the disk that was made last, where it may not be there.
 #[tactic(auto, using(crate::proofs::Logs::same_nowhere))]
-fn name_last<C: Calls>(calls: &mut C, unnamed: &mut Option<String>) -> Result<(), Error>
+fn name_last<C: Calls>(calls: &mut C, unnamed: &mut LastFolder) -> Result<(), Error>
     requires { AreNamed (C.log calls.old) (path_of unnamed.old) }
     ensures named { AreNamed (C.log calls.new) (path_of unnamed.new) }
     ensures none { OnOk result (path_of unnamed.new ≡ None) }
@@ -56,15 +63,15 @@ fn name_last<C: Calls>(calls: &mut C, unnamed: &mut Option<String>) -> Result<()
     ensures real { C.real calls.new ≡ C.real calls.old }
     ensures crash { LogGoes (C.log calls.old) (C.log calls.new) Same }
 {
-    let Some(folder) = unnamed.take() else {
+    if !unnamed.waits {
         return Ok(());
-    };
-    match name_folder(calls, folder.as_str()) {
-        Ok(()) => Ok(()),
-        Err(error) => {
-            *unnamed = Some(folder);
-            Err(error)
+    }
+    match name_folder(calls, unnamed.path.as_str()) {
+        Ok(()) => {
+            unnamed.waits = false;
+            Ok(())
         }
+        Err(error) => Err(error),
     }
 }
 
@@ -72,8 +79,7 @@ fn name_last<C: Calls>(calls: &mut C, unnamed: &mut Option<String>) -> Result<()
 #[tactic(auto, using(crate::proofs::Logs::failed_holds, crate::proofs::Logs::failed_named, crate::proofs::Logs::folder_goes, crate::proofs::Logs::folder_holds, crate::proofs::Logs::folder_named, crate::proofs::Logs::unmade_goes, crate::proofs::Logs::same_then))]
 pub(crate) fn make_folder<C: Calls>(
     calls: &mut C,
-    alloc: Global,
-    unnamed: &mut Option<String>,
+    unnamed: &mut LastFolder,
     path: &str,
 ) -> Result<(), Error>
     requires { AreNamed (C.log calls.old) (path_of unnamed.old) }
@@ -86,10 +92,11 @@ pub(crate) fn make_folder<C: Calls>(
         Ok(()) => {}
         Err(error) => return Err(error),
     }
-    let folder = String::from_str(alloc, path)?;
+    unnamed.path.clear();
+    unnamed.path.push_str(path)?;
     match calls.make_folder(path) {
         Ok(()) => {
-            *unnamed = Some(folder);
+            unnamed.waits = true;
             Ok(())
         }
         Err(error) => Err(error),
@@ -97,20 +104,17 @@ pub(crate) fn make_folder<C: Calls>(
 }
 
 /// Whether this folder is the one whose name may not be on the disk.
-fn is_unnamed(unnamed: &Option<String>, folder: &str) -> bool
+fn is_unnamed(unnamed: &LastFolder, folder: &str) -> bool
     ensures { IsTrue result ↔ path_of unnamed.now ≡ Some folder.now }
 {
-    match unnamed {
-        Some(last) => last.as_str() == folder,
-        None => false,
-    }
+    unnamed.waits && unnamed.path.as_str() == folder
 }
 
 /// Brings the name of this folder to the disk, where it may not be there.
 #[tactic(auto, using(crate::proofs::Logs::same_nowhere))]
 fn name_this<C: Calls>(
     calls: &mut C,
-    unnamed: &mut Option<String>,
+    unnamed: &mut LastFolder,
     folder: &str,
 ) -> Result<(), Error>
     requires { AreNamed (C.log calls.old) (path_of unnamed.old) }
@@ -133,7 +137,7 @@ fn name_this<C: Calls>(
 #[tactic(auto, using(crate::proofs::Logs::failed_holds, crate::proofs::Logs::failed_named, crate::proofs::Logs::folder_synced_named, crate::proofs::Logs::named_goes, crate::proofs::Logs::named_holds, crate::proofs::Logs::names_stay, crate::proofs::Logs::same_then, crate::proofs::Logs::unnamed_goes))]
 fn sync_named<C: Calls>(
     calls: &mut C,
-    unnamed: &mut Option<String>,
+    unnamed: &mut LastFolder,
     folder: &str,
 ) -> Result<(), Error>
     requires { AreNamed (C.log calls.old) (path_of unnamed.old) }
@@ -156,7 +160,7 @@ fn sync_named<C: Calls>(
 /// Brings the names to the disk that are in the folder of a path, once its own name is there.
 pub(crate) fn sync_names<C: Calls>(
     calls: &mut C,
-    unnamed: &mut Option<String>,
+    unnamed: &mut LastFolder,
     path: &str,
 ) -> Result<(), Error>
     requires { AreNamed (C.log calls.old) (path_of unnamed.old) }

@@ -8,7 +8,7 @@ ghost use Rattle.udfs_reading.specs.Device.{CountsFault};
 ghost use Rattle.std.specs.Prelude.{◌≡◌, Some, None, Ok, IfOk, IsErr, OnErr, ⊤};
 
 use crate::files::{Aim, Files, Target};
-use crate::folders::{make_folder, sync_names};
+use crate::folders::{LastFolder, make_folder, sync_names};
 use crate::opened::{MachineImage, MachineInput, MachineStored};
 use crate::output::MachineFile;
 use crate::reaching::{
@@ -34,13 +34,14 @@ pub struct Machine<'a, C: Calls, R: std::rt::Files + Env + AllocGlobal, N: Watch
     faults: u64,
     times: Times,
     /// The folder that was made last, where its name may not be on the disk.
-    unnamed: Option<String>,
+    unnamed: LastFolder,
     ghost named: { AreNamed (C.log calls) (path_of unnamed) } by { AreNamed-prop (C.log calls) (path_of unnamed) },
 }
 
 impl<'a, C: Calls, R: std::rt::Files + Env + AllocGlobal, N: Watch> Machine<'a, C, R, N> {
-    /// The files that these calls reach, of which none was made yet, and who watches what is done with them.
-    pub fn new(calls: C, rt: &'a R, watch: &'a N) -> Machine<'a, C, R, N>
+    /// The files that these calls reach, of which none was made yet, and who watches what is done with them. `room` is a text with room for the path of a folder
+    /// (4,096 bytes on Linux): where it has that, no memory is taken while folders are made.
+    pub fn new(calls: C, rt: &'a R, watch: &'a N, room: String) -> Machine<'a, C, R, N>
         requires { IsFresh (C.log calls) }
     {
         Machine {
@@ -49,7 +50,10 @@ impl<'a, C: Calls, R: std::rt::Files + Env + AllocGlobal, N: Watch> Machine<'a, 
             watch,
             faults: 0,
             times: Times::new(),
-            unnamed: None,
+            unnamed: LastFolder {
+                path: room,
+                waits: false,
+            },
         }
     }
 }
@@ -212,8 +216,7 @@ impl<'a, C: Calls, R: std::rt::Files + Env + AllocGlobal, N: Watch> Files for Ma
 
     #[tactic(auto, using(crate::proofs::Logs::kept_same))]
     fn make_folder(&mut self, path: &str) -> Result<(), DeviceFault> {
-        let alloc = self.rt.alloc();
-        let outcome = make_folder(&mut self.calls, alloc, &mut self.unnamed, path);
+        let outcome = make_folder(&mut self.calls, &mut self.unnamed, path);
         self.heeded(outcome)
     }
 

@@ -14,6 +14,9 @@ use udfs_commands::{refuse_words, run};
 use udfs_files::Machine;
 use udfs_reading::Writer;
 
+/// How many bytes a path has at most, with the zero byte at its end (`PATH_MAX` of Linux).
+const PATH_ROOM: usize = 4_096;
+
 /// The arguments of the command line, the program's name first. It fails if one of them is not text, or if memory runs out.
 fn words_of(rt: &HostRuntime, alloc: Global) -> io::Result<Vec<String>> {
     Ok(env::args(rt)?.collect(alloc)?)
@@ -25,7 +28,10 @@ fn main(rt: HostRuntime) -> ExitCode {
     let screen = Screen::new(alloc, &rt, rt.stderr(), is_watched);
     let mut out = Cleared::new(Writer::new(rt.stdout()), &screen);
     let mut err = Cleared::new(Writer::new(rt.stderr()), &screen);
-    let mut files = Machine::new(Host::new(&rt), &rt, &screen);
+    let Ok(room) = String::with_capacity(alloc, PATH_ROOM) else {
+        return ExitCode::from(refuse_words(true, &mut err));
+    };
+    let mut files = Machine::new(Host::new(&rt), &rt, &screen, room);
     let status = match words_of(&rt, alloc) {
         Ok(words) => run(alloc, words.as_slice(), &mut files, &mut out, &mut err),
         Err(error) => {
