@@ -11,5 +11,5 @@ invariant_of-self-2 c =
     let longer : c.then-self.result.calls ≡ call_of c.args.deed.now ∷ old.history.calls = search rules in
     let below : old.count < 18446744073709551615 = search rules in
     let all = stands_on (start_of old.stored.now) old.kept.items c.insert.new.self.items old.history.calls c.then-self.result.calls old.count (call_of c.args.deed.now) (record { number = old.count; what = c.in-Ok.what })
-        more longer c.in-Ok.ensures refl below (record { nodes = old.nodes; contents = old.contents; counted = old.counted; lawful = old.lawful }) c.requires in
+    more longer c.in-Ok.ensures refl below (record { nodes = old.nodes; contents = old.contents; counted = old.counted; lawful = old.lawful }) c.requires in
     record { nodes = all.nodes; contents = all.contents; counted = all.counted; lawful = all.lawful }
