@@ -1,0 +1,27 @@
+-- What the calls on files in memory tell.
+--     log_of stored calls             the log of the calls
+--     IsInPlace log path              it is a device by its path, or leads to a new folder
+--     IsShut stored log path          it is not spelled in full, or leads to no file that was there when the run began
+use Rattle.std.specs.Prelude.{◌≡◌, ◌≢◌, ◌⊎◌, ℕ, List, Option, Some, None, true}
+use Rattle.udfs_calls.specs.Log.{Call, Log, Names, names_folder}
+use Rattle.udfs_calls.specs.Log.Node.{there}
+use Rattle.udfs_calls.specs.Paths.{IsDevice}
+use Rattle.udfs_memory.specs.Keeping.{bytes_in, start_of}
+use Rattle.udfs_memory.specs.Spelling.{is_plain, spelled}
+use Rattle.udfs_memory.specs.declared.kept.StoredFile.{StoredFile}
+
+-- the log of the calls
+abbrev pub log_of : List StoredFile → List Call → Option Log
+log_of stored calls = Some (record { start = start_of stored; calls = calls })
+
+-- it is a device by its path, or leads to a new folder
+abbrev pub IsInPlace : Option Log → List ℕ → Type 0
+IsInPlace log path = IsDevice path ⊎ (names_folder log (spelled path) ≡ true)
+
+-- it is not spelled in full, or leads to no file that was there when the run began
+abbrev pub IsShut : List StoredFile → Option Log → List ℕ → Type 0
+IsShut stored log path = (is_plain path ≢ true) ⊎ ((number : ℕ) (bytes : List ℕ) → Names log (spelled path) (Some (there number)) → bytes_in stored number ≡ Some bytes → ⊥)
+
+-- there are no links
+pub no_link : {A : Type 0} (text : A) → None ≡ Some text → ⊥
+no_link {A} text bad = cc

@@ -1,0 +1,166 @@
+//! What files in memory keep: those that were there when the run began, and the calls since that did something.
+
+ghost use Rattle.std.specs.Prelude.{◌≡◌, IfOk, [], bytes_eq};
+ghost use Rattle.udfs_memory.specs.Keeping.{bytes_in, call_in, content_in, found, node_of, option_now, start_of};
+ghost use Rattle.udfs_memory.specs.Noted.{call_of};
+
+use crate::deeds::Deed;
+use std::alloc::{AllocError, Global};
+
+/// A file that is there when the run begins.
+#[derive(Clone, Copy)]
+pub struct StoredFile<'a> {
+    /// Its path, spelled in full: from the root, or from `./` on.
+    pub path: &'a str,
+    /// All its bytes.
+    pub bytes: &'a [u8],
+}
+
+/// What a call did.
+#[derive(Drop)]
+pub(crate) enum What {
+    /// A new file is at a path.
+    Created(Vec<u8>),
+    /// What is at a path is written in place.
+    Opened(Vec<u8>),
+    /// The new file of this number has these bytes.
+    Synced(u64, Vec<u8>),
+    /// The file of the first path is at the second.
+    Renamed(Vec<u8>, Vec<u8>),
+    /// The path names nothing.
+    Removed(Vec<u8>),
+    /// A new folder is at a path.
+    FolderMade(Vec<u8>),
+    /// The names in a folder are on the disk.
+    FolderSynced(Vec<u8>),
+}
+
+/// A call that did something, and how many calls were made before.
+#[derive(Drop)]
+pub(crate) struct Kept {
+    pub(crate) number: u64,
+    pub(crate) what: What,
+}
+
+/// What a path names.
+#[derive(Clone, Copy)]
+pub(crate) enum Found {
+    /// Nothing.
+    Nothing,
+    /// The file of this number among those that were there when the run began.
+    There(usize),
+    /// The file that the call of this number made.
+    Made(u64),
+    /// The folder that the call of this number made.
+    Folder(u64),
+}
+
+fn is_same(a: &[u8], b: &[u8]) -> bool
+    ensures { result ≡ bytes_eq a.now b.now }
+{
+    a == b
+}
+
+/// The file of this path among those that were there when the run began.
+fn stored_at(stored: &[StoredFile<'_>], path: &[u8]) -> Found
+    ensures { node_of result ≡ found (start_of stored.now) [] path.now }
+{
+    match stored {
+        [] => Found::Nothing,
+        [file, rest @ ..] => {
+            if is_same(path, file.path.as_bytes()) {
+                return Found::There(rest.len());
+            }
+            stored_at(rest, path)
+        }
+    }
+}
+
+/// What a path names.
+pub(crate) fn find(stored: &[StoredFile<'_>], kept: &[Kept], path: &[u8]) -> Found
+    ensures { node_of result ≡ found (start_of stored.now) kept.now path.now }
+{
+    match kept {
+        [] => stored_at(stored, path),
+        [kept, earlier @ ..] => match &kept.what {
+            What::Created(q) | What::Opened(q) => {
+                if is_same(path, q) {
+                    return Found::Made(kept.number);
+                }
+                find(stored, earlier, path)
+            }
+            What::FolderMade(q) => {
+                if is_same(path, q) {
+                    return Found::Folder(kept.number);
+                }
+                find(stored, earlier, path)
+            }
+            What::Renamed(from, to) => {
+                if is_same(path, to) {
+                    return find(stored, earlier, from);
+                }
+                if is_same(path, from) {
+                    return Found::Nothing;
+                }
+                find(stored, earlier, path)
+            }
+            What::Removed(q) => {
+                if is_same(path, q) {
+                    return Found::Nothing;
+                }
+                find(stored, earlier, path)
+            }
+            What::Synced(_, _) | What::FolderSynced(_) => find(stored, earlier, path),
+        },
+    }
+}
+
+/// The bytes of the file of this number among those that were there when the run began.
+pub(crate) fn stored_bytes<'a>(stored: &'a [StoredFile<'a>], number: usize) -> Option<&'a [u8]>
+    ensures { option_now result ≡ bytes_in stored.now number }
+{
+    match stored {
+        [] => None,
+        [file, rest @ ..] => {
+            if number == rest.len() {
+                return Some(file.bytes);
+            }
+            stored_bytes(rest, number)
+        }
+    }
+}
+
+/// The bytes of the new file of this number, once it was synced.
+pub(crate) fn content<'a>(kept: &'a [Kept], number: u64) -> Option<&'a [u8]>
+    ensures { option_now result ≡ content_in kept.now number }
+{
+    match kept {
+        [] => None,
+        [kept, earlier @ ..] => {
+            if let What::Synced(other, bytes) = &kept.what {
+                if number == *other {
+                    return Some(bytes);
+                }
+            }
+            content(earlier, number)
+        }
+    }
+}
+
+/// A copy of what a call does.
+pub(crate) fn copied(alloc: Global, deed: &Deed<'_>) -> Result<What, AllocError>
+    ensures { IfOk result (λ what. call_in what ≡ call_of deed.now) }
+{
+    Ok(match deed {
+        Deed::Created(path) => What::Created(path.as_bytes().to_vec(alloc)?),
+        Deed::Opened(path) => What::Opened(path.as_bytes().to_vec(alloc)?),
+        Deed::Synced(number, bytes) => What::Synced(*number, bytes.to_vec(alloc)?),
+        Deed::Renamed(from, to) => What::Renamed(
+            from.as_bytes().to_vec(alloc)?,
+            to.as_bytes().to_vec(alloc)?,
+        ),
+        Deed::Removed(path) => What::Removed(path.as_bytes().to_vec(alloc)?),
+        Deed::FolderMade(path) => What::FolderMade(path.as_bytes().to_vec(alloc)?),
+        Deed::FolderSynced(path) => What::FolderSynced(path.as_bytes().to_vec(alloc)?),
+    })
+}
