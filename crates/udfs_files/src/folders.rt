@@ -112,11 +112,7 @@ fn is_unnamed(unnamed: &LastFolder, folder: &str) -> bool
 
 /// Brings the name of this folder to the disk, where it may not be there.
 #[tactic(auto, using(crate::proofs::Logs::same_nowhere))]
-fn name_this<C: Calls>(
-    calls: &mut C,
-    unnamed: &mut LastFolder,
-    folder: &str,
-) -> Result<(), Error>
+fn name_this<C: Calls>(calls: &mut C, unnamed: &mut LastFolder, folder: &str) -> Result<(), Error>
     requires { AreNamed (C.log calls.old) (path_of unnamed.old) }
     ensures named { AreNamed (C.log calls.new) (path_of unnamed.new) }
     ensures other { OnOk result (path_of unnamed.new ≢ Some folder.now) }
@@ -135,11 +131,7 @@ fn name_this<C: Calls>(
 
 /// Brings the names in a folder to the disk, once its own name is there.
 #[tactic(auto, using(crate::proofs::Logs::failed_holds, crate::proofs::Logs::failed_named, crate::proofs::Logs::folder_synced_named, crate::proofs::Logs::named_goes, crate::proofs::Logs::named_holds, crate::proofs::Logs::names_stay, crate::proofs::Logs::same_then, crate::proofs::Logs::unnamed_goes))]
-fn sync_named<C: Calls>(
-    calls: &mut C,
-    unnamed: &mut LastFolder,
-    folder: &str,
-) -> Result<(), Error>
+fn sync_named<C: Calls>(calls: &mut C, unnamed: &mut LastFolder, folder: &str) -> Result<(), Error>
     requires { AreNamed (C.log calls.old) (path_of unnamed.old) }
     ensures durable { OnOk result (Settles (C.log calls.old) (C.log calls.new) folder.now) }
     ensures named { AreNamed (C.log calls.new) (path_of unnamed.new) }

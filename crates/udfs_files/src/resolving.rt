@@ -18,12 +18,7 @@ use udfs_reading::DeviceFault;
 const LINKS: usize = 40;
 
 /// Whether a regular file serves what its path is followed for: one that may not be written is a fault where it is to be.
-fn serves<C: Calls, N: Watch>(
-    calls: &C,
-    watch: &N,
-    path: &str,
-    aim: Aim,
-) -> Result<(), DeviceFault>
+fn serves<C: Calls, N: Watch>(calls: &C, watch: &N, path: &str, aim: Aim) -> Result<(), DeviceFault>
     ensures { OnErr result (C.shut calls.now path.now) }
 {
     if aim == Aim::Reading {

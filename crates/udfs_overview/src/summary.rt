@@ -375,11 +375,7 @@ fn push_again(
 
 /// The summary by the wide rules, where these write files that the strict ones leave out.
 #[tactic(auto, unfolding(crate::specs::Summaries::left_out_lines))]
-fn push_left_out_lines(
-    text: &mut String,
-    given: &Given<'_>,
-    last: u32,
-) -> Result<(), OutOfMemory>
+fn push_left_out_lines(text: &mut String, given: &Given<'_>, last: u32) -> Result<(), OutOfMemory>
     ensures { OnOk result (string_bytes text.new ≡ string_bytes text.old ++ left_out_lines (given_now given.now) last) }
 {
     text.push_str(
