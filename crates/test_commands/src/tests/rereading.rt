@@ -97,7 +97,7 @@ out 2 blocks in 2 runs, and 5 known ones to compare\n
 but 277 278
 $ reread --last 600 --mapfile m disc.tab
 status 1
-out 2 blocks in 1 runs, and 6 known ones to compare\n
+out 2 blocks in 1 run, and 6 known ones to compare\n
 
 but 277 279
 $ reread --last 600 --mapfile m disc.tab
@@ -186,7 +186,7 @@ status 0
 has old.map text # Mapfile. Created by udfsalvage 0.1.0\n# Blocks to read again, for ddrescue -m: not the mapfile of a pass\n0x00000000     +               1\n0x00000000  0x0012C800  ?\n
 
 = a_line_that_cannot_be_printed_leaves_the_mapfile
-# Where the line cannot be printed, which has 48 bytes, the mapfile is not begun: what was there stays.
+# Where the line cannot be printed, which has 46 bytes, the mapfile is not begun: what was there stays.
 but 278
 file p.img text x
 file p.map text # Mapfile. Created by GNU ddrescue\n0 + 1\n
@@ -194,14 +194,14 @@ file image.map text # Mapfile. Created by udfsalvage 0.1.0\n0x00000000     +    
 file old.map text # Mapfile. Created by udfsalvage 0.1.0\n# Blocks to read again, for ddrescue -m: not the mapfile of a pass\n0x00000000     +               1\n0x00000000  0x00000800  +\n
 file note text # Mapfile. Created by udfsalvage 0.1.0\n# Blocks to read again, for ddrescue -m: not the mapfile of a pass
 
-each 0 48
+each 0 46
 terminal-fails «n»
 $ reread --last 600 --mapfile old.map disc.tab
 status 2
 error udfsalvage: cannot write output\n
 calls 0
 
-each 48 49
+each 46 47
 terminal-fails «n»
 $ reread --last 600 --mapfile old.map disc.tab
 status 1
