@@ -52,11 +52,12 @@ fn give_disc(trial: &mut Trial, word: &str, rest: &str) -> Result<bool, AllocErr
 }
 
 /// Devices that fail after a number of bytes, or take none then, or that move at most a number of bytes a call; calls that change files
-/// and fail, from the first to the last of them; a zone of the clock; and a path whose time can not be set.
+/// and fail, from the first to the last of them; a zone of the clock; a path whose time can not be set; and two names of one file.
 fn give_device(trial: &mut Trial, word: &str, rest: &str) -> Result<bool, AllocError> {
     match word {
         "zone" => return give_zone(trial, rest),
         "timeless" => return give_timeless(trial, rest),
+        "twins" => return give_twins(trial, rest),
         "calls-fail" => give_calls(trial, rest)?,
         _ => return give_limit(trial, word, rest),
     }
@@ -79,6 +80,17 @@ fn give_timeless(trial: &mut Trial, rest: &str) -> Result<bool, AllocError> {
         "out" => trial.memory.timeless = "out",
         "out/A" => trial.memory.timeless = "out/A",
         "lost/3" => trial.memory.timeless = "lost/3",
+        _ => return Err(AllocError),
+    }
+    Ok(true)
+}
+
+/// The paths of scripts that are two names of one file.
+fn give_twins(trial: &mut Trial, rest: &str) -> Result<bool, AllocError> {
+    match rest {
+        "p.img P.IMG" => trial.memory.twins = ("p.img", "P.IMG"),
+        "p.map P.MAP" => trial.memory.twins = ("p.map", "P.MAP"),
+        "a.rd A.RD" => trial.memory.twins = ("a.rd", "A.RD"),
         _ => return Err(AllocError),
     }
     Ok(true)

@@ -17,7 +17,7 @@ fn leads_there<F: Files>(
     let Ok(target) = files.resolve(alloc, out, Aim::Reading)? else {
         return Ok(false);
     };
-    match is_among(alloc, paths, target.path.as_str(), files)? {
+    match is_among(alloc, paths, &target, files)? {
         Ok(leads) => Ok(leads),
         Err(_) => Ok(false),
     }

@@ -5,16 +5,19 @@
 --     LogGoes old new step            from an old log to a new one a crash leaves what it might have left before, after this step
 --     Settles old new folder          whatever a crash leaves now, each path of this folder has what was held there before
 --     IsLedInPlace .. path            some path that leads to the same says that it is no regular file
+--     identity_by log numbers path    the numbers of the file that a path names
+--     NameOneFile log p q             two paths name one file
 --     path_of text                    the path in a text, where there is one
 use Rattle.std.proofs.Common.{inl, ⊎_elim, subst, arith}
 use Rattle.std.specs.Coded.{Coded-set, coded_bool, Π_prop, Unit-prop}
-use Rattle.std.specs.Prelude.{◌≡◌, ℕ, List, [], ◌∷◌, length, Option, Some, None, String, string_bytes, true, ⊤}
+use Rattle.std.specs.Prelude.{◌≡◌, ℕ, List, [], ◌∷◌, length, Option, Some, None, String, option_map, string_bytes, true, ⊤}
 use Rattle.std.specs.declared.alloc.Global.{Global}
 use Rattle.udfs_calls.proofs.PublicLaws.{a_crash_leaves_something}
 use Rattle.udfs_calls.specs.Lawful.{IsLawfulLog}
-use Rattle.udfs_calls.specs.Log.{AreNamed, Call, Start, Log, holds, is_named, kept_of, moment_of, outcome, outcome_since}
+use Rattle.udfs_calls.specs.Log.{AreNamed, Call, Names, Node, Start, Log, holds, is_named, kept_of, moment_of, node_at, outcome, outcome_since}
 use Rattle.udfs_calls.specs.Paths.{parent}
 use Rattle.udfs_files.specs.Disk.{Disk, Goes}
+use Rattle.udfs_files.specs.declared.files.Identity.{Identity}
 
 -- what a crash may leave of what is at a path, were its name on the disk: what it holds, and anything where that is not known
 abbrev pub kept_by : Option Log → List ℕ → Option (List ℕ) → Type 0
@@ -41,6 +44,19 @@ Settles old new folder = (c : Disk) (q : List ℕ) → left_by new c → parent 
 -- some path that leads to the same may be that of no regular file
 abbrev pub IsLedInPlace : (List ℕ → List ℕ) → (List ℕ → Type 0) → List ℕ → Type 0
 IsLedInPlace real in_place path = (q : List ℕ) × (real q ≡ real path) × in_place q
+
+-- the numbers of a file's device and of the file on it, as an identity
+abbrev pub identity_of : ℕ × ℕ → Identity
+identity_of numbers = record { device = numbers.0; inode = numbers.1 }
+
+-- the numbers of the file that a path names, where the log is known
+abbrev pub identity_by : Option Log → (Node → ℕ × ℕ) → List ℕ → Option Identity
+identity_by None numbers p = None
+identity_by (Some log) numbers p = option_map (λ node. identity_of (numbers node)) (node_at log.start log.calls p)
+
+-- two paths name one file
+abbrev pub NameOneFile : Option Log → List ℕ → List ℕ → Type 0
+NameOneFile log p q = (node : Node) × Names log p (Some node) × Names log q (Some node)
 
 -- the path in a text, where there is one
 abbrev pub path_of : Option (String Global) → Option (List ℕ)

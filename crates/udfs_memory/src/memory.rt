@@ -4,7 +4,7 @@ ghost use Rattle.std.proofs.Common.{refl};
 ghost use Rattle.std.specs.Prelude.{◌≡◌, ℕ, List, Option, length, true, Some, None, IfOk, OnOk, OnErr, IsErr, [], ◌∷◌, take, ◌≤◌, bytes_eq, ⊤};
 ghost use Rattle.udfs_memory.specs.Log.{held, may_be_kept, crash_outcome, outcome_since, search_result};
 ghost use Rattle.udfs_memory.specs.Survivors.{absent_kept as log_absent_kept, lost, lost_may_be, option_now, beside};
-ghost use Rattle.udfs_memory.specs.Devices.{IsFolder, IsNoFile};
+ghost use Rattle.udfs_memory.specs.Devices.{IsFolder, IsNoFile, twin_identity};
 ghost use Rattle.udfs_files.specs.declared.files.Kind.{Kind};
 ghost use Rattle.udfs_memory.specs.Laws.{counts_now as log_counts_now, least, only_now as log_only_now};
 ghost use Rattle.std.proofs.Common.{false, inl};
@@ -16,7 +16,7 @@ use crate::modified::ModifiedTimes;
 use std::alloc::{AllocError, Global};
 use std::cell::{Cell, RefCell};
 use std::io::Error;
-use udfs_files::{Aim, Files, Kind, Stage, Target};
+use udfs_files::{Aim, Files, Identity, Kind, Stage, Target};
 use udfs_reading::DeviceFault;
 use udfs_times::{Times, Zone};
 
@@ -175,6 +175,8 @@ pub struct Memory {
     pub zone: &'static str,
     /// A path of which no time can be set.
     pub timeless: &'static str,
+    /// Two paths whose files have the same numbers, as the names of one file have on a machine.
+    pub twins: (&'static str, &'static str),
 }
 
 impl Memory {
@@ -201,6 +203,7 @@ impl Memory {
             modified: ModifiedTimes::new(alloc),
             zone: "",
             timeless: "",
+            twins: ("", ""),
         }
     }
 
@@ -332,6 +335,24 @@ impl Memory {
         Kind::Regular
     }
 
+    /// The numbers of the file at a path, which only a twin has.
+    fn identity(&self, path: &str) -> Option<Identity>
+        ensures { result ≡ twin_identity self.now.twins.0.now self.now.twins.1.now path.now }
+    {
+        let (one, other) = self.twins;
+        let numbers = Identity {
+            device: 1,
+            inode: 1,
+        };
+        if is_same(path.as_bytes(), one.as_bytes()) {
+            return Some(numbers);
+        }
+        if is_same(path.as_bytes(), other.as_bytes()) {
+            return Some(numbers);
+        }
+        None
+    }
+
     /// Whether the path is in a folder that is there. Paths without a `/` are, and devices.
     fn has_parent(&self, path: &str) -> bool {
         match path.rsplit_once('/') {
@@ -365,6 +386,8 @@ impl Files for Memory {
     ghost holds = { λ m p. held m.log.items p };
 
     ghost real = { λ _ p. p };
+
+    ghost identity = { λ m p. twin_identity m.twins.0.now m.twins.1.now p };
 
     ghost is_at = { λ _ _ _. ⊤ };
 
@@ -432,12 +455,16 @@ impl Files for Memory {
         &self,
         alloc: Global,
         path: &str,
-        aim: Aim,
+        _aim: Aim,
     ) -> Result<Result<Target, DeviceFault>, AllocError> {
-        let _ = aim;
         let kind = self.kind(path);
+        let identity = self.identity(path);
         let path = String::from_str(alloc, path)?;
-        Ok(Ok(Target { path, kind }))
+        Ok(Ok(Target {
+            path,
+            kind,
+            identity,
+        }))
     }
 
     fn make_new(&mut self, path: &str) -> Result<MemoryFile, DeviceFault> {

@@ -8,6 +8,7 @@
 --     PageRefused        why it was not put
 use Rattle.std.specs.Prelude.{◌≡◌, ◌⊎◌, ℕ, Bool, List, Option, alloc_error, option_map}
 use Rattle.udfs_files.specs.Disk.{Fails}
+use Rattle.udfs_files.specs.declared.files.Files.{Ghosts}
 use Rattle.udfs_lattice.specs.Tables.{Table, state_of}
 use Rattle.udfs_salvage.specs.Reports.{Report, IsReportBy, all_whole}
 use Rattle.udfs_lawfulness.specs.Lawfulness.{IsDecided}
@@ -40,12 +41,12 @@ pub record IsPageOf (r : PageRequest) (last : ℕ) (whole : Bool) (bytes : List 
   pub says : whole ≡ all_whole report.nodes
 
 -- a page takes the place of no input (`files`, and `parts`: the images and mapfiles among them), and, unless what is there may be no file (`in_place`), of no file but a page
-abbrev pub IsFreePage : (List ℕ → Option (Option (List ℕ))) → (List ℕ → List ℕ) → (List ℕ → Type 0) → List (List ℕ) → List (List ℕ) → List ℕ → Type 0
-IsFreePage holds real in_place files parts out = IsFreeOwn page_mark holds real in_place files parts out
+abbrev pub IsFreePage : {F I M S W : Type 0} → Ghosts F I M S W → F → List (List ℕ) → List (List ℕ) → List ℕ → Type 0
+IsFreePage known at files parts out = IsFreeOwn page_mark known at files parts out
 
 -- why a page is not written: one of the inputs is there, or no page is
-abbrev pub IsSparedPage : (List ℕ → Option (Option (List ℕ))) → (List ℕ → List ℕ) → List (List ℕ) → List (List ℕ) → List ℕ → Type 0
-IsSparedPage holds real files parts out = IsSparedOwn page_mark holds real files parts out
+abbrev pub IsSparedPage : {F I M S W : Type 0} → Ghosts F I M S W → F → List (List ℕ) → List (List ℕ) → List ℕ → Type 0
+IsSparedPage known at files parts out = IsSparedOwn page_mark known at files parts out
 
 module _ {F I M S W : Type 0} (reach : Reach F I M S W) (old : F) where
   -- the page of what was read of the disc
@@ -54,12 +55,12 @@ module _ {F I M S W : Type 0} (reach : Reach F I M S W) (old : F) where
 
   -- where it is known what files hold
   abbrev pub IsPageFree : PageRequest → Type 0
-  IsPageFree r = reach.files.tells → IsFreePage (reach.files.holds old) (reach.files.real old) (reach.files.in_place old) (texts r.volume.inputs.files.items) (texts r.volume.inputs.parts.items) r.out.now
+  IsPageFree r = reach.files.tells → IsFreePage reach.files old (texts r.volume.inputs.files.items) (texts r.volume.inputs.parts.items) r.out.now
 
   -- nothing has changed, and memory ran out, or what is there is spared or could not be looked at, or the disc's end is not known or the inputs were not joined; or there is no report, or the page was not put
   abbrev pub PageRefused : F → PageRequest → Refusal → Type 0
   PageRefused new r refusal = ((new ≡ old) × ((refusal ≡ Memory alloc_error) ⊎
-      ((refusal ≡ Spared) × (reach.files.tells → IsSparedPage (reach.files.holds old) (reach.files.real old) (texts r.volume.inputs.files.items) (texts r.volume.inputs.parts.items) r.out.now)) ⊎
+      ((refusal ≡ Spared) × (reach.files.tells → IsSparedPage reach.files old (texts r.volume.inputs.files.items) (texts r.volume.inputs.parts.items) r.out.now)) ⊎
       ((refusal ≡ Output) × MayNotBeSeen (reach.files.shut old) (Fails reach.read_faults) (texts r.volume.inputs.files.items) (texts r.volume.inputs.parts.items) r.out.now) ⊎
       IsNoVolume reach old r.volume refusal)) ⊎
       OfVolume reach old r.volume (λ last. IsRefusedPut (PutFails reach r.out.now old) r.volume.profile last refusal)

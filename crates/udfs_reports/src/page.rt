@@ -93,8 +93,8 @@ fn look_at_page<F: Files>(
     out: &str,
     files: &F,
 ) -> Result<Outlook, AllocError>
-    ensures free { IfOk result (λ found. found ≡ Outlook.Free → F.tells → IsFreePage (F.holds files.now) (F.real files.now) (F.in_place files.now) (map (λ path. path.now) inputs.now) (map (λ path. path.now) parts.now) out.now) }
-    ensures spared { IfOk result (λ found. found ≡ Outlook.Spared → F.tells → IsSparedPage (F.holds files.now) (F.real files.now) (map (λ path. path.now) inputs.now) (map (λ path. path.now) parts.now) out.now) }
+    ensures free { IfOk result (λ found. found ≡ Outlook.Free → F.tells → IsFreePage F.Files files.now (map (λ path. path.now) inputs.now) (map (λ path. path.now) parts.now) out.now) }
+    ensures spared { IfOk result (λ found. found ≡ Outlook.Spared → F.tells → IsSparedPage F.Files files.now (map (λ path. path.now) inputs.now) (map (λ path. path.now) parts.now) out.now) }
     ensures unknown { IfOk result (λ found. found ≡ Outlook.Unknown → MayNotBeSeen (F.shut files.now) (Fails F.Input.faults) (map (λ path. path.now) inputs.now) (map (λ path. path.now) parts.now) out.now) }
 {
     let found = look_at_own(alloc, inputs, parts, PAGE, out, files)?;

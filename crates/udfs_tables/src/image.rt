@@ -99,11 +99,11 @@ fn put_at<F: Files>(
     places: &Places,
     files: &mut F,
 ) -> Result<(), Refusal>
-    requires apart { IsApart (string_bytes places.now.image) (string_bytes places.now.mapfile) }
-    requires absent { places.now.old ≡ Kind.Absent → F.tells → F.holds files.old (string_bytes places.now.mapfile) ≡ Some None }
+    requires apart { IsApart (string_bytes places.now.image.path) (string_bytes places.now.mapfile.path) }
+    requires absent { places.now.mapfile.kind ≡ Kind.Absent → F.tells → F.holds files.old (string_bytes places.now.mapfile.path) ≡ Some None }
     requires in_range { last ≤ 4194303 }
-    ensures kept { OnOk result (AreKept F.Files (string_bytes places.now.image) (string_bytes places.now.mapfile) (image_bytes table.now last) (map_text (table_status table.now) last) files.new) }
-    ensures goes { GoesPair F.Files (string_bytes places.now.image) (string_bytes places.now.mapfile) (image_bytes table.now last) (map_text (table_status table.now) last) files.old files.new }
+    ensures kept { OnOk result (AreKept F.Files (string_bytes places.now.image.path) (string_bytes places.now.mapfile.path) (image_bytes table.now last) (map_text (table_status table.now) last) files.new) }
+    ensures goes { GoesPair F.Files (string_bytes places.now.image.path) (string_bytes places.now.mapfile.path) (image_bytes table.now last) (map_text (table_status table.now) last) files.old files.new }
     ensures why { IfErr result (IsUnput (Fails F.faults ⊎ SinkFails F.Output.stream)) }
 {
     let image = ImageOf { table, last };
@@ -111,11 +111,11 @@ fn put_at<F: Files>(
     match put_both(
         alloc,
         files,
-        places.image.as_str(),
+        places.image.path.as_str(),
         &image,
-        places.mapfile.as_str(),
+        places.mapfile.path.as_str(),
         &map,
-        places.old,
+        places.mapfile.kind,
     ) {
         Ok(()) => Ok(()),
         Err(refusal) => Err(refusal),
