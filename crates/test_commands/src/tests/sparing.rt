@@ -39,6 +39,45 @@ $ merge --force --out p.map --ddrescue p.img p.map
 
 $ merge --out p.img p.img --ddrescue p.img p.map
 
+= an_input_is_not_written_over_by_another_name
+# An image or a mapfile of the inputs that has a second name, as on a disk that does not tell upper case from lower, or behind a second mount. Nothing is read.
+passes
+file p.img text «2048*c»
+file p.map text # GNU ddrescue\n0x0 + 1\n0 0x800 +\n
+file P.IMG text «2048*c»
+file P.MAP text
+then refused udfsalvage: cannot write output\n
+then calls 0
+then has P.IMG text «2048*c»
+then has P.MAP text
+
+twins p.img P.IMG
+$ merge --force --out P.IMG --ddrescue p.img p.map
+
+twins p.img P.IMG
+$ forget --force --conflicts --out P.IMG a.rd --ddrescue p.img p.map
+
+twins p.img P.IMG
+$ image --force --last 600 --out P.IMG --mapfile new.map --ddrescue p.img p.map
+
+twins p.img P.IMG
+$ image --force --last 600 --out p.img --mapfile P.IMG a.rd
+
+twins p.map P.MAP
+$ merge --out P.MAP --ddrescue p.img p.map absent.rd
+
+twins p.map P.MAP
+$ image --force --last 600 --out new.img --mapfile P.MAP --ddrescue p.img p.map
+
+twins p.map P.MAP
+$ page --last 600 --out P.MAP --ddrescue p.img p.map
+
+twins p.map P.MAP
+$ reread --last 600 --mapfile P.MAP --ddrescue p.img p.map
+
+twins p.map P.MAP
+$ extract --last 600 --to new --manifest P.MAP --ddrescue p.img p.map
+
 = what_is_written_over
 # An input, by force any file, a table file of either version, a file without bytes, and a device.
 passes
