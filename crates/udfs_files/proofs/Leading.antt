@@ -1,5 +1,5 @@
 -- Where a path leads by way of another.
-use Rattle.std.proofs.Common.{◌≡◌, ℕ, List, Some, None, Ok, Err, IfOk, IfSome, IsNone, refl, sym, ◌∙◌, subst, string_bytes}
+use Rattle.std.proofs.Common.{◌≡◌, ℕ, List, Some, None, Ok, Err, IfOk, IfSome, IsNone, ap, refl, sym, ◌∙◌, subst, string_bytes}
 use Rattle.std.specs.Prelude.{◌≢◌, Option, Result, option_map}
 use Rattle.udfs_calls.specs.Log.{Log, Names, NamesSome, Node, holds, node_at}
 use Rattle.udfs_files.proofs.Logs.{absent_held}
@@ -97,18 +97,18 @@ numbered numbers (Some node) i is = (node, refl, ap (numbers_or i) is)
 -- paths of the same numbers name one file, where two files have not the same
 pub one_file : (log : Option Log) (numbers : Node → ℕ × ℕ) (p q : List ℕ) → (l : Log) × (log ≡ Some l) → ((a b : Node) → Names log p (Some a) → Names log q (Some b) → numbers a ≡ numbers b → a ≡ b)
     → HaveOne (identity_by log numbers p) (identity_by log numbers q) → NameOneFile log p q
-one_file None numbers p q known apart one = let bad : None ≡ Some known.0 = known.1 in cc
-one_file (Some log) numbers p q known apart one =
-    let a = numbered numbers (node_at log.start log.calls p) one.0 one.1.0 in
-    let b = numbered numbers (node_at log.start log.calls q) one.0 one.1.1 in
-    (a.0, a.1.0, b.1.0 ∙ ap (λ node. Some node) (sym (apart a.0 b.0 a.1.0 b.1.0 (a.1.1 ∙ sym b.1.1))))
+one_file None numbers p q known differ one = let bad : None ≡ Some known.0 = known.1 in cc
+one_file (Some log) numbers p q known differ one =
+    let a = numbered numbers (node_at log.start log.calls p) one.0 one.1 in
+    let b = numbered numbers (node_at log.start log.calls q) one.0 one.2 in
+    (a.0, a.1, b.1 ∙ ap (λ node. Some node) (sym (differ a.0 b.0 a.1 b.1 (a.2 ∙ sym b.2))))
 
 -- paths that name one file have the same numbers
 pub one_number : (log : Option Log) (numbers : Node → ℕ × ℕ) (p q : List ℕ) → (l : Log) × (log ≡ Some l) → NameOneFile log p q → HaveOne (identity_by log numbers p) (identity_by log numbers q)
 one_number None numbers p q known one = let bad : None ≡ Some known.0 = known.1 in cc
 one_number (Some log) numbers p q known one =
     let number = λ (entry : Option Node). option_map (λ node. identity_of (numbers node)) entry in
-    (identity_of (numbers one.0), ap number one.1.0, ap number one.1.1)
+    (identity_of (numbers one.0), ap number one.1, ap number one.2)
 
 -- no link is there where none was found
 pub none_found : {X : Type 0} (link : Option (List ℕ)) (found : Option X) → found ≡ None → (IsNone found → link ≡ None) → link ≡ None

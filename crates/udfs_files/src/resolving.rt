@@ -45,7 +45,7 @@ fn serves<C: Calls, N: Watch>(
 }
 
 /// What is at a path.
-#[tactic(auto, using(crate::proofs::Leading::named_file, crate::proofs::Leading::no_file))]
+#[tactic(auto, using(crate::proofs::Leading::no_file))]
 fn what_is_at<C: Calls, N: Watch>(
     calls: &C,
     watch: &N,
