@@ -6,6 +6,8 @@ mod disagreements;
 mod disc_tallies;
 mod errors;
 mod figures;
+mod found_lines;
+mod found_list;
 mod guarantees;
 mod left_out;
 mod lost_found;
