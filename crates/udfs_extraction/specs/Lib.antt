@@ -6,6 +6,7 @@ pub mod SumLines
 pub mod Manifests
 pub mod LostFiles
 pub mod LostTrees
+pub mod LostPlaces
 pub mod Laws
 pub mod ShortNames
 pub mod Sparing

@@ -36,7 +36,7 @@ mod unread_lines;
 mod volume_lines;
 mod widenings;
 
-pub use disagreements::{push_anchors_text, push_apart};
+pub use disagreements::{has_room, push_anchors_text, push_apart};
 pub use disc_tallies::{DiscTally, UnnamedTally, count_disc, count_unnamed};
 pub use errors::PrintError;
 pub use figures::{push_grouped, push_percent, push_size};
