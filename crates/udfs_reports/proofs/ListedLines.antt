@@ -10,8 +10,8 @@ use Rattle.udfs_salvage.specs.Printing.{Stopped}
 use Rattle.udfs_salvage.specs.Reports.{Report, all_whole}
 use Rattle.udfs_salvage.specs.declared.errors.RunError.{RunError}
 use Rattle.udfs_overview.specs.NodeLists.{list_text}
-use Rattle.udfs_overview.specs.StorePrinting.{leaves_as}
-use Rattle.udfs_overview.specs.declared.errors.PrintError.TheVariants.{Unread}
+use Rattle.udfs_salvage.specs.StorePrinting.{leaves_as}
+use Rattle.udfs_salvage.specs.declared.errors.PrintError.TheVariants.{Unread}
 use Rattle.udfs_overview.specs.declared.node_list.ListForm.{ListForm}
 use Rattle.udfs_remarks.specs.NoReports.{run_refusal_of}
 use Rattle.udfs_common.specs.declared.refusal.Refusal.{Refusal}

@@ -8,8 +8,8 @@ use Rattle.std.specs.Prelude.{◌≡◌, ◌⊎◌, ℕ, Bool, List}
 use Rattle.udfs_lattice.specs.Tables.{IsTable, Table, state_of}
 use Rattle.udfs_reading.specs.Device.{Stream}
 use Rattle.udfs_overview.specs.NodeLists.{list_text}
-use Rattle.udfs_overview.specs.StorePrinting.{leaves_as}
-use Rattle.udfs_overview.specs.declared.errors.PrintError.TheVariants.{Unread}
+use Rattle.udfs_salvage.specs.StorePrinting.{leaves_as}
+use Rattle.udfs_salvage.specs.declared.errors.PrintError.TheVariants.{Unread}
 use Rattle.udfs_overview.specs.declared.node_list.ListForm.{ListForm}
 use Rattle.udfs_volume.specs.declared.profiles.Profile.{Profile}
 use Rattle.udfs_salvage.specs.Printing.{Stopped}
