@@ -1,6 +1,6 @@
 //! Known copies that do not say the same, as on a disc of several sessions, or one that was formatted twice.
 
-ghost use Rattle.std.specs.Prelude.{◌≡◌, ◌≢◌, ◌≤◌, ◌+◌, ◌/◌, IsTrue, None, find, option_map};
+ghost use Rattle.std.specs.Prelude.{◌≡◌, ◌≢◌, ◌≤◌, ◌+◌, ◌/◌, IfOk, IsTrue, None, OnErr, find, option_map};
 ghost use Rattle.std.specs.Borrow.{Bor};
 ghost use Rattle.udfs_lattice.specs.States.{fact_now};
 ghost use Rattle.udfs_lattice.specs.Tables.{state_of};
@@ -17,79 +17,117 @@ use crate::profiles::Profile;
 use crate::seen::Seen;
 use crate::sequences::{are_extents_by, shared};
 use std::alloc::Global;
-use udfs_lattice::{BlockTable, Fact};
+use udfs_lattice::{BlockStore, BlockTable, Fact, ReadFault};
 use udfs_tag::{Tag, identifiers};
 
 /// The bytes 16 to 31 of the anchor at a place, if it is known and valid there.
-fn named_at(table: &BlockTable, place: u32) -> Option<&[u8]>
-    ensures { option_map (λ bytes. bytes.now) result ≡ named_at (state_of table.now) place }
+fn named_at<'r, B: BlockStore>(
+    blocks: &'r B,
+    place: u32,
+    room: &'r mut [u8; 2048],
+) -> Result<Option<&'r [u8]>, ReadFault>
+    ensures value { IfOk result (λ named. B.tells → option_map (λ bytes. bytes.now) named ≡ named_at (B.states blocks.now) place) }
+    ensures fails { OnErr result B.fails }
 {
-    match table.state(place) {
+    match blocks.lend(place, room)? {
         Fact::Known(block) => {
             if Tag::is_valid(block, place, identifiers::ANCHOR) {
-                Some(&block[16..32])
+                Ok(Some(&block[16..32]))
             } else {
-                None
+                Ok(None)
             }
         }
-        _ => None,
+        _ => Ok(None),
     }
 }
 
 /// Whether there is a known, valid anchor at a place.
-fn has_anchor(table: &BlockTable, place: u32) -> bool
-    ensures { result ≡ has_anchor (state_of table.now) place }
+fn has_anchor<B: BlockStore>(blocks: &B, place: u32) -> Result<bool, ReadFault>
+    ensures value { IfOk result (λ has. B.tells → has ≡ has_anchor (B.states blocks.now) place) }
+    ensures fails { OnErr result B.fails }
 {
-    match named_at(table, place) {
-        Some(_) => true,
-        None => false,
+    let mut room = [0; 2048];
+    match named_at(blocks, place, &mut room)? {
+        Some(_) => Ok(true),
+        None => Ok(false),
     }
 }
 
 /// Whether there are known, valid anchors at two places, and they name different extents.
-fn anchors_differ(table: &BlockTable, one: u32, other: u32) -> bool
-    ensures { result ≡ anchors_differ (state_of table.now) one other }
+fn anchors_differ<B: BlockStore>(blocks: &B, one: u32, other: u32) -> Result<bool, ReadFault>
+    ensures value { IfOk result (λ differ. B.tells → differ ≡ anchors_differ (B.states blocks.now) one other) }
+    ensures fails { OnErr result B.fails }
 {
-    let Some(first) = named_at(table, one) else {
-        return false;
+    let mut first_room = [0; 2048];
+    let mut room = [0; 2048];
+    let Some(first) = named_at(blocks, one, &mut first_room)? else {
+        return Ok(false);
     };
-    match named_at(table, other) {
-        Some(second) => first != second,
-        None => false,
+    match named_at(blocks, other, &mut room)? {
+        Some(second) => Ok(first != second),
+        None => Ok(false),
     }
 }
 
 /// The first of these places that has a known, valid anchor.
-fn first_anchor_place(table: &BlockTable, places: &[u32]) -> Option<u32>
-    ensures { result ≡ find (has_anchor (state_of table.now)) places.now }
+fn first_anchor_place<B: BlockStore>(blocks: &B, places: &[u32]) -> Result<Option<u32>, ReadFault>
+    ensures value { IfOk result (λ place. B.tells → place ≡ find (has_anchor (B.states blocks.now)) places.now) }
+    ensures fails { OnErr result B.fails }
 {
     for place in places {
-        if has_anchor(table, *place) {
-            return Some(*place);
+        if has_anchor(blocks, *place)? {
+            return Ok(Some(*place));
         }
     }
-    None
+    Ok(None)
 }
 
 /// The first of these places whose anchor names other extents than the one at `one`.
-fn first_other(table: &BlockTable, one: u32, places: &[u32]) -> Option<u32>
-    ensures { result ≡ find (anchors_differ (state_of table.now) one) places.now }
+fn first_other<B: BlockStore>(
+    blocks: &B,
+    one: u32,
+    places: &[u32],
+) -> Result<Option<u32>, ReadFault>
+    ensures value { IfOk result (λ place. B.tells → place ≡ find (anchors_differ (B.states blocks.now) one) places.now) }
+    ensures fails { OnErr result B.fails }
 {
     for place in places {
-        if anchors_differ(table, one, *place) {
-            return Some(*place);
+        if anchors_differ(blocks, one, *place)? {
+            return Ok(Some(*place));
         }
     }
-    None
+    Ok(None)
 }
 
 /// The first of these places that has a known, valid anchor, and the first whose anchor names other extents.
-fn apart_in(table: &BlockTable, places: &[u32]) -> Option<(u32, u32)>
-    ensures { result ≡ apart_from (state_of table.now) places.now (find (has_anchor (state_of table.now)) places.now) }
+fn apart_in<B: BlockStore>(blocks: &B, places: &[u32]) -> Result<Option<(u32, u32)>, ReadFault>
+    ensures value { IfOk result (λ apart. B.tells → apart ≡ apart_from (B.states blocks.now) places.now (find (has_anchor (B.states blocks.now)) places.now)) }
+    ensures fails { OnErr result B.fails }
 {
-    let one = first_anchor_place(table, places)?;
-    let other = first_other(table, one, places)?;
-    Some((one, other))
+    let Some(one) = first_anchor_place(blocks, places)? else {
+        return Ok(None);
+    };
+    match first_other(blocks, one, places)? {
+        Some(other) => Ok(Some((one, other))),
+        None => Ok(None),
+    }
+}
+
+/// The same as [`anchors_apart`], by any store of blocks.
+///
+/// # Errors
+///
+/// `ReadFault` where the bytes of a known block could not be read. Nothing is told of the volume then.
+pub fn anchors_apart_by<B: BlockStore>(
+    blocks: &B,
+    last: u32,
+) -> Result<Option<(u32, u32)>, ReadFault>
+    requires from { 513 ≤ last }
+    requires to { last ≤ 4194303 }
+    ensures value { IfOk result (λ apart. B.tells → apart ≡ anchors_apart (B.states blocks.now) last) }
+    ensures fails { OnErr result B.fails }
+{
+    apart_in(blocks, &places(last))
 }
 
 /// Of the places of an anchor, the blocks 256, `last - 256` and `last`, the first that is known and valid there, and the first whose
@@ -102,7 +140,10 @@ pub fn anchors_apart(table: &BlockTable, last: u32) -> Option<(u32, u32)>
     ensures value { result ≡ anchors_apart (state_of table.now) last }
     ensures not_lawful { result ≢ None → (profile : Profile) → AgreesWithNoLayoutBy profile (state_of table.now) last }
 {
-    apart_in(table, &places(last))
+    match anchors_apart_by(table, last) {
+        Ok(apart) => apart,
+        Err(_) => unreachable!(),
+    }
 }
 
 /// Whether the layout is read from descriptors of this kind: partition descriptors and logical volume descriptors (ECMA-167 3/10.5,
