@@ -11,7 +11,7 @@ ghost use Rattle.udfs_volume.specs.Sequence.{anchor, goes_on, position};
 ghost use Rattle.udfs_volume.specs.Sequences.{descriptor_of};
 ghost use Rattle.udfs_volume.specs.Differences.{AgreesWithNoLayoutBy, AnchorsAgreeBy, CopiesAgreeBy, anchors_apart, anchors_differ, apart_from, contents_differ, copies_differ, differ_in, differs_known, has_anchor, known_differ, named_at, say_the_same};
 
-use crate::anchors::{AnchorExtents, anchor, places};
+use crate::anchors::{AnchorExtents, anchor_by, places};
 use crate::descriptors::behind;
 use crate::profiles::Profile;
 use crate::seen::Seen;
@@ -213,50 +213,96 @@ fn goes_on(block: &[u8; 2048], place: u32) -> bool
 
 /// Whether it is known to go on after a position, by the first of its copies that is known.
 #[tactic(auto, unfolding(crate::specs::Sequence::position))]
-fn goes_on_at(table: &BlockTable, main: u32, reserve: u32) -> bool
-    ensures { result ≡ goes_on (position (state_of table.now) main reserve) }
+fn goes_on_at<B: BlockStore>(blocks: &B, main: u32, reserve: u32) -> Result<bool, ReadFault>
+    ensures value { IfOk result (λ on. B.tells → on ≡ goes_on (position (B.states blocks.now) main reserve)) }
+    ensures fails { OnErr result B.fails }
 {
-    if let Fact::Known(block) = table.state(main) {
-        return goes_on(block, main);
+    let mut room = [0; 2048];
+    if let Fact::Known(block) = blocks.lend(main, &mut room)? {
+        return Ok(goes_on(block, main));
     }
-    match table.state(reserve) {
-        Fact::Known(block) => goes_on(block, reserve),
-        _ => false,
+    match blocks.lend(reserve, &mut room)? {
+        Fact::Known(block) => Ok(goes_on(block, reserve)),
+        _ => Ok(false),
     }
 }
 
+/// Whether the copies of a position are both known, and do not say the same.
+fn differ_at<B: BlockStore>(blocks: &B, main: u32, reserve: u32) -> Result<bool, ReadFault>
+    ensures value { IfOk result (λ differ. B.tells → differ ≡ known_differ (B.states blocks.now main) main (B.states blocks.now reserve) reserve) }
+    ensures fails { OnErr result B.fails }
+{
+    let mut main_room = [0; 2048];
+    let mut room = [0; 2048];
+    let one = blocks.lend(main, &mut main_room)?;
+    let other = blocks.lend(reserve, &mut room)?;
+    Ok(known_differ(one, main, other, reserve))
+}
+
 /// Whether the copies of a position that is known to be reached differ.
-fn differ_in(table: &BlockTable, extents: AnchorExtents) -> bool
+fn differ_in<B: BlockStore>(blocks: &B, extents: AnchorExtents) -> Result<bool, ReadFault>
     requires main { extents.main.block + extents.main.length / 2048 ≤ 4194304 }
     requires reserve { extents.reserve.block + extents.main.length / 2048 ≤ 4194304 }
-    ensures { result ≡ differ_in (state_of table.now) extents }
+    ensures value { IfOk result (λ differ. B.tells → differ ≡ differ_in (B.states blocks.now) extents) }
+    ensures fails { OnErr result B.fails }
 {
     for i in 0..extents.main.length / 2048 {
         let main = extents.main.block + i;
         let reserve = extents.reserve.block + i;
-        if known_differ(table.state(main), main, table.state(reserve), reserve) {
-            return true;
+        let differ = differ_at(blocks, main, reserve)?;
+        if differ {
+            return Ok(true);
         }
-        if !goes_on_at(table, main, reserve) {
-            return false;
+        let on = goes_on_at(blocks, main, reserve)?;
+        if !on {
+            return Ok(false);
         }
     }
-    false
+    Ok(false)
 }
 
 /// Whether copies differ in the extents of the anchor, where they are taken.
-fn differ_by(profile: Profile, table: &BlockTable, last: u32, seen: Seen<AnchorExtents>) -> bool
+fn differ_by<B: BlockStore>(
+    profile: Profile,
+    blocks: &B,
+    last: u32,
+    seen: Seen<AnchorExtents>,
+) -> Result<bool, ReadFault>
     requires to { last ≤ 4194303 }
-    requires value { Sees (λ extents. extents) seen (anchor (state_of table.now) last) }
-    requires memory { seen ≡ Seen.OutOfMemory → IsHoles (anchor (state_of table.now) last) }
-    ensures { result ≡ copies_differ profile (state_of table.now) last }
+    requires value { B.tells → Sees (λ extents. extents) seen (anchor (B.states blocks.now) last) }
+    requires memory { B.tells → seen ≡ Seen.OutOfMemory → IsHoles (anchor (B.states blocks.now) last) }
+    ensures value { IfOk result (λ differ. B.tells → differ ≡ copies_differ profile (B.states blocks.now) last) }
+    ensures fails { OnErr result B.fails }
 {
     match seen {
         Seen::Got(extents) => {
-            are_extents_by(profile, last, extents) && differ_in(table, shared(extents))
+            if !are_extents_by(profile, last, extents) {
+                return Ok(false);
+            }
+            differ_in(blocks, shared(extents))
         }
-        _ => false,
+        _ => Ok(false),
     }
+}
+
+/// The same as [`copies_differ`], by any store of blocks.
+///
+/// # Errors
+///
+/// `ReadFault` where the bytes of a known block could not be read. Nothing is told of the volume then.
+pub fn copies_differ_by<B: BlockStore>(
+    alloc: Global,
+    blocks: &B,
+    last: u32,
+    profile: Profile,
+) -> Result<bool, ReadFault>
+    requires from { 513 ≤ last }
+    requires to { last ≤ 4194303 }
+    ensures value { IfOk result (λ differ. B.tells → differ ≡ copies_differ profile (B.states blocks.now) last) }
+    ensures fails { OnErr result B.fails }
+{
+    let seen = anchor_by(alloc, blocks, last)?;
+    differ_by(profile, blocks, last, seen)
 }
 
 /// Whether a block of the main sequence and its copy in the reserve one are both known, and do not say the same, up to the position that
@@ -269,7 +315,10 @@ pub fn copies_differ(alloc: Global, table: &BlockTable, last: u32, profile: Prof
     ensures value { result ≡ copies_differ profile (state_of table.now) last }
     ensures not_lawful { IsTrue result → AgreesWithNoLayoutBy profile (state_of table.now) last }
 {
-    differ_by(profile, table, last, anchor(alloc, table, last))
+    match copies_differ_by(alloc, table, last, profile) {
+        Ok(differ) => differ,
+        Err(_) => unreachable!(),
+    }
 }
 
 /// The known anchors of a volume whose layout is lawful name the same extents.
