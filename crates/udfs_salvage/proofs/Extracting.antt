@@ -20,6 +20,9 @@ use Rattle.udfs_salvage.specs.Found.{Found}
 use Rattle.udfs_salvage.specs.WalkedNodes.{AreNodesFrom}
 use Rattle.udfs_salvage.specs.Reports.{Report, IsReportBy, ReportsBy, ReportsNodes}
 use Rattle.udfs_salvage.specs.Extraction.{Extracts, HasCellsInBy, is_offered}
+use Rattle.udfs_salvage.specs.StoreExtraction.{StoreExtracts}
+use Rattle.udfs_salvage.specs.declared.extraction.StoreExtractError.{StoreExtractError}
+use Rattle.udfs_salvage.specs.declared.extraction.StoreExtractError.TheVariants.{Extract, Unread}
 use Rattle.udfs_salvage.specs.declared.extraction.Fill.{Fill}
 use Rattle.udfs_salvage.specs.declared.extraction.ExtractError.{ExtractError}
 use Rattle.udfs_salvage.specs.declared.extraction.ExtractError.TheVariants.{NotWhole, Write, OutOfMemory}
@@ -73,6 +76,14 @@ not_refused a b bytes (Ok x) h e = absurd (let z : ⊥ = cc in z)
 not_refused a b bytes (Err NotWhole) h e = h
 not_refused a b bytes (Err Write) h e = absurd (let z : ⊥ = cc in z)
 not_refused a b bytes (Err OutOfMemory) h e = absurd (let z : ⊥ = cc in z)
+
+-- the same of a store's
+pub store_not_refused : {X : Type 0} (a b : Stream) (bytes : List ℕ) (r : Result X StoreExtractError) → StoreExtracts a b bytes r → IsErrOf r (Extract NotWhole) → ⊥
+store_not_refused a b bytes (Ok x) h e = absurd (let z : ⊥ = cc in z)
+store_not_refused a b bytes (Err (Extract NotWhole)) h e = h
+store_not_refused a b bytes (Err (Extract Write)) h e = absurd (let z : ⊥ = cc in z)
+store_not_refused a b bytes (Err (Extract OutOfMemory)) h e = absurd (let z : ⊥ = cc in z)
+store_not_refused a b bytes (Err Unread) h e = absurd (let z : ⊥ = cc in z)
 
 -- what holds where there is none
 pub if_none : {A P : Type 0} (Q : A → Type 0) (o : Option A) → o ≡ None → MatchOption o P Q → P
