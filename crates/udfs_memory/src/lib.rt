@@ -14,6 +14,8 @@ mod memory;
 mod memory_calls;
 mod modified;
 mod spelling;
+#[cfg(test)]
+mod tests;
 
 pub use descriptor::MemoryDescriptor;
 pub use devices::{Device, MemoryFile, MemoryImage, MemoryInput, MemoryStored, SOUND};
