@@ -2,11 +2,10 @@
 --     is_plain path           it is spelled in full: it begins with a slash, or with `./`, or is `.`
 --     spelled path            the path, spelled in full
 --     is_short path           it is relative, and not spelled in full
-use Rattle.std.proofs.Common.{refl, sym, ◌∙◌, ap, subst, inl, inr, ⊎_elim, ne_eqb}
+use Rattle.std.proofs.Common.{refl, sym, ◌∙◌, ap, subst, inl, inr, ⊎_elim}
 use Rattle.std.proofs.Math.Seq.{take-append_seam}
 use Rattle.std.proofs.lemmas.Bool.{cases_Bool, cond-true, cond-false, eqb-true}
 use Rattle.std.proofs.lemmas.Slice.Eq.{bytes_eq-Decides}
-use Rattle.std.specs.Io.{StartsWith}
 use Rattle.std.specs.Prelude.{◌≡◌, ◌≢◌, ◌⊎◌, ℕ, Bool, true, false, List, [], ◌∷◌, ◌++◌, length, take, if◌then◌else◌, bytes_eq, codes, nat_eq, suc}
 use Rattle.udfs_calls.specs.Paths.{IsDevice, IsPart, folder_of, folder_path, has_slash, joined, last, parent}
 

@@ -6,7 +6,7 @@
 --     numbers node                    the numbers of a file's device and of the file on it
 use Rattle.std.proofs.Common.{refl, sym, ◌∙◌, ap, subst, inl, inr, ⊎_elim, arith}
 use Rattle.std.proofs.lemmas.Bool.{cases_Bool, cond-true, cond-false, eq-eqb, eqb-true}
-use Rattle.std.specs.Coded.{Coded, Coded-set, code_by, coded_bool, coded_list, coded_option, coded_ℕ, coded×, Π_prop, →_prop, ×_prop, le_prop}
+use Rattle.std.specs.Coded.{Coded, Coded-set, code_by, coded_list, coded_option, coded_ℕ, coded×, Π_prop, →_prop, ×_prop, le_prop}
 use Rattle.std.specs.Prelude.{◌≡◌, ◌⊎◌, ℕ, ◌+◌, ◌≤◌, ◌<◌, ◌-◌, ◌^◌, Bool, true, false, List, [], ◌∷◌, length, Option, Some, None, if◌then◌else◌, bytes_eq, nat_eq}
 use Rattle.udfs_calls.specs.Lawful.{IsLawful, can_follow}
 use Rattle.udfs_calls.specs.Log.{Call, Node, Start, is_created, new_content, node_at}
