@@ -103,7 +103,7 @@ left_out_html g called last =
 unfoldable pub steps_html : GivenWords → CalledWords → Profile → Table → ℕ → Report → List ℕ
 steps_html g called rules table last r = again_html g called rules table last r r.reread ++ files_steps g r.volume rules last
 
--- the one or the other
+-- what to do by these rules; or by the wide ones, where they write files that are left out
 unfoldable pub advice_html : GivenWords → CalledWords → Profile → Table → ℕ → Report → List ℕ
 advice_html g called rules table last r = cond (wide_writes r.nodes) (left_out_html g called last) (steps_html g called rules table last r)
 

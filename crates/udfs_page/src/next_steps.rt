@@ -401,7 +401,7 @@ fn push_steps(
     push_files_steps(alloc, text, given, survey)
 }
 
-/// The one or the other.
+/// What to do by these rules; or by the wide ones, where they write files that are left out.
 #[tactic(auto, unfolding(crate::specs::NextSteps::advice_html))]
 fn push_advice(
     alloc: Global,

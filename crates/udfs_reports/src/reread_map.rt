@@ -7,7 +7,7 @@ ghost use Rattle.udfs_rescue.specs.Writing.{domain_text};
 ghost use Rattle.udfs_salvage.specs.Texts.{line};
 ghost use Rattle.udfs_common.specs.Puts.{PutFails, PutsAs};
 ghost use Rattle.udfs_common.specs.Refusing.{IsUnput};
-ghost use Rattle.udfs_reports.specs.Rereading.{blocks_words, runs_words, IsMap, IsMapFree, IsMapOf, IsMapSpared, IsMapUnseen, IsRefusedDomain, MapRefused, breaks, domain_line, group_words, known_words, runs_in, wanted_words};
+ghost use Rattle.udfs_reports.specs.Rereading.{IsMap, IsMapFree, IsMapOf, IsMapSpared, IsMapUnseen, IsRefusedDomain, MapRefused, blocks_words, breaks, domain_line, group_words, known_words, runs_in, runs_words, wanted_words};
 
 use crate::comparing::{Asked, asked_in};
 use crate::paths::listed_for;
