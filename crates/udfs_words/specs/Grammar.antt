@@ -109,9 +109,13 @@ unnamed_rule = option_rule (codes "unnamed") false
 abbrev pub lost_rule : Rule
 lost_rule = option_rule (codes "lost") false
 
+-- which files `extract` writes, and where: `--to DIR [--fill] [--only PATH]... [--manifest FILE]`
+abbrev pub with_files : App → App
+with_files command = with_rule (with_rule (with_rule (with_rule command (value_rule (codes "to"))) (flag_rule (codes "fill"))) only_rule) manifest_rule
+
 -- `extract (--last N | --size BYTES | --size-of MAPFILE) [--profile PROFILE] --to DIR [--fill] [--only PATH]... [--manifest FILE] [--unnamed DIR] [--lost DIR] [--deleted] [--times] [--short-names] [--force] IN...`
 abbrev pub extract_app : Given → App
-extract_app given = with_inputs (with_rule (with_rule (with_rule (with_rule (with_rule (with_rule (with_rule (with_rule (with_rule (with_rule (with_profile (codes "extract") given.needs_last) (value_rule (codes "to"))) (flag_rule (codes "fill"))) only_rule) manifest_rule) unnamed_rule) lost_rule) (flag_rule (codes "deleted"))) (flag_rule (codes "times"))) (flag_rule (codes "short-names"))) (flag_rule (codes "force"))) given.pairs
+extract_app given = with_inputs (with_rule (with_rule (with_rule (with_rule (with_rule (with_rule (with_files (with_profile (codes "extract") given.needs_last)) unnamed_rule) lost_rule) (flag_rule (codes "deleted"))) (flag_rule (codes "times"))) (flag_rule (codes "short-names"))) (flag_rule (codes "force"))) given.pairs
 
 -- `forget --out FILE (--conflicts | --blocks LIST)... [--force] IN...`
 abbrev pub forget_app : Given → App
@@ -121,9 +125,13 @@ forget_app given = with_inputs (with_rule (with_rule (with_rule (with_rule (new_
 abbrev pub null_rule : Rule
 null_rule = letter_rule (codes "null") 48
 
+-- which lines `list` prints, and in which form: `[--torn] [--null] [--paths] [--header] [--json]`
+abbrev pub with_shape : App → App
+with_shape command = with_rule (with_rule (with_rule (with_rule (with_rule command (flag_rule (codes "torn"))) null_rule) (flag_rule (codes "paths"))) (flag_rule (codes "header"))) (flag_rule (codes "json"))
+
 -- `list [--torn] [--null] [--paths] [--header] [--json] [--lost] [--deleted] [--force] (--last N | --size BYTES | --size-of MAPFILE) [--profile PROFILE] IN...`
 abbrev pub list_app : Given → App
-list_app given = with_inputs (with_rule (with_rule (with_rule (with_rule (with_rule (with_rule (with_rule (with_rule (with_profile (codes "list") given.needs_last) (flag_rule (codes "torn"))) null_rule) (flag_rule (codes "paths"))) (flag_rule (codes "header"))) (flag_rule (codes "json"))) (flag_rule (codes "lost"))) (flag_rule (codes "deleted"))) (flag_rule (codes "force"))) given.pairs
+list_app given = with_inputs (with_rule (with_rule (with_rule (with_shape (with_profile (codes "list") given.needs_last)) (flag_rule (codes "lost"))) (flag_rule (codes "deleted"))) (flag_rule (codes "force"))) given.pairs
 
 -- `summary (--last N | --size BYTES | --size-of MAPFILE) [--profile PROFILE] [--json] [--force] IN...`
 abbrev pub summary_app : Given → App

@@ -4,7 +4,7 @@ ghost use Rattle.std.specs.Prelude.{◌≡◌, IfOk, codes, map};
 ghost use Rattle.std.specs.String.{string_bytes};
 ghost use Rattle.udfs_words.specs.Obeying.{given_in, is_given, names};
 ghost use Rattle.clap.specs.Words.{app_of, new_app, with_subcommand};
-ghost use Rattle.udfs_words.specs.Grammar.{extract_app, forget_app, image_app, list_app, merge_app, page_app, program, program_app, report_app, reread_app, summary_app, with_end, with_inputs};
+ghost use Rattle.udfs_words.specs.Grammar.{extract_app, forget_app, image_app, list_app, merge_app, page_app, program, program_app, report_app, reread_app, summary_app, with_end, with_files, with_inputs, with_shape};
 
 use crate::arguments::{
     blocks, disc_size, domain, flag, folder, force, group, image_file, image_map, inputs, joining,
@@ -262,12 +262,11 @@ fn bare_extract<'a>(alloc: Global) -> Command<'a>
         )
 }
 
-/// `extract (--last N | --size BYTES | --size-of MAPFILE) [--profile PROFILE] --to DIR [--fill] [--only PATH]... [--manifest FILE] [--unnamed DIR] [--lost DIR] [--deleted] [--times] [--short-names] [--force] IN...`
-fn extract<'a>(alloc: Global, given: Given) -> Result<Command<'a>, AllocError>
-    ensures { IfOk result (λ command. app_of command ≡ extract_app given) }
+/// What says which files `extract` writes, and where.
+fn with_files<'a>(alloc: Global, command: Command<'a>) -> Result<Command<'a>, AllocError>
+    ensures { IfOk result (λ whole. app_of whole ≡ with_files (app_of command.entry)) }
 {
-    let command = with_end(alloc, bare_extract(alloc), given.needs_last)?
-        .arg(profile(alloc))?
+    command
         .arg(folder(alloc))?
         .arg(flag(
             alloc,
@@ -278,7 +277,15 @@ fn extract<'a>(alloc: Global, given: Given) -> Result<Command<'a>, AllocError>
             alloc,
             "Write only this file or folder, by its path{n}as report prints it",
         ))?
-        .arg(manifest(alloc))?
+        .arg(manifest(alloc))
+}
+
+/// `extract (--last N | --size BYTES | --size-of MAPFILE) [--profile PROFILE] --to DIR [--fill] [--only PATH]... [--manifest FILE] [--unnamed DIR] [--lost DIR] [--deleted] [--times] [--short-names] [--force] IN...`
+fn extract<'a>(alloc: Global, given: Given) -> Result<Command<'a>, AllocError>
+    ensures { IfOk result (λ command. app_of command ≡ extract_app given) }
+{
+    let command = with_end(alloc, bare_extract(alloc), given.needs_last)?.arg(profile(alloc))?;
+    let command = with_files(alloc, command)?
         .arg(lost_folder(alloc))?
         .arg(lost_trees(alloc))?
         .arg(flag(alloc, DELETED, "With --lost: write deleted ones there too"))?
@@ -320,17 +327,24 @@ fn bare_list<'a>(alloc: Global) -> Command<'a>
         .override_usage("udfsalvage list [OPTIONS] [--last <N> | --size <BYTES>] <IN>...")
 }
 
-/// `list [--torn] [--null] [--paths] [--header] [--json] [--lost] [--deleted] [--force] (--last N | --size BYTES | --size-of MAPFILE) [--profile PROFILE] IN...`
-fn list<'a>(alloc: Global, given: Given) -> Result<Command<'a>, AllocError>
-    ensures { IfOk result (λ command. app_of command ≡ list_app given) }
+/// Which lines `list` prints, and in which form.
+fn with_shape<'a>(alloc: Global, command: Command<'a>) -> Result<Command<'a>, AllocError>
+    ensures { IfOk result (λ whole. app_of whole ≡ with_shape (app_of command.entry)) }
 {
-    let command = with_end(alloc, bare_list(alloc), given.needs_last)?
-        .arg(profile(alloc))?
+    command
         .arg(flag(alloc, TORN, "Leave out what is whole"))?
         .arg(null(alloc))?
         .arg(flag(alloc, PATHS, "Print the paths alone"))?
         .arg(flag(alloc, HEADER, "Print a first line with the columns' names"))?
-        .arg(flag(alloc, JSON, "Print each line as a JSON object"))?
+        .arg(flag(alloc, JSON, "Print each line as a JSON object"))
+}
+
+/// `list [--torn] [--null] [--paths] [--header] [--json] [--lost] [--deleted] [--force] (--last N | --size BYTES | --size-of MAPFILE) [--profile PROFILE] IN...`
+fn list<'a>(alloc: Global, given: Given) -> Result<Command<'a>, AllocError>
+    ensures { IfOk result (λ command. app_of command ≡ list_app given) }
+{
+    let command = with_end(alloc, bare_list(alloc), given.needs_last)?.arg(profile(alloc))?;
+    let command = with_shape(alloc, command)?
         .arg(flag(
             alloc,
             LOST,

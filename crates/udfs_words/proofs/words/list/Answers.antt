@@ -1,19 +1,15 @@
-use Rattle.std.proofs.Common.{refl, ap₂, ◌∙◌}
+use Rattle.std.proofs.Common.{refl, ap, ap₂, ◌∙◌}
 use Rattle.std.proofs.lemmas.Result.{IfOk-weaker}
 use Rattle.clap.specs.Words.{with_rule}
-use Rattle.udfs_words.specs.Grammar.{with_end, with_inputs}
+use Rattle.udfs_words.specs.Grammar.{with_end, with_inputs, with_shape}
 use Rattle.udfs_words.proofs.words.list.Goals as goal
 
 pub returns : goal.returns
 returns c =
     let two = c.in_ok-with_end.ensures ∙ ap₂ with_end c.bare_list.ensures refl in
-    let three = c.in_ok-arg.ensures.shape c.profile.ensures.1 ∙ ap₂ with_rule two c.profile.ensures.0 in
-    let four = c.in_ok-arg-2.ensures.shape c.flag.ensures.1 ∙ ap₂ with_rule three c.flag.ensures.0 in
-    let five = c.in_ok-arg-3.ensures.shape c.null.ensures.1 ∙ ap₂ with_rule four c.null.ensures.0 in
-    let six = c.in_ok-arg-4.ensures.shape c.flag-2.ensures.1 ∙ ap₂ with_rule five c.flag-2.ensures.0 in
-    let seven = c.in_ok-arg-5.ensures.shape c.flag-3.ensures.1 ∙ ap₂ with_rule six c.flag-3.ensures.0 in
-    let eight = c.in_ok-arg-6.ensures.shape c.flag-4.ensures.1 ∙ ap₂ with_rule seven c.flag-4.ensures.0 in
-    let nine = c.in_ok-arg-7.ensures.shape c.flag-5.ensures.1 ∙ ap₂ with_rule eight c.flag-5.ensures.0 in
-    let ten = c.in_ok-arg-8.ensures.shape c.flag-6.ensures.1 ∙ ap₂ with_rule nine c.flag-6.ensures.0 in
-    let eleven = c.in_ok-command.ensures.shape c.joining.ensures.1 ∙ ap₂ with_rule ten c.joining.ensures.0 in
+    let three = c.in_ok-command.ensures.shape c.profile.ensures.1 ∙ ap₂ with_rule two c.profile.ensures.0 in
+    let four = c.in_ok-with_shape.ensures ∙ ap with_shape three in
+    let nine = c.in_ok-arg.ensures.shape c.flag.ensures.1 ∙ ap₂ with_rule four c.flag.ensures.0 in
+    let ten = c.in_ok-arg-2.ensures.shape c.flag-2.ensures.1 ∙ ap₂ with_rule nine c.flag-2.ensures.0 in
+    let eleven = c.in_ok-command-2.ensures.shape c.joining.ensures.1 ∙ ap₂ with_rule ten c.joining.ensures.0 in
     IfOk-weaker c.with_inputs.result _ _ (λ m h. h ∙ ap₂ with_inputs eleven refl) c.with_inputs.ensures
