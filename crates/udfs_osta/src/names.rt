@@ -176,18 +176,18 @@ fn fault_behind(kind: u8, count: usize) -> Option<NameFault>
     None
 }
 
-/// Each byte as a unit.
+/// Each byte as a unit. Memory is taken once, for all of them.
 fn single_units(alloc: Global, bytes: &[u8]) -> Result<Vec<u16>, AllocError>
     ensures { IfOk result (λ units. units.items ≡ bytes.now) }
 {
     let mut units = Vec::with_capacity(alloc, bytes.len())?;
     for byte in bytes {
-        units.push(u16::from(*byte))?;
+        units.push_reserved(u16::from(*byte));
     }
     Ok(units)
 }
 
-/// Each two bytes as a unit, the high byte first.
+/// Each two bytes as a unit, the high byte first. Memory is taken once, for all of them.
 fn double_units(alloc: Global, bytes: &[u8]) -> Result<Vec<u16>, AllocError>
     ensures { IfOk result (λ units. units.items ≡ pair_units bytes.now) }
 {
@@ -195,7 +195,7 @@ fn double_units(alloc: Global, bytes: &[u8]) -> Result<Vec<u16>, AllocError>
     let mut rest = bytes;
     while rest.len() >= 2 {
         let (pair, others) = rest.split_at(2);
-        units.push(u16::from(pair[0]) * 256 + u16::from(pair[1]))?;
+        units.push_reserved(u16::from(pair[0]) * 256 + u16::from(pair[1]));
         rest = others;
     }
     Ok(units)

@@ -234,7 +234,8 @@ pub fn full_nodes_by<B: BlockStore>(
 {
     let mut full = Vec::with_capacity(alloc, bare.len())?;
     for node in bare {
-        full.push(full_node(alloc, view, node)?)?;
+        let node = full_node(alloc, view, node)?;
+        full.push_reserved(node);
     }
     Ok(full)
 }
@@ -277,7 +278,8 @@ pub fn full_entries_by<B: BlockStore>(
 {
     let mut full = Vec::with_capacity(alloc, bare.len())?;
     for entry in bare {
-        full.push(full_entry(alloc, view, entry)?)?;
+        let entry = full_entry(alloc, view, entry)?;
+        full.push_reserved(entry);
     }
     Ok(full)
 }

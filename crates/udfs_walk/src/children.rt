@@ -50,7 +50,8 @@ pub(crate) fn shared_entries(
     }
     let mut children = Vec::with_capacity(alloc, entries.len())?;
     for entry in entries {
-        children.push(shared_entry(alloc, entry)?)?;
+        let child = shared_entry(alloc, entry)?;
+        children.push_reserved(child);
     }
     let children = Rc::new(alloc, children)?;
     Ok(Some(children))
