@@ -1,6 +1,6 @@
 //! An image and its mapfile are judged before a block is read.
 
-ghost use Rattle.std.specs.Prelude.{◌≡◌, ℕ, ◌+◌, ◌*◌, ◌≤◌, length, OnOk, IfOk, IfErr, IfSome};
+ghost use Rattle.std.specs.Prelude.{◌≡◌, ℕ, ◌+◌, ◌*◌, ◌≤◌, length, OnOk, IfOk, IfErr, IfSome, IsErrOf};
 ghost use Rattle.udfs_rescue.specs.Opening.{AreKnownOf, IsReadingOf, PairFails};
 ghost use Rattle.udfs_pairs.specs.Told.{AreInside, HasSize};
 
@@ -20,6 +20,8 @@ const FAILED: PairFault = PairFault::Reading(ReadingError {
 fn known_of<M: Source>(alloc: Global, map: &mut M) -> Result<KnownBlocks, PairFault>
     ensures known { IfOk result (λ known. AreKnownOf (M.remaining map.old) known) }
     ensures fails { IfErr result (λ e. (image : _) → PairFails image (M.remaining map.old) e) }
+    ensures kept { OnOk result (M.faults map.new ≡ M.faults map.old) }
+    ensures memory { IsErrOf result PairFault.OutOfMemory → M.faults map.new ≡ M.faults map.old }
 {
     let map = match Mapfile::read(alloc, map) {
         Ok(map) => map,
@@ -66,6 +68,9 @@ where
     S: Drop,
     ensures reading { IfOk result (λ pair. IsReadingOf (S.content image) (M.remaining map.old) (⟦<StoredPair<S> as Stored>⟧.content pair)) }
     ensures fails { IfErr result (λ e. PairFails (S.content image) (M.remaining map.old) e) }
+    // The mapfile's device has not failed; nor has it where memory is said to be wanting.
+    ensures kept { OnOk result (M.faults map.new ≡ M.faults map.old) }
+    ensures memory { IsErrOf result PairFault.OutOfMemory → M.faults map.new ≡ M.faults map.old }
 {
     let known = match known_of(alloc, map) {
         Ok(known) => known,

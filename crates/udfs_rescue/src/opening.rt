@@ -1,6 +1,6 @@
 //! An image and its mapfile are judged before a block is read.
 
-ghost use Rattle.std.specs.Prelude.{◌≡◌, ◌≢◌, ◌⊎◌, ◌↔◌, ℕ, ◌+◌, ◌*◌, ◌≤◌, length, OnOk, IfOk, IfErr, IfSome, IsErrAnd};
+ghost use Rattle.std.specs.Prelude.{◌≡◌, ◌≢◌, ◌⊎◌, ◌↔◌, ℕ, ◌+◌, ◌*◌, ◌≤◌, length, OnOk, IfOk, IfErr, IfSome, IsErrAnd, IsErrOf};
 ghost use Rattle.std.specs.Io.KnownBytes.{Keeps};
 ghost use Rattle.udfs_reading.specs.declared.error.ReadingFault.TheVariants.{Io};
 ghost use Rattle.udfs_rescue.specs.Known.{InRanges};
@@ -37,6 +37,8 @@ const FAILED: PairFault = PairFault::Reading(ReadingError {
 fn known_of<M: Source>(alloc: Global, map: &mut M) -> Result<KnownBlocks, PairFault>
     ensures known { IfOk result (λ known. AreKnownOf (M.remaining map.old) known) }
     ensures fails { IfErr result (λ e. (image : _) → PairFails image (M.remaining map.old) e) }
+    ensures kept { OnOk result (M.faults map.new ≡ M.faults map.old) }
+    ensures memory { IsErrOf result PairFault.OutOfMemory → M.faults map.new ≡ M.faults map.old }
 {
     let map = match Mapfile::read(alloc, map) {
         Ok(map) => map,
@@ -86,6 +88,9 @@ where
     // It has no fault, and its table knows exactly these blocks, with the image's bytes.
     ensures table { IfOk result (λ pair. IsTableOfPair (I.bytes image) (M.remaining map.old) (⟦<Pair<I> as Source>⟧.remaining pair)) }
     ensures fails { IfErr result (λ e. PairFails (I.bytes image) (M.remaining map.old) e) }
+    // The mapfile's device has not failed; nor has it where memory is said to be wanting.
+    ensures kept { OnOk result (M.faults map.new ≡ M.faults map.old) }
+    ensures memory { IsErrOf result PairFault.OutOfMemory → M.faults map.new ≡ M.faults map.old }
 {
     let known = match known_of(alloc, map) {
         Ok(known) => known,
