@@ -2,6 +2,8 @@ mod PutNodes
 mod ExtractLemmas
 mod DigestLemmas
 mod ManifestLemmas
+mod RunLemmas
+mod FolderLemmas
 pub mod LostLemmas
 mod TreeLemmas
 mod FoundLemmas

@@ -5,7 +5,8 @@
 --     IsIn folder q                    a path below a folder by escaped names
 --     Spares folder held               nothing outside of the folder changes, nor any file that was there
 --     IsSafe .. path bytes             a path holds these bytes, and since some moment each crash leaves them
---     IsPut, IsPutAt .. index node fate    what the fate of a node says of its file
+--     IsPutBy .. Stands index node fate    what the fate of a node says of its file, where `Stands` says it of a path and bytes
+--     IsPut, IsPutAt .. index node fate    the same, where each crash since some moment leaves the file
 --     SparesNodes                      no file that was there changes, nor anything outside of the folder, whatever crashes
 --     Puts                             nodes from the first after the root on, with their fates and lines
 --     IsDone only P index node fate    this holds of a node that is asked for, and any other is passed over
@@ -133,13 +134,16 @@ pub record IsSafe (holds : List ℕ → Option (Option (List ℕ))) (moment : �
   pub past : since ≤ moment
   pub durable : (c : Disk) → left_since since c → c path ≡ Some bytes
 
--- A file reported as written is at its path, or with short names its place, with exactly the bytes of the node at this index, where the nodes are those from some root; nothing fails but for a fault.
-pub record IsPut (tells fails : Type 0) (table : Table) (report : Report) (fill : Fill) (short : Bool) (folder : List ℕ) (holds : List ℕ → Option (Option (List ℕ))) (moment : ℕ) (left_since : ℕ → Disk → Type 0)
-    (index : ℕ) (n : NodeFields) (fate : Fate) : Type 0 where
+-- A file reported as written stands at its path, or with short names its place, with exactly the bytes of the node at this index, where the nodes are those from some root; nothing fails but for a fault.
+pub record IsPutBy (tells fails : Type 0) (table : Table) (report : Report) (fill : Fill) (short : Bool) (folder : List ℕ) (Stands : List ℕ → List ℕ → Type 0) (index : ℕ) (n : NodeFields) (fate : Fate) : Type 0 where
   pub done : IsFateOf (deed n.kind n.standing n.size fill) fate
   pub written : fate ≡ Written → tells → (f : Found) (root : LongAd) → AreNodesFrom (state_of table) f root report → (cs : List Cell) × HasCellsAt (view (state_of table) f.space) root index cs
-      × IsSafe holds moment left_since (path_below folder (placed short report index n)) (filled (fill_byte fill) cs)
+      × Stands (path_below folder (placed short report index n)) (filled (fill_byte fill) cs)
   pub failed : is_good fate ≡ false → (f : Found) (root : LongAd) → AreNodesFrom (state_of table) f root report → fails
+
+-- the same, where each crash since some moment leaves the file
+abbrev pub IsPut : (tells fails : Type 0) → Table → Report → Fill → Bool → List ℕ → (List ℕ → Option (Option (List ℕ))) → ℕ → (ℕ → Disk → Type 0) → ℕ → NodeFields → Fate → Type 0
+IsPut tells fails table report fill short folder holds moment left_since = IsPutBy tells fails table report fill short folder (IsSafe holds moment left_since)
 
 -- the same at some moment
 abbrev pub IsPutAt : {F I M S W : Type 0} → Ghosts F I M S W → (W → Stream) → F → Table → Report → Fill → Bool → List ℕ → ℕ → NodeFields → Fate → Type 0

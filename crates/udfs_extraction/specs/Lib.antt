@@ -4,6 +4,7 @@ pub mod Extracting
 pub mod Digests
 pub mod SumLines
 pub mod Manifests
+pub mod Runs
 pub mod LostFiles
 pub mod LostTrees
 pub mod Laws

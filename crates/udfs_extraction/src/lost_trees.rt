@@ -12,7 +12,7 @@ ghost use Rattle.udfs_extraction.specs.LostTrees.{AreLostOf, IsTreePut, PutsTree
 ghost use Rattle.udfs_extraction.specs.Refused.{TreesStop};
 
 use crate::fate_remarks::{Totals, remark_on_fate};
-use crate::node_files::{node_at, put_node};
+use crate::node_files::{name_file, node_at, path_in, put_node};
 use crate::nodes::{Fate, is_all_good, put_nodes, still_good};
 use crate::places::first_place;
 use crate::short_names::push_icb_number;
@@ -80,26 +80,25 @@ fn put_first<F: Files, O: Sink>(
     let spare = Spare::new();
     let target = first_place(alloc, listing, short)?;
     let place = target.text.as_str();
+    let path = path_in(alloc, folder, place)?;
+    let path = path.as_str();
     let done = put_node(
         alloc,
         listing,
         0,
         Fill::Refuse,
         false,
-        folder,
-        place,
+        path,
         &spare,
         files,
     )?;
+    let fate = name_file(path, done.fate, files);
     let node = node_at(listing, 0);
-    let heard = tell(alloc, true, done.fate, word, &node.path, &target.own, out)?;
+    let heard = tell(alloc, true, fate, word, &node.path, &target.own, out)?;
     let mut totals = Totals::new();
-    remark_on_fate(alloc, listing, word, node, done.fate, &mut totals, files);
-    set_written_time(alloc, word, node, done.fate, folder, place, times, files);
-    Ok(First {
-        fate: done.fate,
-        heard,
-    })
+    remark_on_fate(alloc, listing, word, node, fate, &mut totals, files);
+    set_written_time(alloc, word, node, fate, folder, place, times, files);
+    Ok(First { fate, heard })
 }
 
 /// Makes the folder of a tree, whose nodes are those of this listing, and what is in it; or writes the lost file that is all of it. Where the output fails, no more

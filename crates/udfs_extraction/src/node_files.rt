@@ -1,6 +1,6 @@
 //! The folders and files of nodes: each is made, or a file is written, or nothing.
 
-ghost use Rattle.std.specs.Prelude.{◌≡◌, ◌≢◌, ◌<◌, ◌⊎◌, ◌++◌, ℕ, Bool, true, List, [], Some, IfOk, length, slice_get, None, map, string_bytes};
+ghost use Rattle.std.specs.Prelude.{◌≡◌, ◌≢◌, ◌<◌, ◌⊎◌, ◌++◌, ℕ, Bool, false, true, List, [], Some, IfOk, length, slice_get, None, map, string_bytes};
 ghost use Rattle.std.specs.Io.KnownBytes.{Appends};
 ghost use Rattle.udfs_file.specs.declared.cells.Cell.{Cell};
 ghost use Rattle.udfs_files.specs.Disk.{Same, SameBut, Goes, Fails, SinkFails};
@@ -12,10 +12,10 @@ ghost use Rattle.udfs_salvage.specs.declared.extraction.ExtractError.TheVariants
 ghost use Rattle.udfs_tree.specs.Cells.{HasCellsAt};
 ghost use Rattle.udfs_salvage.specs.Extraction.{fill_byte, filled, is_offered};
 ghost use Rattle.udfs_salvage.specs.Found.{Found, volume_now};
-ghost use Rattle.udfs_salvage.specs.NodeTexts.{names_text};
 ghost use Rattle.udfs_salvage.specs.Listings.{full_in, listing_now};
 ghost use Rattle.udfs_salvage.specs.WalkedNodes.{AreNodesFrom};
-ghost use Rattle.udfs_extraction.specs.Extracting.{IsDone, IsFateOf, IsIn, IsPutAt, Spares, Stay, deed, path_below};
+ghost use Rattle.udfs_extraction.specs.Extracting.{IsDone, IsFateOf, IsIn, Spares, Stay, deed, path_below};
+ghost use Rattle.udfs_extraction.specs.Runs.{IsEnd, IsHeldAt};
 ghost use Rattle.udfs_common.specs.Keeping.{IsKept};
 ghost use Rattle.udfs_salvage.specs.Choosing.{is_chosen};
 ghost use Rattle.udfs_extraction.specs.Manifests.{IsNoted};
@@ -158,6 +158,41 @@ pub fn finish_file<F: Files>(path: &str, output: F::Output, files: &mut F) -> Fa
     }
 }
 
+/// Brings the bytes of a new file to the disk, and its name may not be there yet; or removes it.
+fn sync_file<F: Files>(path: &str, output: F::Output, files: &mut F) -> Fate
+    requires number { F.tells → F.Output.number output ≢ None }
+    requires at { F.is_at files.old path.now (F.Output.number output) }
+    requires open { F.holds files.old path.now ≡ None }
+    ensures held { result ≡ Fate.Written → F.tells → (bytes : List ℕ) → (F.Output.stream output).contents ≡ Some bytes → F.holds files.new path.now ≡ Some (Some bytes) }
+    ensures gone { result ≡ Fate.Failed → F.tells → F.holds files.new path.now ≡ Some None }
+    ensures fate { IsFateOf Deed.File result }
+    ensures cause { result ≢ Fate.Written → Fails F.faults }
+    ensures others { (q : List ℕ) → q ≢ path.now → F.holds files.new q ≡ F.holds files.old q }
+    ensures crash { Goes F.moment F.may_leave F.left_since files.old files.new (SameBut path.now) }
+{
+    match files.sync(path, output) {
+        Ok(()) => Fate::Written,
+        Err(DeviceFault) => give_up(path, files),
+    }
+}
+
+/// Brings the name of a file to the disk that was written, or removes it.
+pub fn name_file<F: Files>(path: &str, fate: Fate, files: &mut F) -> Fate
+    ensures kept { result ≡ Fate.Written → F.tells → (bytes : List ℕ) → F.holds files.old path.now ≡ Some (Some bytes) → IsKept (F.holds files.new) (F.may_leave files.new) path.now bytes }
+    ensures end { (named : Bool) × IsEnd named fate result × (named ≡ false → Fails F.faults) }
+    ensures unwritten { fate ≢ Fate.Written → files.new ≡ files.old }
+    ensures others { (q : List ℕ) → q ≢ path.now → F.holds files.new q ≡ F.holds files.old q }
+    ensures crash { Goes F.moment F.may_leave F.left_since files.old files.new (SameBut path.now) }
+{
+    if fate != Fate::Written {
+        return fate;
+    }
+    match files.sync_folder(path) {
+        Ok(()) => Fate::Written,
+        Err(DeviceFault) => give_up(path, files),
+    }
+}
+
 /// Writes the node of this index to `output`, a new file at `path`. Where that fails, or memory runs out, it tries to remove the file.
 fn fill_file<F: Files>(
     alloc: Global,
@@ -177,7 +212,7 @@ fn fill_file<F: Files>(
     requires open { F.holds files.old path.now ≡ None }
     ensures written { IfOk result (λ done. done.fate ≡ Fate.Written → F.tells → (f : Found) (root : LongAd) (n : NodeFields) →
         AreNodesFrom (state_of listing.now.table.now) f root (listing_now listing.now) → slice_get (listing_now listing.now).nodes index ≡ Some n → is_offered n.standing n.size fill ≡ true →
-        (cs : List Cell) × HasCellsAt (view (state_of listing.now.table.now) f.space) root index cs × IsKept (F.holds files.new) (F.may_leave files.new) path.now (filled (fill_byte fill) cs)) }
+        (cs : List Cell) × HasCellsAt (view (state_of listing.now.table.now) f.space) root index cs × (F.holds files.new path.now ≡ Some (Some (filled (fill_byte fill) cs)))) }
     ensures gone { IfOk result (λ done. done.fate ≡ Fate.Failed → F.tells → F.holds files.new path.now ≡ Some None) }
     ensures fate { IfOk result (λ done. IsFateOf Deed.File done.fate) }
     ensures cause { IfOk result (λ done. done.fate ≢ Fate.Written → (f : Found) (root : LongAd) (n : NodeFields) →
@@ -195,7 +230,7 @@ fn fill_file<F: Files>(
     };
     match fill_noting::<F, NodeBytes<'_, '_>>(output, &job, digest) {
         Ok(Filled { output, digest }) => {
-            let fate = finish_file(path, output, files);
+            let fate = sync_file(path, output, files);
             Ok(Done { fate, digest })
         }
         Err(ExtractError::OutOfMemory) => {
@@ -206,8 +241,8 @@ fn fill_file<F: Files>(
     }
 }
 
-/// Writes the node of this index to a new file, and then syncs it and its folder. Where it could not be written, or memory ran out, it tries
-/// to remove the new file. What another file of this path holds is untouched.
+/// Writes the node of this index to a new file, and then syncs it. Its name may not be on the disk yet. Where it could not be written, or memory ran out, it
+/// tries to remove the new file. What another file of this path holds is untouched.
 fn write_file<F: Files>(
     alloc: Global,
     listing: &Listing<'_>,
@@ -221,7 +256,8 @@ fn write_file<F: Files>(
     requires { index < length listing.now.nodes.items }
     ensures written { IfOk result (λ done. done.fate ≡ Fate.Written → F.tells → (f : Found) (root : LongAd) (n : NodeFields) →
         AreNodesFrom (state_of listing.now.table.now) f root (listing_now listing.now) → slice_get (listing_now listing.now).nodes index ≡ Some n → is_offered n.standing n.size fill ≡ true →
-        (cs : List Cell) × HasCellsAt (view (state_of listing.now.table.now) f.space) root index cs × IsKept (F.holds files.new) (F.may_leave files.new) path.now (filled (fill_byte fill) cs)) }
+        (cs : List Cell) × HasCellsAt (view (state_of listing.now.table.now) f.space) root index cs × (F.holds files.new path.now ≡ Some (Some (filled (fill_byte fill) cs)))) }
+    ensures fresh { IfOk result (λ done. done.fate ≡ Fate.Written → F.tells → F.holds files.old path.now ≡ Some None) }
     ensures gone { IfOk result (λ done. done.fate ≡ Fate.Failed → F.tells → F.holds files.new path.now ≡ F.holds files.old path.now) }
     ensures fate { IfOk result (λ done. IsFateOf Deed.File done.fate) }
     ensures cause { IfOk result (λ done. done.fate ≢ Fate.Written → (f : Found) (root : LongAd) (n : NodeFields) →
@@ -257,8 +293,8 @@ pub fn put_folder<F: Files>(path: &str, files: &mut F) -> Fate
     }
 }
 
-/// Does at this path what is to be done with the node of this index.
-fn put_at<F: Files>(
+/// Does at this path what is to be done with the node of this index. Of a file that is written the name may not be on the disk yet.
+pub fn put_node<F: Files>(
     alloc: Global,
     listing: &Listing<'_>,
     index: usize,
@@ -270,7 +306,8 @@ fn put_at<F: Files>(
 ) -> Result<Done, AllocError>
     requires { index < length listing.now.nodes.items }
     ensures put { IfOk result (λ done. (n : NodeFields) (short : Bool) (folder : List ℕ) → slice_get (listing_now listing.now).nodes index ≡ Some n → path.now ≡ path_below folder (placed short (listing_now listing.now) index n) →
-        IsPutAt F.Files F.Output.stream files.new listing.now.table.now (listing_now listing.now) fill short folder index n done.fate) }
+        IsHeldAt F.Files F.Output.stream files.new listing.now.table.now (listing_now listing.now) fill short folder index n done.fate) }
+    ensures fresh { IfOk result (λ done. done.fate ≡ Fate.Written → F.tells → F.holds files.old path.now ≡ Some None) }
     ensures digest { IfOk result (λ done. IsNoted digest F.tells (F.holds files.new) path.now done.fate done.digest) }
     ensures stays { F.tells → Stay (F.holds files.old) (F.holds files.new) }
     ensures others { (q : List ℕ) → q ≢ path.now → F.holds files.new q ≡ F.holds files.old q }
@@ -293,64 +330,19 @@ fn put_at<F: Files>(
     }
 }
 
-/// Does what is to be done with the node of this index.
-pub fn put_node<F: Files>(
-    alloc: Global,
-    listing: &Listing<'_>,
-    index: usize,
-    fill: Fill,
-    digest: bool,
-    folder: &str,
-    place: &str,
-    spare: &Spare,
-    files: &mut F,
-) -> Result<Done, AllocError>
-    requires index { index < length listing.now.nodes.items }
-    requires names { (names : List (List ℕ)) × (place.now ≡ names_text names) }
-    ensures put { IfOk result (λ done. (n : NodeFields) (short : Bool) → slice_get (listing_now listing.now).nodes index ≡ Some n → place.now ≡ names_text (placed short (listing_now listing.now) index n) →
-        IsPutAt F.Files F.Output.stream files.new listing.now.table.now (listing_now listing.now) fill short folder.now index n done.fate) }
-    ensures digest { IfOk result (λ done. IsNoted digest F.tells (F.holds files.new) (folder.now ++ place.now) done.fate done.digest) }
-    ensures stays { F.tells → Stay (F.holds files.old) (F.holds files.new) }
-    ensures outside { (q : List ℕ) → (¬ IsIn folder.now q) → F.holds files.new q ≡ F.holds files.old q }
-    ensures elsewhere { (q : List ℕ) → ((n : NodeFields) → slice_get (listing_now listing.now).nodes index ≡ Some n → deed n.kind n.standing n.size fill ≡ Deed.File → q ≢ folder.now ++ place.now) → F.holds files.new q ≡ F.holds files.old q }
-    ensures crash { F.tells → Goes F.moment F.may_leave F.left_since files.old files.new (Spares folder.now (F.holds files.old)) }
-{
-    let path = path_in(alloc, folder, place)?;
-    let done = put_at(
-        alloc,
-        listing,
-        index,
-        fill,
-        digest,
-        path.as_str(),
-        spare,
-        files,
-    )?;
-    Ok(done)
-}
-
 /// Makes the folder of the node of this index, if it is one. Whether it could be made is seen by what is put into it.
-fn put_way<F: Files>(
-    alloc: Global,
-    listing: &Listing<'_>,
-    index: usize,
-    folder: &str,
-    place: &str,
-    files: &mut F,
-) -> Result<(), AllocError>
+fn put_way<F: Files>(listing: &Listing<'_>, index: usize, path: &str, files: &mut F)
     requires { index < length listing.now.nodes.items }
     ensures others { (q : List ℕ) → F.holds files.new q ≡ F.holds files.old q }
     ensures crash { Goes F.moment F.may_leave F.left_since files.old files.new Same }
 {
     let node = node_at(listing, index);
     if deed_for(node, Fill::Refuse) == Deed::Folder {
-        let path = path_in(alloc, folder, place)?;
-        let _ = put_folder(path.as_str(), files);
+        let _ = put_folder(path, files);
     }
-    Ok(())
 }
 
-/// Does what is to be done with the node of this index, if it is asked for. If not, it is passed over, but for the folder that leads to one that is.
+/// Does at this path what is to be done with the node of this index, if it is asked for. If not, it is passed over, but for the folder that leads to one that is.
 pub fn put_chosen<F: Files>(
     alloc: Global,
     listing: &Listing<'_>,
@@ -358,32 +350,29 @@ pub fn put_chosen<F: Files>(
     only: &[&str],
     fill: Fill,
     digest: bool,
-    folder: &str,
-    place: &str,
+    path: &str,
     spare: &Spare,
     files: &mut F,
 ) -> Result<Done, AllocError>
-    requires index { index < length listing.now.nodes.items }
-    requires names { (names : List (List ℕ)) × (place.now ≡ names_text names) }
-    ensures put { IfOk result (λ done. (n : NodeFields) (short : Bool) → slice_get (listing_now listing.now).nodes index ≡ Some n → place.now ≡ names_text (placed short (listing_now listing.now) index n) → IsDone (map (λ word. word.now) only.now)
-        (IsPutAt F.Files F.Output.stream files.new listing.now.table.now (listing_now listing.now) fill short folder.now) index n done.fate) }
-    ensures digest { IfOk result (λ done. IsNoted digest F.tells (F.holds files.new) (folder.now ++ place.now) done.fate done.digest) }
+    requires { index < length listing.now.nodes.items }
+    ensures put { IfOk result (λ done. (n : NodeFields) (short : Bool) (folder : List ℕ) → slice_get (listing_now listing.now).nodes index ≡ Some n → path.now ≡ path_below folder (placed short (listing_now listing.now) index n) →
+        IsDone (map (λ word. word.now) only.now) (IsHeldAt F.Files F.Output.stream files.new listing.now.table.now (listing_now listing.now) fill short folder) index n done.fate) }
+    ensures fresh { IfOk result (λ done. done.fate ≡ Fate.Written → F.tells → F.holds files.old path.now ≡ Some None) }
+    ensures digest { IfOk result (λ done. IsNoted digest F.tells (F.holds files.new) path.now done.fate done.digest) }
     ensures stays { F.tells → Stay (F.holds files.old) (F.holds files.new) }
-    ensures outside { (q : List ℕ) → (¬ IsIn folder.now q) → F.holds files.new q ≡ F.holds files.old q }
-    ensures elsewhere { (q : List ℕ) → ((n : NodeFields) → slice_get (listing_now listing.now).nodes index ≡ Some n → is_chosen (map (λ word. word.now) only.now) n.path ≡ true → deed n.kind n.standing n.size fill ≡ Deed.File → q ≢ folder.now ++ place.now) → F.holds files.new q ≡ F.holds files.old q }
-    ensures crash { F.tells → Goes F.moment F.may_leave F.left_since files.old files.new (Spares folder.now (F.holds files.old)) }
+    ensures others { (q : List ℕ) → q ≢ path.now → F.holds files.new q ≡ F.holds files.old q }
+    ensures elsewhere { (q : List ℕ) → ((n : NodeFields) → slice_get (listing_now listing.now).nodes index ≡ Some n → is_chosen (map (λ word. word.now) only.now) n.path ≡ true → deed n.kind n.standing n.size fill ≡ Deed.File → q ≢ path.now) → F.holds files.new q ≡ F.holds files.old q }
+    ensures crash { F.tells → (folder : List ℕ) → IsIn folder path.now → Goes F.moment F.may_leave F.left_since files.old files.new (Spares folder (F.holds files.old)) }
 {
     let node = node_at(listing, index);
     if is_chosen(alloc, only, &node.path)? {
-        return match put_node(
-            alloc, listing, index, fill, digest, folder, place, spare, files,
-        ) {
+        return match put_node(alloc, listing, index, fill, digest, path, spare, files) {
             Ok(done) => Ok(done),
             Err(AllocError) => Err(AllocError),
         };
     }
     if is_above(alloc, only, &node.path)? {
-        put_way(alloc, listing, index, folder, place, files)?;
+        put_way(listing, index, path, files);
     }
     Ok(without_file(Fate::Passed))
 }

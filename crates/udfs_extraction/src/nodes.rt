@@ -10,13 +10,11 @@ ghost use Rattle.udfs_extraction.specs.Manifests.{IsManifest, PutsNoted, notes_t
 ghost use Rattle.udfs_extraction.specs.Refused.{NodesStop};
 
 use crate::choosing::all_are_nodes;
-use crate::fate_remarks::{Totals, remark_on_fate, remark_on_totals};
-use crate::manifest::{Noted, note};
-use crate::node_files::{node_at, put_chosen, put_folder};
-use crate::places::place_of;
-use crate::spare::Spare;
-use crate::telling::tell;
-use crate::times::{note_time, set_folder_times};
+use crate::fate_remarks::remark_on_totals;
+use crate::manifest::Noted;
+use crate::node_files::put_folder;
+use crate::runs::{Told, put_run};
+use crate::times::set_folder_times;
 use std::alloc::{AllocError, Global};
 use udfs_common::files::Files;
 use udfs_common::known::Known;
@@ -66,19 +64,6 @@ pub struct Done {
     pub digest: Option<[u8; 32]>,
 }
 
-/// What became of the nodes of a volume.
-#[derive(Drop)]
-pub struct Told {
-    /// Whether no file and no folder failed.
-    pub good: bool,
-    /// Whether the output took all lines.
-    pub heard: bool,
-    /// How many there are of each sort.
-    totals: Totals,
-    /// The files that were written, with their digests, where these are wanted.
-    manifest: Vec<Noted>,
-}
-
 /// Whether nothing failed so far, and neither did this.
 pub fn still_good(good: bool, fate: Fate) -> bool
     ensures { result ≡ (if is_good fate then good else false) }
@@ -89,7 +74,8 @@ pub fn still_good(good: bool, fate: Fate) -> bool
     }
 }
 
-/// Goes through the nodes after the root, in order; `word` stands before their paths in what is printed. Where the output fails, it goes on, but prints no more.
+/// Goes through the nodes after the root, in order, run by run; `word` stands before their paths in what is printed. Where the output fails, it goes on, but
+/// prints no more.
 pub fn put_nodes<F: Files, O: Sink>(
     alloc: Global,
     listing: &Listing<'_>,
@@ -113,44 +99,38 @@ pub fn put_nodes<F: Files, O: Sink>(
     ensures elsewhere { (q : List ℕ) → IsElsewhere (texts only.now) fill short (listing_now listing.now) folder.now q → F.holds files.new q ≡ F.holds files.old q }
     ensures crash { F.tells → Goes F.moment F.may_leave F.left_since files.old files.new (Spares folder.now (F.holds files.old)) }
 {
-    let spare = Spare::new();
-    let mut good = true;
-    let mut heard = true;
-    let mut manifest = Vec::new(alloc);
-    let mut made = Vec::new(alloc);
+    let mut told = Told::new(alloc);
     let mut way = Vec::new(alloc);
-    let mut totals = Totals::new();
-    for index in 1..listing.nodes.len() {
-        let target = place_of(alloc, listing, index, short, &mut way)?;
-        let place = target.text.as_str();
-        let done = put_chosen(
-            alloc, listing, index, only, fill, digest, folder, place, &spare, files,
+    let mut next = 1;
+    while next < listing.nodes.len() {
+        next = put_run(
+            alloc,
+            listing,
+            next,
+            word,
+            only,
+            fill,
+            short,
+            digest,
+            folder,
+            times,
+            &mut way,
+            &mut told,
+            files,
+            out,
         )?;
-        let node = node_at(listing, index);
-        note(&mut manifest, done, index)?;
-        good = still_good(good, done.fate);
-        heard = tell(alloc, heard, done.fate, word, &node.path, &target.own, out)?;
-        remark_on_fate(alloc, listing, word, node, done.fate, &mut totals, files);
-        note_time(
-            alloc, word, node, index, only, done.fate, folder, place, &mut made, times, files,
-        );
     }
     set_folder_times(
         alloc,
         listing,
         word,
-        made.as_slice(),
+        told.made.as_slice(),
         short,
         folder,
         times,
         files,
     );
-    Ok(Told {
-        good,
-        heard,
-        totals,
-        manifest,
-    })
+    Ok(told)
 }
 
 /// Whether nothing failed, and all is whole.

@@ -55,6 +55,10 @@ AreNamed-prop (Some log) but = Π_prop (λ f. Π_prop (λ _. Coded-set coded_boo
 pub kept_none : (log : Option Log) (p : List ℕ) (c : Option (List ℕ)) → holds log p ≡ Some None → kept_by log p c → c ≡ None
 kept_none log p c e is = subst (λ h. kept_of h c) e is
 
+-- what a file holds is what a crash leaves of it once the names of the folder are on the disk
+pub kept_held : (log : Option Log) (p bytes : List ℕ) (c : Option (List ℕ)) → holds log p ≡ Some (Some bytes) → kept_by log p c → c ≡ Some bytes
+kept_held log p bytes c e is = subst (λ h. kept_of h c) e is
+
 -- a crash leaves something
 pub some_left : (log : Option Log) → IsLawfulLog log → (c : Disk) × left_by log c
 some_left None lawful = ((λ q. None), tt)

@@ -349,6 +349,9 @@ pub trait Files {
     /// Where no file is, a crash leaves none once the names of the folder are on the disk.
     ghost absent_kept: { (files : Self) (q : List ℕ) (c : Option (List ℕ)) → tells → holds files q ≡ Some None → kept files q c → c ≡ None };
 
+    /// What a file holds is what a crash leaves of it once the names of the folder are on the disk.
+    ghost held_kept: { (files : Self) (q bytes : List ℕ) (c : Option (List ℕ)) → tells → holds files q ≡ Some (Some bytes) → kept files q c → c ≡ Some bytes };
+
     /// This moment is one of those since an earlier one.
     ghost counts_now: { (files : Self) (t : ℕ) (c : Disk) → t ≤ moment files → may_leave files c → left_since files t c };
 

@@ -3,7 +3,7 @@
 ghost use Rattle.std.proofs.Common.{inl, inr, refl, ⊎_elim};
 ghost use Rattle.udfs_calls.specs.Log.{AreNamed, IsAt, IsFresh, holds, moment_of};
 ghost use Rattle.udfs_files.specs.Opened.{all_before, contents_of, told_bytes, told_contents, untold_contents};
-ghost use Rattle.udfs_files.specs.Told.{AreNamed-prop, IsLedInPlace, kept_by, kept_none, left_by, left_since_by, log_counts_now, log_only_now, path_of, some_left};
+ghost use Rattle.udfs_files.specs.Told.{AreNamed-prop, IsLedInPlace, kept_by, kept_held, kept_none, left_by, left_since_by, log_counts_now, log_only_now, path_of, some_left};
 ghost use Rattle.udfs_reading.specs.Device.{CountsFault};
 ghost use Rattle.std.specs.Prelude.{◌≡◌, Some, None, Ok, IfOk, IsErr, OnErr, ⊤};
 
@@ -131,6 +131,8 @@ impl<'a, C: Calls, R: std::rt::Files + Env + AllocGlobal, N: Watch> Files for Ma
     ghost some_crash = { λ m. some_left (C.log m.calls) (C.lawful m.calls) };
 
     ghost absent_kept = { λ m q c _ none kept. kept_none (C.log m.calls) q c none kept };
+
+    ghost held_kept = { λ m q bytes c _ held kept. kept_held (C.log m.calls) q bytes c held kept };
 
     ghost counts_now = { λ m t c _ left. log_counts_now (C.log m.calls) t c left };
 

@@ -159,28 +159,46 @@ lost_may_be (Named q ∷ es) = (
       subst (may_be_kept es p) (sym (there (beside q.items) (best es) (lost es) p ((bytes_eq-Decides (folder_of p) (folder_of q.items)).1 is))) (kept_best es p),
 )
 
--- where no file is, none is kept
-pub absent_kept : (es : List Event) (p : List ℕ) (c : Option (List ℕ)) → held es p ≡ Some None → may_be_kept es p c → c ≡ None
-absent_kept [] p c absent kept = kept
-absent_kept (Begun q ∷ es) p c absent kept = elim (decide p q.items) [
-  | inl hit ↦ let bad : None ≡ Some None = sym (ap (λ b. if b then None else held es p) hit.0) ∙ absent in cc
-  | inr miss ↦ ⊎_elim (λ is. absurd (miss.1 is)) (λ k. absent_kept es p c (sym (ap (λ b. if b then None else held es p) miss.0) ∙ absent) k) kept
+-- what is known of a path is what is kept of it
+known_kept : (es : List Event) (p : List ℕ) (h c : Option (List ℕ)) → held es p ≡ Some h → may_be_kept es p c → c ≡ h
+known_kept [] p h c is kept = let same : None ≡ h = (let e : Some None ≡ Some h = is in cc) in kept ∙ same
+known_kept (Begun q ∷ es) p h c is kept = elim (decide p q.items) [
+  | inl hit ↦ let bad : None ≡ Some h = sym (ap (λ b. if b then None else held es p) hit.0) ∙ is in cc
+  | inr miss ↦ ⊎_elim (λ e. absurd (miss.1 e)) (λ k. known_kept es p h c (sym (ap (λ b. if b then None else held es p) miss.0) ∙ is) k) kept
 ]
-absent_kept (Written q bytes ∷ es) p c absent kept = elim (decide p q.items) [
-  | inl hit ↦ let bad : Some (Some bytes.items) ≡ Some None = sym (ap (λ b. if b then Some (Some bytes.items) else held es p) hit.0) ∙ absent in cc
-  | inr miss ↦ ⊎_elim (λ is. absurd (miss.1 is.0)) (λ k. absent_kept es p c (sym (ap (λ b. if b then Some (Some bytes.items) else held es p) miss.0) ∙ absent) k.1) kept
+known_kept (Written q bytes ∷ es) p h c is kept = elim (decide p q.items) [
+  | inl hit ↦
+      let e : Some (Some bytes.items) ≡ Some h = sym (ap (λ b. if b then Some (Some bytes.items) else held es p) hit.0) ∙ is in
+      let same : Some bytes.items ≡ h = cc in
+      ⊎_elim (λ k. k.1 ∙ same) (λ k. absurd (k.0 hit.1)) kept
+  | inr miss ↦ ⊎_elim (λ k. absurd (miss.1 k.0)) (λ k. known_kept es p h c (sym (ap (λ b. if b then Some (Some bytes.items) else held es p) miss.0) ∙ is) k.1) kept
 ]
-absent_kept (Renamed from to ∷ es) p c absent kept = elim (decide p to.items) [
-  | inl hit ↦ ⊎_elim (λ k. absent_kept es from.items c (sym (ap (λ b. if b then held es from.items else if bytes_eq p from.items then Some None else held es p) hit.0) ∙ absent) k.1)
-      (λ more. ⊎_elim (λ k. k.2) (λ k. absurd (k.1 hit.1)) more) kept
-  | inr miss ↦ ⊎_elim (λ k. absurd (miss.1 k.0)) (λ more. ⊎_elim (λ k. k.2) (λ k. absent_kept es p c (further (decide p from.items) k.0 (sym (ap (λ b. if b then held es from.items else if bytes_eq p from.items then Some None else held es p) miss.0) ∙ absent)) k.2) more) kept
+known_kept (Renamed from to ∷ es) p h c is kept = elim (decide p to.items) [
+  | inl hit ↦ ⊎_elim (λ k. known_kept es from.items h c (sym (ap (λ b. if b then held es from.items else if bytes_eq p from.items then Some None else held es p) hit.0) ∙ is) k.1)
+      (λ more. ⊎_elim (λ k. absurd (k.1 hit.1)) (λ k. absurd (k.1 hit.1)) more) kept
+  | inr miss ↦ further (decide p from.items) miss.1 (sym (ap (λ b. if b then held es from.items else if bytes_eq p from.items then Some None else held es p) miss.0) ∙ is)
 ]
   where
-    further : ((bytes_eq p from.items ≡ true) × (p ≡ from.items)) ⊎ ((bytes_eq p from.items ≡ false) × (p ≢ from.items)) → p ≢ from.items → (if bytes_eq p from.items then Some None else held es p) ≡ Some None → held es p ≡ Some None
-    further (inl hit) apart is = absurd (apart hit.1)
-    further (inr miss) apart is = sym (ap (λ b. if b then Some None else held es p) miss.0) ∙ is
-absent_kept (Removed q ∷ es) p c absent kept = elim (decide p q.items) [
-  | inl hit ↦ ⊎_elim (λ k. k.1) (λ k. absurd (k.0 hit.1)) kept
-  | inr miss ↦ ⊎_elim (λ k. k.1) (λ k. absent_kept es p c (sym (ap (λ b. if b then Some None else held es p) miss.0) ∙ absent) k.1) kept
+    further : ((bytes_eq p from.items ≡ true) × (p ≡ from.items)) ⊎ ((bytes_eq p from.items ≡ false) × (p ≢ from.items)) → p ≢ to.items → (if bytes_eq p from.items then Some None else held es p) ≡ Some h → c ≡ h
+    further (inl hit) far at =
+        let e : Some None ≡ Some h = sym (ap (λ b. if b then Some None else held es p) hit.0) ∙ at in
+        let same : None ≡ h = cc in
+        ⊎_elim (λ k. absurd (far k.0)) (λ more. ⊎_elim (λ k. k.2 ∙ same) (λ k. absurd (k.0 hit.1)) more) kept
+    further (inr miss) far at =
+        ⊎_elim (λ k. absurd (far k.0)) (λ more. ⊎_elim (λ k. absurd (miss.1 k.0)) (λ k. known_kept es p h c (sym (ap (λ b. if b then Some None else held es p) miss.0) ∙ at) k.2) more) kept
+known_kept (Removed q ∷ es) p h c is kept = elim (decide p q.items) [
+  | inl hit ↦
+      let e : Some None ≡ Some h = sym (ap (λ b. if b then Some None else held es p) hit.0) ∙ is in
+      let same : None ≡ h = cc in
+      ⊎_elim (λ k. k.1 ∙ same) (λ k. absurd (k.0 hit.1)) kept
+  | inr miss ↦ ⊎_elim (λ k. absurd (miss.1 k.0)) (λ k. known_kept es p h c (sym (ap (λ b. if b then Some None else held es p) miss.0) ∙ is) k.1) kept
 ]
-absent_kept (Named q ∷ es) p c absent kept = absent_kept es p c absent kept
+known_kept (Named q ∷ es) p h c is kept = known_kept es p h c is kept
+
+-- where no file is, none is kept
+pub absent_kept : (es : List Event) (p : List ℕ) (c : Option (List ℕ)) → held es p ≡ Some None → may_be_kept es p c → c ≡ None
+absent_kept es p c = known_kept es p None c
+
+-- what a file holds is kept of it
+pub held_kept : (es : List Event) (p bytes : List ℕ) (c : Option (List ℕ)) → held es p ≡ Some (Some bytes) → may_be_kept es p c → c ≡ Some bytes
+held_kept es p bytes c = known_kept es p (Some bytes) c

@@ -3,7 +3,7 @@
 ghost use Rattle.std.proofs.Common.{refl};
 ghost use Rattle.std.specs.Prelude.{◌≡◌, ℕ, List, Option, length, true, Some, None, IfOk, OnOk, OnErr, IsErr, [], ◌∷◌, take, ◌≤◌, bytes_eq, ⊤};
 ghost use Rattle.udfs_memory.specs.Log.{held, may_be_kept, crash_outcome, outcome_since, search_result};
-ghost use Rattle.udfs_memory.specs.Survivors.{absent_kept as log_absent_kept, lost, lost_may_be, option_now, beside};
+ghost use Rattle.udfs_memory.specs.Survivors.{absent_kept as log_absent_kept, held_kept as log_held_kept, lost, lost_may_be, option_now, beside};
 ghost use Rattle.udfs_memory.specs.Devices.{IsFolder, IsNoFile};
 ghost use Rattle.udfs_files.specs.declared.files.Kind.{Kind};
 ghost use Rattle.udfs_memory.specs.Laws.{counts_now as log_counts_now, least, only_now as log_only_now};
@@ -397,6 +397,8 @@ impl Files for Memory {
     ghost some_crash = { λ m. (lost m.log.items, lost_may_be m.log.items) };
 
     ghost absent_kept = { λ m q c told absent kept. log_absent_kept m.log.items q c absent kept };
+
+    ghost held_kept = { λ m q bytes c told is kept. log_held_kept m.log.items q bytes c is kept };
 
     ghost counts_now = { λ m t c le now. log_counts_now m.log.items t c now };
 

@@ -5,4 +5,4 @@ use Rattle.udfs_extraction.proofs.node_files.fill_file.Goals as goal
 pub returns-in-Ok-clause-written : goal.returns-in-Ok-clause-written
 returns-in-Ok-clause-written g c written tells f root n from at offered =
     let w = c.in-Ok.ensures.wrote f root n c.requires.index from at offered in
-    (w.0, w.1, c.finish_file-fate.ensures.kept written tells (filled (fill_byte c.args.fill) w.0) (from_nothing _ _ _ (c.requires.empty tells) w.2))
+    (w.0, w.1, c.sync_file-fate.ensures.held written tells (filled (fill_byte c.args.fill) w.0) (from_nothing _ _ _ (c.requires.empty tells) w.2))

@@ -7,14 +7,14 @@ use Rattle.udfs_salvage.specs.Choosing.{is_chosen}
 use Rattle.udfs_extraction.proofs.node_files.put_chosen.Goals as goal
 
 pub returns-in-Ok-clause-put : goal.returns-in-Ok-clause-put
-returns-in-Ok-clause-put g c n short at placed_at =
+returns-in-Ok-clause-put g c n short folder at placed_at =
     let only = map (λ (word : Bor (List ℕ)). word.now) c.args.only.now in
     let l = c.args.listing.now in
     let same : full_in (state_of l.table.now) (volume_now l.volume) c.node_at-node.result.now ≡ n = let e = sym c.node_at-node.ensures ∙ at in cc in
     let seen : c.node.inside.path ≡ c.node_at-node.result.now.path = search rules in
     let asked : is_chosen only n.path ≡ true = subst (λ (p : List (List ℕ)). is_chosen only p ≡ true) (seen ∙ ap (λ (m : NodeFields). m.path) same) (sym c.in_ok-is_chosen.ensures ∙ c.if-branch.true) in
     record {
-      asked = λ is. c.in-Ok.ensures.put n short at placed_at;
+      asked = λ is. c.in-Ok.ensures.put n short folder at placed_at;
       passed = λ is. let bad : true ≡ false = sym asked ∙ is in cc;
     }
 

@@ -1,43 +1,84 @@
-use Rattle.std.proofs.Common.{◌≡◌, ◌++◌, ◌∙◌, ap, rules, subst}
-use Rattle.udfs_extraction.specs.Manifests.{IsNoted}
+use Rattle.std.proofs.Common.{◌≡◌, inl, refl, sym, ◌∙◌, ap, subst, true, false, Some}
+use Rattle.udfs_walk.specs.NodeFields.{NodeFields}
+use Rattle.udfs_lattice.specs.Tables.{state_of}
+use Rattle.udfs_salvage.specs.Found.{volume_now}
+use Rattle.udfs_salvage.specs.Listings.{full_in}
+use Rattle.udfs_salvage.specs.Extraction.{is_offered, filled, fill_byte}
+use Rattle.udfs_extraction.specs.Extracting.{IsFateOf, deed, is_good}
+use Rattle.udfs_extraction.specs.declared.nodes.Deed.TheVariants.{File, Folder, Skip}
+use Rattle.udfs_extraction.specs.declared.nodes.Fate.TheVariants.{Written, Skipped}
+use Rattle.udfs_extraction.proofs.ListedLemmas.{same_deed}
+use Rattle.udfs_extraction.proofs.PutNodes.{offered, spares_at, stay_by}
 use Rattle.udfs_extraction.proofs.node_files.put_node.Goals as goal
 
-pub returns-in_err-done-clause-crash : goal.returns-in_err-done-clause-crash
-returns-in_err-done-clause-crash g c told =
-    let is : c.as_str.result.now ≡ c.args.folder.now ++ c.args.place.now = search rules in
-    c.put_at.ensures.crash told c.args.folder.now (c.requires.names.0, is ∙ ap (λ t. c.args.folder.now ++ t) c.requires.names.1)
+pub returns-in_err-done-in-File-clause-stays : goal.returns-in_err-done-in-File-clause-stays
+returns-in_err-done-in-File-clause-stays g c told = stay_by c.args.path.now _ _ c.write_file.ensures.others (c.write_file.ensures.there told)
 
-pub returns-clause-crash : goal.returns-clause-crash
-returns-clause-crash g c told =
-    let is : c.as_str.result.now ≡ c.args.folder.now ++ c.args.place.now = search rules in
-    c.put_at.ensures.crash told c.args.folder.now (c.requires.names.0, is ∙ ap (λ t. c.args.folder.now ++ t) c.requires.names.1)
+pub returns-in_err-done-in-File-clause-crash : goal.returns-in_err-done-in-File-clause-crash
+returns-in_err-done-in-File-clause-crash g c told folder is_in =
+    let F = g.F.Files in
+    spares_at F.moment F.may_leave F.left_since _ _ folder c.args.path.now _ is_in c.write_file.ensures.crash (c.write_file.ensures.stays told)
 
-pub returns-clause-put : goal.returns-clause-put
-returns-clause-put g c n short at placed_at =
-    let is : c.as_str.result.now ≡ c.args.folder.now ++ c.args.place.now = search rules in
-    c.in_ok-done.ensures.put n short c.args.folder.now at (is ∙ ap (λ t. c.args.folder.now ++ t) placed_at)
+pub returns-in-Folder-clause-put : goal.returns-in-Folder-clause-put
+returns-in-Folder-clause-put g c n short folder at path =
+    let l = c.args.listing.now in
+    let m = c.node_at.result.now in
+    let same : full_in (state_of l.table.now) (volume_now l.volume) m ≡ n = let e = sym c.node_at.ensures ∙ at in cc in
+    let made : deed n.kind n.standing n.size c.args.fill ≡ Folder = subst (λ (m : NodeFields). deed m.kind m.standing m.size c.args.fill ≡ Folder) same (same_deed (state_of l.table.now) (volume_now l.volume) m.icb m.kind m.standing m.size c.args.fill ∙ sym c.deed_for.ensures ∙ c.in-Folder.is) in
+    record {
+      done = subst (λ d. IsFateOf d c.put_folder-fate.result) (sym made) c.put_folder-fate.ensures.fate;
+      written = λ written told profile last reported. absurd (c.put_folder-fate.ensures.fate.0 written);
+      failed = λ bad profile last reported. inl (c.put_folder-fate.ensures.cause (λ is_made. let no_fate : true ≡ false = sym (ap is_good is_made) ∙ bad in cc));
+    }
 
-pub returns-clause-digest : goal.returns-clause-digest
-returns-clause-digest g c =
-    let is : c.as_str.result.now ≡ c.args.folder.now ++ c.args.place.now = search rules in
-    subst (λ p. IsNoted c.args.digest g.F.Files.tells (g.F.Files.holds c.put_at.new.files) p c.in_ok-done.done.fate c.in_ok-done.done.digest) is c.in_ok-done.ensures.digest
+pub returns-in_ok-done-in-File-clause-put : goal.returns-in_ok-done-in-File-clause-put
+returns-in_ok-done-in-File-clause-put g c n short folder at path =
+    let F = g.F.Files in
+    let l = c.args.listing.now in
+    let m = c.node_at.result.now in
+    let same : full_in (state_of l.table.now) (volume_now l.volume) m ≡ n = let e = sym c.node_at.ensures ∙ at in cc in
+    let made : deed n.kind n.standing n.size c.args.fill ≡ File = subst (λ (m : NodeFields). deed m.kind m.standing m.size c.args.fill ≡ File) same (same_deed (state_of l.table.now) (volume_now l.volume) m.icb m.kind m.standing m.size c.args.fill ∙ sym c.deed_for.ensures ∙ c.in-File.is) in
+    let is : is_offered n.standing n.size c.args.fill ≡ true = offered n.kind n.standing n.size c.args.fill made in
+    record {
+      done = subst (λ d. IsFateOf d c.in_ok-done-in-File.done.fate) (sym made) c.in_ok-done-in-File.ensures.fate;
+      written = λ written told profile last reported.
+          let w = c.in_ok-done-in-File.ensures.written written told profile last n reported at is in
+          (w.0, w.1, subst (λ p. F.holds c.write_file.new.files p ≡ Some (Some (filled (fill_byte c.args.fill) w.0))) path w.2);
+      failed = λ bad profile last reported. c.in_ok-done-in-File.ensures.cause (λ written. let no_fate : true ≡ false = sym (ap is_good written) ∙ bad in cc) profile last n reported at is;
+    }
 
-pub returns-in_err-done-clause-outside : goal.returns-in_err-done-clause-outside
-returns-in_err-done-clause-outside g c q out =
-    let is : c.as_str.result.now ≡ c.args.folder.now ++ c.args.place.now = search rules in
-    c.put_at.ensures.others q (λ e. out (c.requires.names.0, e ∙ is ∙ ap (λ t. c.args.folder.now ++ t) c.requires.names.1))
+pub returns-in_ok-done-in-File-clause-stays : goal.returns-in_ok-done-in-File-clause-stays
+returns-in_ok-done-in-File-clause-stays g c told = stay_by c.args.path.now _ _ c.write_file.ensures.others (c.write_file.ensures.there told)
 
-pub returns-clause-outside : goal.returns-clause-outside
-returns-clause-outside g c q out =
-    let is : c.as_str.result.now ≡ c.args.folder.now ++ c.args.place.now = search rules in
-    c.put_at.ensures.others q (λ e. out (c.requires.names.0, e ∙ is ∙ ap (λ t. c.args.folder.now ++ t) c.requires.names.1))
+pub returns-in_ok-done-in-File-clause-crash : goal.returns-in_ok-done-in-File-clause-crash
+returns-in_ok-done-in-File-clause-crash g c told folder is_in =
+    let F = g.F.Files in
+    spares_at F.moment F.may_leave F.left_since _ _ folder c.args.path.now _ is_in c.write_file.ensures.crash (c.write_file.ensures.stays told)
 
-pub returns-in_err-done-clause-elsewhere : goal.returns-in_err-done-clause-elsewhere
-returns-in_err-done-clause-elsewhere g c q other =
-    let is : c.as_str.result.now ≡ c.args.folder.now ++ c.args.place.now = search rules in
-    c.put_at.ensures.elsewhere q (λ n at made e. other n at made (e ∙ is))
+pub returns-in-Skip-clause-put : goal.returns-in-Skip-clause-put
+returns-in-Skip-clause-put g c n short folder at path =
+    let l = c.args.listing.now in
+    let m = c.node_at.result.now in
+    let same : full_in (state_of l.table.now) (volume_now l.volume) m ≡ n = let e = sym c.node_at.ensures ∙ at in cc in
+    let made : deed n.kind n.standing n.size c.args.fill ≡ Skip = subst (λ (m : NodeFields). deed m.kind m.standing m.size c.args.fill ≡ Skip) same (same_deed (state_of l.table.now) (volume_now l.volume) m.icb m.kind m.standing m.size c.args.fill ∙ sym c.deed_for.ensures ∙ c.in-Skip.is) in
+    record {
+      done = subst (λ d. IsFateOf d Skipped) (sym made) refl;
+      written = λ written told profile last reported. let bad : Skipped ≡ Written = written in cc;
+      failed = λ bad profile last reported. let no_fate : true ≡ false = bad in cc;
+    }
 
-pub returns-clause-elsewhere : goal.returns-clause-elsewhere
-returns-clause-elsewhere g c q other =
-    let is : c.as_str.result.now ≡ c.args.folder.now ++ c.args.place.now = search rules in
-    c.put_at.ensures.elsewhere q (λ n at made e. other n at made (e ∙ is))
+pub returns-in_err-done-in-File-clause-elsewhere : goal.returns-in_err-done-in-File-clause-elsewhere
+returns-in_err-done-in-File-clause-elsewhere g c q other =
+    let l = c.args.listing.now in
+    let m = c.node_at.result.now in
+    let n = full_in (state_of l.table.now) (volume_now l.volume) m in
+    let made : deed n.kind n.standing n.size c.args.fill ≡ File = same_deed (state_of l.table.now) (volume_now l.volume) m.icb m.kind m.standing m.size c.args.fill ∙ sym c.deed_for.ensures ∙ c.in-File.is in
+    c.write_file.ensures.others q (other n c.node_at.ensures made)
+
+pub returns-in_ok-done-in-File-clause-elsewhere : goal.returns-in_ok-done-in-File-clause-elsewhere
+returns-in_ok-done-in-File-clause-elsewhere g c q other =
+    let l = c.args.listing.now in
+    let m = c.node_at.result.now in
+    let n = full_in (state_of l.table.now) (volume_now l.volume) m in
+    let made : deed n.kind n.standing n.size c.args.fill ≡ File = same_deed (state_of l.table.now) (volume_now l.volume) m.icb m.kind m.standing m.size c.args.fill ∙ sym c.deed_for.ensures ∙ c.in-File.is in
+    c.write_file.ensures.others q (other n c.node_at.ensures made)

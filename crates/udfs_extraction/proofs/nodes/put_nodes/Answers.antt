@@ -1,191 +1,120 @@
-use Rattle.std.proofs.Common.{rules, ◌≡◌, ◌⊎◌, ◌+◌, ◌++◌, ◌∷◌, ◌≤◌, ℕ, suc, List, [], Option, Some, refl, sym, ◌∙◌, ap, subst, arith, length, length-append, slice_get, string_bytes, drop, map, Bor, false, if◌then◌else◌}
+use Rattle.std.proofs.Common.{rules, ◌≡◌, ◌⊎◌, ◌+◌, ◌-◌, ◌++◌, ◌∷◌, ◌≤◌, ℕ, suc, List, [], refl, sym, ◌∙◌, ap, subst, arith, length, length-append, drop, map, Bor, false, if◌then◌else◌}
 use Rattle.std.proofs.lemmas.List.{length-map}
 use Rattle.udfs_files.specs.Disk.{Fails, SinkFails}
-use Rattle.udfs_walk.specs.NodeFields.{NodeFields}
-use Rattle.udfs_salvage.specs.NodeTexts.{names_text}
 use Rattle.udfs_lattice.specs.Tables.{state_of}
+use Rattle.udfs_walk.specs.NodeFields.{NodeFields}
 use Rattle.udfs_salvage.specs.Found.{volume_now}
 use Rattle.udfs_salvage.specs.Listings.{full_in, listing_now}
-use Rattle.udfs_extraction.specs.Extracting.{IsDone, IsPut, TellsLines, TellsOn, fate_line, fate_lines, is_good, node_line}
+use Rattle.udfs_extraction.specs.Extracting.{IsDone, IsPutAt, Puts, TellsLines, all_good, node_line}
+use Rattle.udfs_extraction.specs.Manifests.{IsManifest, notes_text}
+use Rattle.udfs_extraction.specs.ShortNames.{IsWay, placed}
 use Rattle.udfs_extraction.specs.declared.nodes.Fate.{Fate}
-use Rattle.udfs_extraction.specs.Manifests.{AreLines, IsLine, IsNoted, notes_of, notes_text}
-use Rattle.udfs_extraction.specs.ShortNames.{IsWay, own_name, placed}
-use Rattle.udfs_extraction.proofs.ManifestLemmas.{line_more, lines_still, noted_line, notes_more}
-use Rattle.udfs_extraction.proofs.PutNodes.{all_behind, done_still, each_few, each_map, each_more, good_more, lines_more, one_on, spares_nothing, spares_on, tells_on}
+use Rattle.udfs_extraction.proofs.ManifestLemmas.{lines_still}
+use Rattle.udfs_extraction.proofs.PutNodes.{all_behind, done_still, each_few, each_map}
+use Rattle.udfs_extraction.proofs.RunLemmas.{good_join, run_nothing, run_on, runs_behind, texts_behind}
 use Rattle.udfs_extraction.proofs.nodes.put_nodes.Goals as goal
 
-pub loop-index-init : goal.loop-index-init
-loop-index-init g c =
-    let F = g.F.Files in
-    record {
-      put = ([], record { each = tt; lines = record { given = search rules; kept = refl } }, refl, refl, λ wanted told. search rules);
-      way = λ k next. let z : k ≡ 0 = omega (arith, next) in subst (λ x. IsWay (listing_now c.args.listing.now).nodes x c.new-way.result.items) (sym z) (λ d. search rules);
-      stays = λ told q bytes is. is;
-      outside = λ q out. refl;
-      elsewhere = λ q other. refl;
-      crash = λ told. spares_nothing F.moment F.may_leave F.left_since c.args.files.now c.args.folder.now (F.holds c.args.files.now);
-    }
-
-pub returns-in_err-done-clause-put : goal.returns-in_err-done-clause-put
-returns-in_err-done-clause-put g c =
-    let F = g.F.Files in
-    let put = c.loop-index.invariant.put in
-    let step = c.put_chosen.ensures in (
-      c.loop-index.heard,
-      put.0,
-      record {
-        each = each_map _ _ (λ k n fate. done_still F.moment F.may_leave F.left_since (map (λ (word : Bor (List ℕ)). word.now) c.args.only.now) F.tells (Fails F.faults ⊎ SinkFails g.F.Output.Sink.stream) c.args.listing.now.table.now (listing_now c.args.listing.now) c.args.fill c.args.short c.args.folder.now
-            c.loop-index.files c.put_chosen.new.files (F.holds c.loop-index.files) (F.holds c.put_chosen.new.files) (g.met.F.Files.counts_now c.loop-index.files) step.stays step.crash k n fate) 1 _ put.0 put.1.each;
-        lines = put.1.lines;
-      },
-      search rules,
-    )
-
-pub returns-in_err-done-clause-crash : goal.returns-in_err-done-clause-crash
-returns-in_err-done-clause-crash g c told =
-    let F = g.F.Files in
-    let inv = c.loop-index.invariant in
-    spares_on F.moment F.may_leave F.left_since c.args.files.now c.loop-index.files c.put_chosen.new.files c.args.folder.now (F.holds c.args.files.now) (F.holds c.loop-index.files) (inv.stays told) (inv.crash told) (c.put_chosen.ensures.crash told)
-
-pub returns-in_err-done-clause-elsewhere : goal.returns-in_err-done-clause-elsewhere
-returns-in_err-done-clause-elsewhere g c q other =
-    let inv = c.loop-index.invariant in
-    let after : c.loop-index.index ≡ suc (length inv.put.0) = omega (arith, inv.put.2) in
-    let target = c.in_ok-target.ensures in
-    let is : c.as_str-place.result.now ≡ string_bytes c.in_ok-target.target.text = search rules in
-    let there : (m : NodeFields) → slice_get (listing_now c.args.listing.now).nodes c.loop-index.index ≡ Some m → c.as_str-place.result.now ≡ names_text (placed c.args.short (listing_now c.args.listing.now) c.loop-index.index m)
-    = λ m at. is ∙ target.text m (length inv.put.0) at (sym after) (inv.way (length inv.put.0) (sym after)) in
-    c.put_chosen.ensures.elsewhere q (λ m at chosen made e. other c.loop-index.index m at chosen made (e ∙ ap (λ t. c.args.folder.now ++ t) (there m at))) ∙ inv.elsewhere q other
-
-pub returns-in_err-note-clause-put : goal.returns-in_err-note-clause-put
-returns-in_err-note-clause-put g c =
-    let F = g.F.Files in
-    let put = c.loop-index.invariant.put in
-    let step = c.put_chosen.ensures in (
-      c.loop-index.heard,
-      put.0,
-      record {
-        each = each_map _ _ (λ k n fate. done_still F.moment F.may_leave F.left_since (map (λ (word : Bor (List ℕ)). word.now) c.args.only.now) F.tells (Fails F.faults ⊎ SinkFails g.F.Output.Sink.stream) c.args.listing.now.table.now (listing_now c.args.listing.now) c.args.fill c.args.short c.args.folder.now
-            c.loop-index.files c.put_chosen.new.files (F.holds c.loop-index.files) (F.holds c.put_chosen.new.files) (g.met.F.Files.counts_now c.loop-index.files) step.stays step.crash k n fate) 1 _ put.0 put.1.each;
-        lines = put.1.lines;
-      },
-      search rules,
-    )
-
-pub returns-in_err-note-clause-crash : goal.returns-in_err-note-clause-crash
-returns-in_err-note-clause-crash g c told =
-    let F = g.F.Files in
-    let inv = c.loop-index.invariant in
-    spares_on F.moment F.may_leave F.left_since c.args.files.now c.loop-index.files c.put_chosen.new.files c.args.folder.now (F.holds c.args.files.now) (F.holds c.loop-index.files) (inv.stays told) (inv.crash told) (c.put_chosen.ensures.crash told)
-
-pub returns-in_err-note-clause-elsewhere : goal.returns-in_err-note-clause-elsewhere
-returns-in_err-note-clause-elsewhere g c q other =
-    let inv = c.loop-index.invariant in
-    let after : c.loop-index.index ≡ suc (length inv.put.0) = omega (arith, inv.put.2) in
-    let target = c.in_ok-target.ensures in
-    let is : c.as_str-place.result.now ≡ string_bytes c.in_ok-target.target.text = search rules in
-    let there : (m : NodeFields) → slice_get (listing_now c.args.listing.now).nodes c.loop-index.index ≡ Some m → c.as_str-place.result.now ≡ names_text (placed c.args.short (listing_now c.args.listing.now) c.loop-index.index m)
-    = λ m at. is ∙ target.text m (length inv.put.0) at (sym after) (inv.way (length inv.put.0) (sym after)) in
-    c.put_chosen.ensures.elsewhere q (λ m at chosen made e. other c.loop-index.index m at chosen made (e ∙ ap (λ t. c.args.folder.now ++ t) (there m at))) ∙ inv.elsewhere q other
-
-pub returns-in_err-heard-clause-put : goal.returns-in_err-heard-clause-put
-returns-in_err-heard-clause-put g c =
+pub loop-next-init : goal.loop-next-init
+loop-next-init g c =
     let F = g.F.Files in
     let S = g.O.Sink in
-    let put = c.loop-index.invariant.put in
-    let step = c.put_chosen.ensures in (
-      c.loop-index.heard,
-      put.0,
-      record {
-        each = each_map _ _ (λ k n fate. done_still F.moment F.may_leave F.left_since (map (λ (word : Bor (List ℕ)). word.now) c.args.only.now) F.tells (Fails F.faults ⊎ SinkFails g.F.Output.Sink.stream) c.args.listing.now.table.now (listing_now c.args.listing.now) c.args.fill c.args.short c.args.folder.now
-            c.loop-index.files c.put_chosen.new.files (F.holds c.loop-index.files) (F.holds c.put_chosen.new.files) (g.met.F.Files.counts_now c.loop-index.files) step.stays step.crash k n fate) 1 _ put.0 put.1.each;
-        lines = subst (λ o. TellsLines c.loop-index.heard (S.stream c.args.out.now) (S.stream o) (fate_lines (node_line c.args.word.now c.args.short (listing_now c.args.listing.now)) (drop 1 (listing_now c.args.listing.now).nodes) put.0)) (sym c.in_err-heard.ensures.memory) put.1.lines;
-      },
-      search rules,
-    )
-
-pub returns-in_err-heard-clause-crash : goal.returns-in_err-heard-clause-crash
-returns-in_err-heard-clause-crash g c told =
-    let F = g.F.Files in
-    let inv = c.loop-index.invariant in
-    spares_on F.moment F.may_leave F.left_since c.args.files.now c.loop-index.files c.put_chosen.new.files c.args.folder.now (F.holds c.args.files.now) (F.holds c.loop-index.files) (inv.stays told) (inv.crash told) (c.put_chosen.ensures.crash told)
-
-pub returns-in_err-heard-clause-elsewhere : goal.returns-in_err-heard-clause-elsewhere
-returns-in_err-heard-clause-elsewhere g c q other =
-    let inv = c.loop-index.invariant in
-    let after : c.loop-index.index ≡ suc (length inv.put.0) = omega (arith, inv.put.2) in
-    let target = c.in_ok-target.ensures in
-    let is : c.as_str-place.result.now ≡ string_bytes c.in_ok-target.target.text = search rules in
-    let there : (m : NodeFields) → slice_get (listing_now c.args.listing.now).nodes c.loop-index.index ≡ Some m → c.as_str-place.result.now ≡ names_text (placed c.args.short (listing_now c.args.listing.now) c.loop-index.index m)
-    = λ m at. is ∙ target.text m (length inv.put.0) at (sym after) (inv.way (length inv.put.0) (sym after)) in
-    c.put_chosen.ensures.elsewhere q (λ m at chosen made e. other c.loop-index.index m at chosen made (e ∙ ap (λ t. c.args.folder.now ++ t) (there m at))) ∙ inv.elsewhere q other
-
-pub loop-index-preserved : goal.loop-index-preserved
-loop-index-preserved g c =
-    let F = g.F.Files in
-    let S = g.O.Sink in
-    let inv = c.loop-index.invariant in
-    let after : c.loop-index.index ≡ suc (length inv.put.0) = omega (arith, inv.put.2) in
-    let target = c.in_ok-target.ensures in
-    let is : c.as_str-place.result.now ≡ string_bytes c.in_ok-target.target.text = search rules in
-    let there : (m : NodeFields) → slice_get (listing_now c.args.listing.now).nodes c.loop-index.index ≡ Some m → c.as_str-place.result.now ≡ names_text (placed c.args.short (listing_now c.args.listing.now) c.loop-index.index m)
-    = λ m at. is ∙ target.text m (length inv.put.0) at (sym after) (inv.way (length inv.put.0) (sym after)) in
-    let fates = inv.put.0 in
-    let fate = c.in_ok-done.done.fate in
-    let l = c.args.listing.now in
-    let m = c.node_at-node.result.now in
-    let n = full_in (state_of l.table.now) (volume_now l.volume) m in
-    let report = listing_now l in
-    let own = own_name c.args.short report in
-    let lined = node_line c.args.word.now c.args.short report in
-    let seen : c.node.inside.path ≡ m.path = search rules in
-    let nodes = (listing_now c.args.listing.now).nodes in
-    let step = c.put_chosen.ensures in
-    let index = c.loop-index.index in
-    let names = placed c.args.short report index n in
-    let here : c.as_str-place.result.now ≡ names_text names = there n c.node_at-node.ensures in
-    let P : ℕ → NodeFields → Fate → Type 0 = IsDone (map (λ (word : Bor (List ℕ)). word.now) c.args.only.now) (IsPut F.tells (Fails F.faults ⊎ SinkFails g.F.Output.Sink.stream) c.args.listing.now.table.now (listing_now c.args.listing.now) c.args.fill c.args.short c.args.folder.now (F.holds c.put_chosen.new.files) (F.moment c.put_chosen.new.files) (F.left_since c.put_chosen.new.files)) in
-    let count : length fates + 1 ≡ index = inv.put.2 in
-    let at : slice_get (drop 1 nodes) (length fates) ≡ Some n = one_on nodes (length fates) ∙ subst (λ k. slice_get nodes k ≡ Some n) after c.node_at-node.ensures in
-    let short_one : c.in_ok-target.target.own ≡ own n = target.own n c.node_at-node.ensures in
+    let report = listing_now c.args.listing.now in
+    let new = c.new-told.ensures in
     record {
       put = (
-        fates ++ fate ∷ [],
-        record {
-          each = each_more P 1 (drop 1 nodes) fates n fate at
-              (each_map _ P (λ k m f. done_still F.moment F.may_leave F.left_since (map (λ (word : Bor (List ℕ)). word.now) c.args.only.now) F.tells (Fails F.faults ⊎ SinkFails g.F.Output.Sink.stream) c.args.listing.now.table.now (listing_now c.args.listing.now) c.args.fill c.args.short c.args.folder.now
-              c.loop-index.files c.put_chosen.new.files (F.holds c.loop-index.files) (F.holds c.put_chosen.new.files) (g.met.F.Files.counts_now c.loop-index.files) step.stays step.crash k m f) 1 _ fates inv.put.1.each)
-              (subst (λ k. P k n fate) (sym count) (c.in_ok-done.ensures.put n c.args.short c.node_at-node.ensures here));
-          lines = subst (λ t. TellsLines c.in_ok-heard.heard (S.stream c.args.out.now) (S.stream c.tell.new.out) t) (sym (lines_more lined (drop 1 nodes) fates n fate at))
-              (tells_on c.loop-index.heard c.in_ok-heard.heard (S.stream c.args.out.now) (S.stream c.loop-index.out) (S.stream c.tell.new.out) (fate_lines lined (drop 1 nodes) fates) (lined fate n) inv.put.1.lines
-              (subst (λ (o : Option (List ℕ)). TellsOn c.loop-index.heard c.in_ok-heard.heard (S.stream c.loop-index.out) (S.stream c.tell.new.out) (fate_line c.args.word.now fate n.path o)) short_one
-              (subst (λ (path : List (List ℕ)). TellsOn c.loop-index.heard c.in_ok-heard.heard (S.stream c.loop-index.out) (S.stream c.tell.new.out) (fate_line c.args.word.now fate path c.in_ok-target.target.own)) seen c.in_ok-heard.ensures.lines)));
-        },
-        (let more = length-append fates (fate ∷ []) in omega (arith, count, more)),
-        c.still_good-good.ensures ∙ ap (λ b. if is_good fate then b else false) inv.put.3 ∙ sym (good_more fates fate),
-        λ wanted told.
-            let holds = F.holds c.put_chosen.new.files in
-            let folder = c.args.folder.now in
-            let still = lines_still (placed c.args.short report) folder (F.holds c.loop-index.files) holds (step.stays told) 1 (drop 1 nodes) fates (notes_text c.args.short report c.loop-index.manifest.items) (inv.put.4 wanted told) in
-            let noted = subst (λ t. IsNoted c.args.digest F.tells holds (folder ++ t) fate c.in_ok-done.done.digest) here c.in_ok-done.ensures.digest in
-            let one = noted_line c.args.digest F.tells holds folder c.args.short report index n fate c.in_ok-done.done.digest c.node_at-node.ensures wanted told noted in
-            let notes = notes_of fate c.in_ok-done.done.digest index in
-            let line = notes_text c.args.short report notes in
-            let more = line_more (placed c.args.short report) holds folder 1 (drop 1 nodes) fates n fate (notes_text c.args.short report c.loop-index.manifest.items) line at still (subst (λ k. IsLine holds folder (placed c.args.short report k n) fate line) (sym count) one) in
-            subst (λ t. AreLines (placed c.args.short report) holds folder 1 (drop 1 nodes) (fates ++ fate ∷ []) t) (sym (ap (notes_text c.args.short report) c.in_ok-note.ensures ∙ notes_more c.args.short report c.loop-index.manifest.items notes)) more,
+        [],
+        record { each = tt; lines = subst (λ b. TellsLines b (S.stream c.args.out.now) (S.stream c.args.out.now) []) (sym new.1) (record { given = search rules; kept = refl }) },
+        refl,
+        new.0,
+        λ wanted told. ap (notes_text c.args.short report) new.2,
       );
-      way = λ k next.
-          let e : k ≡ index = omega (arith, next) in
-          subst (λ x. IsWay nodes x c.place_of.new.way.items) (sym e) (target.way (length fates) (sym after) (inv.way (length fates) (sym after)));
-      stays = λ told q bytes is. step.stays told q bytes (inv.stays told q bytes is);
-      outside = λ q out. step.outside q out ∙ inv.outside q out;
-      elsewhere = λ q other. step.elsewhere q (λ m at chosen made e. other index m at chosen made (e ∙ ap (λ t. c.args.folder.now ++ t) (there m at))) ∙ inv.elsewhere q other;
-      crash = λ told. spares_on F.moment F.may_leave F.left_since c.args.files.now c.loop-index.files c.put_chosen.new.files c.args.folder.now (F.holds c.args.files.now) (F.holds c.loop-index.files) (inv.stays told) (inv.crash told) (step.crash told);
+      after = omega arith;
+      way = λ d. search rules;
+      spares = run_nothing F (map (λ (word : Bor (List ℕ)). word.now) c.args.only.now) c.args.fill c.args.short report c.args.folder.now c.args.files.now;
     }
+
+pub loop-next-preserved : goal.loop-next-preserved
+loop-next-preserved g c =
+    let F = g.F.Files in
+    let S = g.O.Sink in
+    let out = g.F.Output.Sink.stream in
+    let inv = c.loop-next.invariant in
+    let l = c.args.listing.now in
+    let report = listing_now l in
+    let only = map (λ (word : Bor (List ℕ)). word.now) c.args.only.now in
+    let lined = node_line c.args.word.now c.args.short report in
+    let first = c.loop-next.next in
+    let fates = inv.put.0 in
+    let count = inv.put.2 in
+    let step = c.in_ok-next.ensures in
+    let more = step.put.0 in
+    let spares = c.put_run.ensures.spares in
+    let P : ℕ → NodeFields → Fate → Type 0 = IsDone only (IsPutAt F out c.put_run.new.files l.table.now report c.args.fill c.args.short c.args.folder.now) in
+    let puts : Puts lined P report.nodes (S.stream c.args.out.now) (S.stream c.loop-next.out) c.loop-next.told.heard fates = record {
+      each = each_map _ P (λ k n fate. done_still F.moment F.may_leave F.left_since only F.tells (Fails F.faults ⊎ SinkFails out) l.table.now report c.args.fill c.args.short c.args.folder.now
+          c.loop-next.files c.put_run.new.files (F.holds c.loop-next.files) (F.holds c.put_run.new.files) (g.met.F.Files.counts_now c.loop-next.files) spares.stays spares.crash k n fate) 1 _ fates inv.put.1.each;
+      lines = inv.put.1.lines;
+    } in
+    record {
+      put = (
+        fates ++ more,
+        runs_behind lined P report.nodes first c.loop-next.told.heard c.put_run.new.told.heard (S.stream c.args.out.now) (S.stream c.loop-next.out) (S.stream c.put_run.new.out) fates more count puts step.put.1,
+        (let long = length-append fates more in let next = step.put.2 in omega (arith, count, long, next)),
+        step.put.3 ∙ ap (λ b. if all_good more then b else false) inv.put.3 ∙ sym (good_join fates more),
+        λ wanted told.
+            let still = lines_still (placed c.args.short report) c.args.folder.now (F.holds c.loop-next.files) (F.holds c.put_run.new.files) (spares.stays told) 1 (drop 1 report.nodes) fates (notes_text c.args.short report c.loop-next.told.manifest.items) (inv.put.4 wanted told) in
+            let text = step.put.4 wanted told in
+            subst (IsManifest (F.holds c.put_run.new.files) c.args.folder.now c.args.short report (fates ++ more)) (sym text.2)
+                (texts_behind c.args.short report (F.holds c.put_run.new.files) c.args.folder.now first fates more (notes_text c.args.short report c.loop-next.told.manifest.items) text.0 count still text.1),
+      );
+      after = (let next = step.next.0 in omega (arith, next));
+      way = step.way;
+      spares = run_on F only c.args.fill c.args.short report c.args.folder.now c.args.files.now c.loop-next.files c.put_run.new.files inv.spares spares;
+    }
+
+pub returns-in_err-next-clause-put : goal.returns-in_err-next-clause-put
+returns-in_err-next-clause-put g c =
+    let F = g.F.Files in
+    let S = g.O.Sink in
+    let out = g.F.Output.Sink.stream in
+    let inv = c.loop-next.invariant in
+    let l = c.args.listing.now in
+    let report = listing_now l in
+    let only = map (λ (word : Bor (List ℕ)). word.now) c.args.only.now in
+    let lined = node_line c.args.word.now c.args.short report in
+    let first = c.loop-next.next in
+    let fates = inv.put.0 in
+    let step = c.put_run.ensures in
+    let P : ℕ → NodeFields → Fate → Type 0 = IsDone only (IsPutAt F out c.put_run.new.files l.table.now report c.args.fill c.args.short c.args.folder.now) in
+    let puts : Puts lined P report.nodes (S.stream c.args.out.now) (S.stream c.loop-next.out) c.loop-next.told.heard fates = record {
+      each = each_map _ P (λ k n fate. done_still F.moment F.may_leave F.left_since only F.tells (Fails F.faults ⊎ SinkFails out) l.table.now report c.args.fill c.args.short c.args.folder.now
+          c.loop-next.files c.put_run.new.files (F.holds c.loop-next.files) (F.holds c.put_run.new.files) (g.met.F.Files.counts_now c.loop-next.files) step.spares.stays step.spares.crash k n fate) 1 _ fates inv.put.1.each;
+      lines = inv.put.1.lines;
+    } in (
+      c.put_run.new.told.heard,
+      fates ++ step.put.0,
+      runs_behind lined P report.nodes first c.loop-next.told.heard c.put_run.new.told.heard (S.stream c.args.out.now) (S.stream c.loop-next.out) (S.stream c.put_run.new.out) fates step.put.0 inv.put.2 puts step.put.1,
+      search rules,
+    )
+
+pub returns-in_err-next-clause-stays : goal.returns-in_err-next-clause-stays
+returns-in_err-next-clause-stays g c told q bytes is = c.put_run.ensures.spares.stays told q bytes (c.loop-next.invariant.spares.stays told q bytes is)
+
+pub returns-in_err-next-clause-outside : goal.returns-in_err-next-clause-outside
+returns-in_err-next-clause-outside g c q out = c.put_run.ensures.spares.outside q out ∙ c.loop-next.invariant.spares.outside q out
+
+pub returns-in_err-next-clause-elsewhere : goal.returns-in_err-next-clause-elsewhere
+returns-in_err-next-clause-elsewhere g c q other = c.put_run.ensures.spares.elsewhere q other ∙ c.loop-next.invariant.spares.elsewhere q other
+
+pub returns-in_err-next-clause-crash : goal.returns-in_err-next-clause-crash
+returns-in_err-next-clause-crash g c told =
+    let F = g.F.Files in
+    let report = listing_now c.args.listing.now in
+    (run_on F (map (λ (word : Bor (List ℕ)). word.now) c.args.only.now) c.args.fill c.args.short report c.args.folder.now c.args.files.now c.loop-next.files c.put_run.new.files c.loop-next.invariant.spares c.put_run.ensures.spares).crash told
 
 pub returns-clause-put : goal.returns-clause-put
 returns-clause-put g c =
-    let put = c.loop-index.invariant.put in
+    let put = c.loop-next.invariant.put in
     let fates = put.0 in
     let nodes = (listing_now c.args.listing.now).nodes in
     let items = c.args.listing.now.nodes.items in
@@ -194,10 +123,16 @@ returns-clause-put g c =
     let all : length nodes ≤ length fates + 1 = omega (arith, few_items, same) in
     let few = each_few _ 1 (drop 1 nodes) fates put.1.each in
     let behind = all_behind nodes (length fates) all in
-    (c.loop-index.heard, fates, put.1, (omega (arith, few, behind), refl, put.3, put.4))
+    (c.loop-next.told.heard, fates, put.1, (omega (arith, few, behind), refl, put.3, put.4))
 
-pub returns-in_err-heard-clause-stays : goal.returns-in_err-heard-clause-stays
-returns-in_err-heard-clause-stays g c told q bytes is = c.put_chosen.ensures.stays told q bytes (c.loop-index.invariant.stays told q bytes is)
+pub returns-clause-stays : goal.returns-clause-stays
+returns-clause-stays g c = c.loop-next.invariant.spares.stays
 
-pub returns-in_err-note-clause-stays : goal.returns-in_err-note-clause-stays
-returns-in_err-note-clause-stays g c told q bytes is = c.put_chosen.ensures.stays told q bytes (c.loop-index.invariant.stays told q bytes is)
+pub returns-clause-outside : goal.returns-clause-outside
+returns-clause-outside g c = c.loop-next.invariant.spares.outside
+
+pub returns-clause-elsewhere : goal.returns-clause-elsewhere
+returns-clause-elsewhere g c = c.loop-next.invariant.spares.elsewhere
+
+pub returns-clause-crash : goal.returns-clause-crash
+returns-clause-crash g c = c.loop-next.invariant.spares.crash

@@ -1,0 +1,54 @@
+use Rattle.std.proofs.Common.{◌≡◌, ◌∙◌, List, ℕ, ap, rules, subst, sym}
+use Rattle.udfs_walk.specs.NodeFields.{NodeFields}
+use Rattle.udfs_lattice.specs.Tables.{state_of}
+use Rattle.udfs_salvage.specs.Found.{volume_now}
+use Rattle.udfs_salvage.specs.Listings.{full_in}
+use Rattle.udfs_extraction.specs.Extracting.{TellsOn, fate_line}
+use Rattle.udfs_extraction.proofs.RunLemmas.{put_goes, put_others}
+use Rattle.udfs_extraction.proofs.runs.tell_put.Goals as goal
+
+pub returns-clause-told : goal.returns-clause-told
+returns-clause-told g c =
+    let S = g.O.Sink in
+    let l = c.args.listing.now in
+    let m = c.node_at-node.result.now in
+    let fate = c.end_of-fate.result in
+    let seen : c.node.inside.path ≡ m.path = search rules in (
+      fate,
+      c.end_of-fate.ensures.end,
+      λ n at.
+          let same : full_in (state_of l.table.now) (volume_now l.volume) m ≡ n = let e = sym c.node_at-node.ensures ∙ at in cc in
+          subst (λ (p : List (List ℕ)). TellsOn c.args.told.now.heard c.in_ok-tell.heard (S.stream c.args.out.now) (S.stream c.tell.new.out) (fate_line c.args.word.now fate p c.args.put.now.place.own)) (seen ∙ ap (λ (x : NodeFields). x.path) same) c.in_ok-tell.ensures.lines,
+      c.still_good.ensures,
+      c.in_ok-note.ensures,
+    )
+
+pub returns-in_err-note-clause-others : goal.returns-in_err-note-clause-others
+returns-in_err-note-clause-others g c =
+    let F = g.F.Files in
+    put_others F.holds c.args.files.now c.end_of.new.files c.args.put.now c.end_of-fate.ensures.unwritten c.end_of-fate.ensures.others
+
+pub returns-in_err-note-clause-crash : goal.returns-in_err-note-clause-crash
+returns-in_err-note-clause-crash g c =
+    let F = g.F.Files in
+    put_goes F.moment F.may_leave F.left_since c.args.files.now c.end_of.new.files c.args.put.now c.end_of-fate.ensures.unwritten c.end_of-fate.ensures.crash
+
+pub returns-in_err-tell-clause-others : goal.returns-in_err-tell-clause-others
+returns-in_err-tell-clause-others g c =
+    let F = g.F.Files in
+    put_others F.holds c.args.files.now c.end_of.new.files c.args.put.now c.end_of-fate.ensures.unwritten c.end_of-fate.ensures.others
+
+pub returns-in_err-tell-clause-crash : goal.returns-in_err-tell-clause-crash
+returns-in_err-tell-clause-crash g c =
+    let F = g.F.Files in
+    put_goes F.moment F.may_leave F.left_since c.args.files.now c.end_of.new.files c.args.put.now c.end_of-fate.ensures.unwritten c.end_of-fate.ensures.crash
+
+pub returns-clause-others : goal.returns-clause-others
+returns-clause-others g c =
+    let F = g.F.Files in
+    put_others F.holds c.args.files.now c.end_of.new.files c.args.put.now c.end_of-fate.ensures.unwritten c.end_of-fate.ensures.others
+
+pub returns-clause-crash : goal.returns-clause-crash
+returns-clause-crash g c =
+    let F = g.F.Files in
+    put_goes F.moment F.may_leave F.left_since c.args.files.now c.end_of.new.files c.args.put.now c.end_of-fate.ensures.unwritten c.end_of-fate.ensures.crash

@@ -1,0 +1,322 @@
+//! The nodes are gone through in runs: the files of a run are written, then their names come to the disk, and then the lines of the run are printed.
+
+ghost use Rattle.std.specs.Prelude.{◌≡◌, ◌≢◌, ◌<◌, ◌≤◌, ◌+◌, ◌-◌, ◌⊎◌, ◌++◌, ◌∷◌, ℕ, Bool, false, true, List, [], Some, None, IfOk, OnErr, OnOk, drop, length, slice_get, string_bytes, if◌then◌else◌};
+ghost use Rattle.udfs_files.specs.Disk.{Fails, Goes, SinkFails};
+ghost use Rattle.udfs_salvage.specs.Listings.{listing_now};
+ghost use Rattle.udfs_walk.specs.NodeFields.{NodeFields};
+ghost use Rattle.udfs_words.specs.Requests.{texts};
+ghost use Rattle.udfs_extraction.specs.Extracting.{IsDone, IsPutAt, TellsOn, all_good, fate_line, is_good, node_line};
+ghost use Rattle.udfs_extraction.specs.Manifests.{AreLines, notes_of, notes_text};
+ghost use Rattle.udfs_extraction.specs.Runs.{AreFresh, AreHeld, AreKept, IsEnd, IsHeld, IsOfPut, RunsOn, SameButPuts, SparesRun};
+ghost use Rattle.udfs_extraction.specs.ShortNames.{IsWay, placed};
+
+use crate::fate_remarks::{Totals, remark_on_fate};
+use crate::manifest::{Noted, note};
+use crate::naming::{Put, end_of, name_files, put_at};
+use crate::node_files::{node_at, path_in, put_chosen};
+use crate::nodes::{Done, Fate, still_good};
+use crate::places::place_of;
+use crate::spare::Spare;
+use crate::telling::tell;
+use crate::times::note_time;
+use std::alloc::{AllocError, Global};
+use udfs_common::files::Files;
+use udfs_reading::Sink;
+use udfs_salvage::{Fill, Listing};
+use udfs_times::Times;
+use udfs_walk::Node;
+
+/// How many nodes a run has at most.
+const NODES: usize = 256;
+
+/// How many bytes are written in a run, at most, before its last file: 16 MiB.
+const BYTES: u64 = 16_777_216;
+
+/// What became of the nodes of a volume.
+#[derive(Drop)]
+pub struct Told {
+    /// Whether no file and no folder failed.
+    pub good: bool,
+    /// Whether the output took all lines.
+    pub heard: bool,
+    /// How many there are of each sort.
+    pub totals: Totals,
+    /// The files that were written, with their digests, where these are wanted.
+    pub manifest: Vec<Noted>,
+    /// The folders that were made, whose times are set when all is made.
+    pub made: Vec<usize>,
+}
+
+impl Told {
+    /// Nothing became of any node.
+    pub fn new(alloc: Global) -> Told
+        ensures { (result.good ≡ true) × (result.heard ≡ true) × (result.manifest.items ≡ []) }
+    {
+        Told {
+            good: true,
+            heard: true,
+            totals: Totals::new(),
+            manifest: Vec::new(alloc),
+            made: Vec::new(alloc),
+        }
+    }
+}
+
+/// How many bytes were written up to a node, by how many they were before it.
+fn written_to(bytes: u64, node: &Node, fate: Fate) -> u64 {
+    if fate != Fate::Written {
+        return bytes;
+    }
+    match node.size {
+        Some(size) => bytes.saturating_add(size),
+        None => bytes,
+    }
+}
+
+/// Whether a run ends with the node that is put behind `count` others: it has as many nodes as may be, or as many bytes; or what was to be made of the last one
+/// failed, so that the reason is said before another call fails.
+fn is_last(count: usize, bytes: u64, fate: Fate) -> bool {
+    if count + 1 >= NODES || bytes >= BYTES {
+        return true;
+    }
+    match fate {
+        Fate::Failed | Fate::Left => true,
+        _ => false,
+    }
+}
+
+/// Does what is to be done with the node of this index, if it is asked for. `way` has the way to the node before it, and then the way to this one.
+fn put_one<F: Files>(
+    alloc: Global,
+    listing: &Listing<'_>,
+    index: usize,
+    only: &[&str],
+    fill: Fill,
+    short: bool,
+    digest: bool,
+    folder: &str,
+    spare: &Spare,
+    way: &mut Vec<usize>,
+    files: &mut F,
+) -> Result<Put, AllocError>
+    requires index { index < length listing.now.nodes.items }
+    requires after { 0 < index }
+    requires way { IsWay (listing_now listing.now).nodes (index - 1) way.old.items }
+    ensures held { IfOk result (λ put. (n : NodeFields) → slice_get (listing_now listing.now).nodes index ≡ Some n →
+        IsHeld F.Files F.Output.stream files.new (texts only.now) listing.now.table.now (listing_now listing.now) fill short digest folder.now index n put) }
+    ensures fresh { IfOk result (λ put. put.done.fate ≡ Fate.Written → F.tells → F.holds files.old (string_bytes put.path) ≡ Some None) }
+    ensures way { IfOk result (λ put. IsWay (listing_now listing.now).nodes index way.new.items) }
+    ensures spares { SparesRun F.Files (texts only.now) fill short (listing_now listing.now) folder.now files.old files.new }
+{
+    let place = place_of(alloc, listing, index, short, way)?;
+    let text = place.text.as_str();
+    let path = path_in(alloc, folder, text)?;
+    let whole = path.as_str();
+    let done = put_chosen(
+        alloc, listing, index, only, fill, digest, whole, spare, files,
+    )?;
+    Ok(Put { place, path, done })
+}
+
+/// Does what is to be done with the nodes of a run, of which the first has this index. Of a file that is written the name may not be on the disk yet.
+fn put_each<F: Files>(
+    alloc: Global,
+    listing: &Listing<'_>,
+    first: usize,
+    only: &[&str],
+    fill: Fill,
+    short: bool,
+    digest: bool,
+    folder: &str,
+    way: &mut Vec<usize>,
+    puts: &mut Vec<Put>,
+    files: &mut F,
+) -> Result<(), AllocError>
+    requires after { 0 < first }
+    requires first { first ≤ length listing.now.nodes.items }
+    requires way { IsWay (listing_now listing.now).nodes (first - 1) way.old.items }
+    requires none { puts.old.items ≡ [] }
+    ensures held { AreHeld F.Files F.Output.stream files.new (texts only.now) listing.now.table.now (listing_now listing.now) fill short digest folder.now first puts.new.items }
+    ensures fresh { F.tells → AreFresh (F.holds files.old) puts.new.items }
+    ensures few { first + length puts.new.items ≤ length listing.now.nodes.items }
+    ensures some { OnOk result (first < length listing.now.nodes.items → 0 < length puts.new.items) }
+    ensures way { OnOk result (IsWay (listing_now listing.now).nodes (first + length puts.new.items - 1) way.new.items) }
+    ensures spares { SparesRun F.Files (texts only.now) fill short (listing_now listing.now) folder.now files.old files.new }
+{
+    let spare = Spare::new();
+    let mut bytes = 0;
+    for index in first..listing.nodes.len() {
+        let put = put_one(
+            alloc, listing, index, only, fill, short, digest, folder, &spare, way, files,
+        )?;
+        let fate = put.done.fate;
+        bytes = written_to(bytes, node_at(listing, index), fate);
+        let last = is_last(puts.len(), bytes, fate);
+        puts.push(put)?;
+        if last {
+            return Ok(());
+        }
+    }
+    Ok(())
+}
+
+/// Tells what became of a node in the end, in a line if the output took all before it, and shows a remark on it. A file whose name is not on the disk is removed.
+/// Where memory runs out, its line is not printed.
+fn tell_put<F: Files, O: Sink>(
+    alloc: Global,
+    listing: &Listing<'_>,
+    index: usize,
+    put: &Put,
+    named: bool,
+    word: &str,
+    only: &[&str],
+    folder: &str,
+    times: &Times,
+    told: &mut Told,
+    files: &mut F,
+    out: &mut O,
+) -> Result<(), AllocError>
+    requires { index < length listing.now.nodes.items }
+    ensures told { OnOk result ((fate : Fate) × IsEnd named put.now.done.fate fate ×
+        ((n : NodeFields) → slice_get (listing_now listing.now).nodes index ≡ Some n → TellsOn told.old.heard told.new.heard (O.stream out.old) (O.stream out.new) (fate_line word.now fate n.path put.now.place.own)) ×
+        (told.new.good ≡ (if is_good fate then told.old.good else false)) × (told.new.manifest.items ≡ told.old.manifest.items ++ notes_of fate put.now.done.digest index)) }
+    ensures untold { OnErr result ((out.new ≡ out.old) × (told.new.heard ≡ told.old.heard)) }
+    ensures named { named ≡ true → files.new ≡ files.old }
+    ensures others { (q : List ℕ) → (¬ IsOfPut (put.now ∷ []) q) → F.holds files.new q ≡ F.holds files.old q }
+    ensures crash { Goes F.moment F.may_leave F.left_since files.old files.new (SameButPuts (put.now ∷ [])) }
+{
+    let fate = end_of(put, named, files);
+    let digest = put.done.digest;
+    let node = node_at(listing, index);
+    note(&mut told.manifest, Done { fate, digest }, index)?;
+    told.good = still_good(told.good, fate);
+    told.heard = tell(
+        alloc,
+        told.heard,
+        fate,
+        word,
+        &node.path,
+        &put.place.own,
+        out,
+    )?;
+    remark_on_fate(alloc, listing, word, node, fate, &mut told.totals, files);
+    let place = put.place.text.as_str();
+    note_time(
+        alloc,
+        word,
+        node,
+        index,
+        only,
+        fate,
+        folder,
+        place,
+        &mut told.made,
+        times,
+        files,
+    );
+    Ok(())
+}
+
+/// Tells what became of the nodes of a run, of which the first has this index. `named` says whether the names of its files are on the disk; if not, they are removed.
+fn tell_each<F: Files, O: Sink>(
+    alloc: Global,
+    listing: &Listing<'_>,
+    first: usize,
+    puts: &[Put],
+    named: bool,
+    word: &str,
+    only: &[&str],
+    folder: &str,
+    times: &Times,
+    told: &mut Told,
+    files: &mut F,
+    out: &mut O,
+) -> Result<(), AllocError>
+    requires few { first + length puts.now ≤ length listing.now.nodes.items }
+    requires cause { named ≡ false → Fails F.faults }
+    requires kept { named ≡ true → F.tells → AreKept (F.holds files.old) (F.may_leave files.old) puts.now }
+    // As the files were before any of them was removed.
+    ensures put { (fill : Fill) (short digest : Bool) → AreHeld F.Files F.Output.stream files.old (texts only.now) listing.now.table.now (listing_now listing.now) fill short digest folder.now first puts.now →
+        (fates : List Fate) × RunsOn (node_line word.now short (listing_now listing.now))
+        (λ k n fate. IsDone (texts only.now) (IsPutAt F.Files F.Output.stream files.old listing.now.table.now (listing_now listing.now) fill short folder.now) k n fate × (named ≡ false → fate ≢ Fate.Written))
+        first (listing_now listing.now).nodes told.old.heard told.new.heard (O.stream out.old) (O.stream out.new) fates ×
+        OnOk result ((length fates ≡ length puts.now) × (told.new.good ≡ (if all_good fates then told.old.good else false)) ×
+        (digest ≡ true → F.tells → (text : List ℕ) × AreLines (placed short (listing_now listing.now)) (F.holds files.old) folder.now first (drop first (listing_now listing.now).nodes) fates text ×
+        (notes_text short (listing_now listing.now) told.new.manifest.items ≡ notes_text short (listing_now listing.now) told.old.manifest.items ++ text))) }
+    ensures named { named ≡ true → files.new ≡ files.old }
+    ensures others { (q : List ℕ) → (¬ IsOfPut puts.now q) → F.holds files.new q ≡ F.holds files.old q }
+    ensures crash { Goes F.moment F.may_leave F.left_since files.old files.new (SameButPuts puts.now) }
+{
+    for k in 0..puts.len() {
+        let put = put_at(puts, k);
+        tell_put(
+            alloc,
+            listing,
+            first + k,
+            put,
+            named,
+            word,
+            only,
+            folder,
+            times,
+            told,
+            files,
+            out,
+        )?;
+    }
+    Ok(())
+}
+
+/// Goes through a run of nodes, of which the first has this index, and returns the index behind it. What was done by the time that memory runs out is told, as far as
+/// there is memory for it.
+pub fn put_run<F: Files, O: Sink>(
+    alloc: Global,
+    listing: &Listing<'_>,
+    first: usize,
+    word: &str,
+    only: &[&str],
+    fill: Fill,
+    short: bool,
+    digest: bool,
+    folder: &str,
+    times: &Times,
+    way: &mut Vec<usize>,
+    told: &mut Told,
+    files: &mut F,
+    out: &mut O,
+) -> Result<usize, AllocError>
+    requires after { 0 < first }
+    requires first { first < length listing.now.nodes.items }
+    requires way { IsWay (listing_now listing.now).nodes (first - 1) way.old.items }
+    ensures put { (fates : List Fate) × RunsOn (node_line word.now short (listing_now listing.now))
+        (IsDone (texts only.now) (IsPutAt F.Files F.Output.stream files.new listing.now.table.now (listing_now listing.now) fill short folder.now))
+        first (listing_now listing.now).nodes told.old.heard told.new.heard (O.stream out.old) (O.stream out.new) fates ×
+        IfOk result (λ next. (next ≡ first + length fates) × (told.new.good ≡ (if all_good fates then told.old.good else false)) ×
+        (digest ≡ true → F.tells → (text : List ℕ) × AreLines (placed short (listing_now listing.now)) (F.holds files.new) folder.now first (drop first (listing_now listing.now).nodes) fates text ×
+        (notes_text short (listing_now listing.now) told.new.manifest.items ≡ notes_text short (listing_now listing.now) told.old.manifest.items ++ text))) }
+    ensures next { IfOk result (λ next. (first < next) × (next ≤ length listing.now.nodes.items)) }
+    ensures way { IfOk result (λ next. IsWay (listing_now listing.now).nodes (next - 1) way.new.items) }
+    ensures spares { SparesRun F.Files (texts only.now) fill short (listing_now listing.now) folder.now files.old files.new }
+{
+    let mut puts = Vec::new(alloc);
+    let put = put_each(
+        alloc, listing, first, only, fill, short, digest, folder, way, &mut puts, files,
+    );
+    let named = name_files(puts.as_slice(), files);
+    tell_each(
+        alloc,
+        listing,
+        first,
+        puts.as_slice(),
+        named,
+        word,
+        only,
+        folder,
+        times,
+        told,
+        files,
+        out,
+    )?;
+    put?;
+    Ok(first + puts.len())
+}
