@@ -8,11 +8,11 @@ use Rattle.std.proofs.lemmas.Bool.{eqb-true}
 use lib.Seq.{drop-drop}
 use Rattle.udfs_lattice.specs.declared.facts.Fact.TheVariants.{Unknown, Known, Conflict}
 use Rattle.udfs_lattice.specs.States.{State, join_of, join_of-unknown}
-use Rattle.udfs_lattice.specs.Tables.{Table, state_of, empty_table, one_entry, join_tables}
+use Rattle.udfs_lattice.specs.Tables.{AreForgotten, IsWithoutConflicts, Table, empty_table, is_named, join_tables, one_entry, state_of, without_conflict}
 use Rattle.udfs_lattice.specs.TableLaws.{state_of-empty, state_of-join_tables, state_of-one_entry}
 use Rattle.udfs_reading.specs.Places.{HasBlockAt}
 use Rattle.udfs_index.specs.declared.packet.Packet.{Packet}
-use Rattle.udfs_index.specs.Slots.{Slot, slot_at, AreSlotsSame, AreSlotsSet}
+use Rattle.udfs_index.specs.Slots.{Slot, slot_at, settled, AreSlotsForgotten, AreSlotsSame, AreSlotsSet, AreSlotsSettled}
 use Rattle.udfs_index.specs.Places.{behind, from_place, bytes_at, state_by, AreHeld, IsInside}
 use Rattle.udfs_index.specs.Copying.{AreAllTold}
 use Rattle.udfs_index.specs.Index.{contents_of, input_by, Took, IsFrontAt, IsAtPlace, IsPlaceOf}
@@ -210,3 +210,37 @@ pub not_held : {S : Type 0} (content : S → Option (List ℕ)) (inputs : List (
 not_held {S} content inputs wholes place size s got told short held =
     let less : length (get_or wholes (place / 2 ^ 44) []) < place % 2 ^ 44 + size = subst (λ (o : Option (List ℕ)). IfSome o (λ all. length all < place % 2 ^ 44 + size)) (content_at content inputs wholes (place / 2 ^ 44) s got told) short in
     omega (arith, less, held)
+
+inside_unless : (k : ℕ) (slot : Slot) (b : Bool) → IsInside k slot → IsInside k (cond b Unknown slot)
+inside_unless k slot true h = tt
+inside_unless k slot false h = h
+
+state_unless : (wholes : List (List ℕ)) (slot : Slot) (b : Bool) → cond b Unknown (state_by wholes slot) ≡ state_by wholes (cond b Unknown slot)
+state_unless wholes slot true = refl
+state_unless wholes slot false = refl
+
+-- some blocks were forgotten
+pub took_forgotten : {contents : List (Option (List ℕ))} {old new : List Packet} {t u : Table} (blocks : List ℕ) → AreSlotsForgotten old blocks new → AreForgotten t blocks u → Took contents old t → Took contents new u
+took_forgotten {contents} {old} {new} {t} {u} blocks set left h =
+    record {
+      inside = λ n. subst (IsInside (length contents)) (sym (set n)) (inside_unless (length contents) (slot_at old n) (is_named blocks n) (h.inside n));
+      says = λ wholes told n. left n ∙ ap (cond (is_named blocks n) Unknown) (h.says wholes told n) ∙ state_unless wholes (slot_at old n) (is_named blocks n) ∙ ap (state_by wholes) (sym (set n));
+    }
+
+inside_settled : (k : ℕ) (slot : Slot) → IsInside k slot → IsInside k (settled slot)
+inside_settled k Unknown h = tt
+inside_settled k (Known place) h = h
+inside_settled k Conflict h = tt
+
+state_settled : (wholes : List (List ℕ)) (slot : Slot) → without_conflict (state_by wholes slot) ≡ state_by wholes (settled slot)
+state_settled wholes Unknown = refl
+state_settled wholes (Known place) = refl
+state_settled wholes Conflict = refl
+
+-- those in conflict were
+pub took_settled : {contents : List (Option (List ℕ))} {old new : List Packet} {t u : Table} → AreSlotsSettled old new → IsWithoutConflicts t u → Took contents old t → Took contents new u
+took_settled {contents} {old} {new} {t} {u} set left h =
+    record {
+      inside = λ n. subst (IsInside (length contents)) (sym (set n)) (inside_settled (length contents) (slot_at old n) (h.inside n));
+      says = λ wholes told n. left n ∙ ap without_conflict (h.says wholes told n) ∙ state_settled wholes (slot_at old n) ∙ ap (state_by wholes) (sym (set n));
+    }

@@ -109,25 +109,25 @@ unplaced wholes Conflict h = refl
 pub placed : (wholes : List (List ℕ)) (s : Slot) (place : ℕ) (there : List ℕ) → s ≡ Known place → bytes_at wholes place ≡ there → there ≡ content (state_by wholes s)
 placed wholes s place there is e = sym e ∙ sym (ap (λ (x : Slot). content (state_by wholes x)) is)
 
--- the bytes of no blocks
-pub blocks_none : (t : Table) (n : ℕ) → flat_map content (states_from t n 0) ≡ []
-blocks_none t n = ap (flat_map content) (states-none t n)
+-- what comes of no blocks
+pub blocks_none : (part : State → List ℕ) (t : Table) (n : ℕ) → flat_map part (states_from t n 0) ≡ []
+blocks_none part t n = ap (flat_map part) (states-none t n)
 
--- the bytes of one more block
-pub blocks_more : (t : Table) (n m : ℕ) → flat_map content (states_from t n (m + 1)) ≡ flat_map content (states_from t n m) ++ content (state_of t (n + m))
-blocks_more t n m =
+-- and of one more block
+pub blocks_more : (part : State → List ℕ) (t : Table) (n m : ℕ) → flat_map part (states_from t n (m + 1)) ≡ flat_map part (states_from t n m) ++ part (state_of t (n + m))
+blocks_more part t n m =
     let one : states_from t (n + m) 1 ≡ state_of t (n + m) ∷ [] = states-next t (n + m) 0 ∙ ap (λ (l : List State). state_of t (n + m) ∷ l) (states-none t (n + m + 1)) in
-    ap (flat_map content) (states-append t n m 1 ∙ ap (λ (l : List State). states_from t n m ++ l) one)
-    ∙ flat_map-append content (states_from t n m) (state_of t (n + m) ∷ [])
-    ∙ ap (λ (l : List ℕ). flat_map content (states_from t n m) ++ l) (append-nil (content (state_of t (n + m))))
+    ap (flat_map part) (states-append t n m 1 ∙ ap (λ (l : List State). states_from t n m ++ l) one)
+    ∙ flat_map-append part (states_from t n m) (state_of t (n + m) ∷ [])
+    ∙ ap (λ (l : List ℕ). flat_map part (states_from t n m) ++ l) (append-nil (part (state_of t (n + m))))
 
 -- a block, and what stands before and behind it
-pub blocks_cut : (t : Table) (n m end : ℕ) → m < end → (rest : List ℕ) × ((flat_map content (states_from t n m) ++ content (state_of t (n + m))) ++ rest ≡ flat_map content (states_from t n end))
-blocks_cut t n m end lt =
+pub blocks_cut : (part : State → List ℕ) (t : Table) (n m end : ℕ) → m < end → (rest : List ℕ) × ((flat_map part (states_from t n m) ++ part (state_of t (n + m))) ++ rest ≡ flat_map part (states_from t n end))
+blocks_cut part t n m end lt =
     let later = states_from t (n + (m + 1)) (end - (m + 1)) in
     let z : (m + 1) + (end - (m + 1)) ≡ end = omega (arith, lt) in (
-      flat_map content later,
-      ap (λ (l : List ℕ). l ++ flat_map content later) (sym (blocks_more t n m)) ∙ sym (flat_map-append content (states_from t n (m + 1)) later) ∙ ap (flat_map content) (sym (states-append t n (m + 1) (end - (m + 1))) ∙ ap (states_from t n) z),
+      flat_map part later,
+      ap (λ (l : List ℕ). l ++ flat_map part later) (sym (blocks_more part t n m)) ∙ sym (flat_map-append part (states_from t n (m + 1)) later) ∙ ap (flat_map part) (sym (states-append t n (m + 1) (end - (m + 1))) ∙ ap (states_from t n) z),
     )
 
 -- a packet's number, its masks and the bytes of its known blocks

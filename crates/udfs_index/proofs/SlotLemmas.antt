@@ -1,15 +1,16 @@
 -- What packets say after one of them has changed.
-use Rattle.std.proofs.Common.{◌≡◌, ◌≢◌, ℕ, zero, suc, ◌-◌, ◌*◌, ◌/◌, ◌%◌, ◌^◌, ◌<◌, ◌==◌, Bool, true, false, cond, List, [], ◌∷◌, ◌++◌, length, Option, Some, slice_index_or, bit_and, bit_or, w32, min, refl, sym, ap, ◌∙◌, arith}
+use Rattle.std.proofs.Common.{◌≡◌, ◌≢◌, ℕ, zero, suc, ◌-◌, ◌*◌, ◌/◌, ◌%◌, ◌^◌, ◌<◌, ◌≤◌, ◌+◌, ◌==◌, ◌||◌, Bool, true, false, cond, List, [], ◌∷◌, ◌++◌, length, Option, Some, slice_index_or, ◌⊎◌, inl, inr, bit_and, bit_or, w32, min, refl, sym, ap, ◌∙◌, arith}
 use Rattle.std.specs.Int.{bit_at, bit_not}
 use Rattle.std.specs.List.{slice_get}
 use Rattle.std.proofs.Math.ListN.{set}
-use Rattle.std.proofs.lemmas.Bool.{eqb-true, eqb-false}
+use Rattle.std.proofs.lemmas.Bool.{cases_lt, eqb-true, eqb-false}
 use Rattle.std.proofs.lemmas.Bool.Decides.{nat_tests}
-use Rattle.std.proofs.lemmas.List.{get_or-set_same, get_or-set_other}
+use Rattle.std.proofs.lemmas.List.{get_or-set_same, get_or-set_other, length-set}
 use Rattle.std.proofs.lemmas.Nat.Bits.{bit_at-zero, bit_at-lt, bit_at_and, bit_at_not, bit_at_set_other, bit_at_set_same, bit_at_clear_other, bit_at_clear_same}
 use Rattle.udfs_lattice.specs.declared.facts.Fact.TheVariants.{Unknown, Known, Conflict}
 use Rattle.udfs_index.specs.declared.packet.Packet.{Packet}
-use Rattle.udfs_index.specs.Slots.{Slot, slot_by, slot_in, is_placed, is_disputed, slot_found, slot_at, IsSlotSet, AreSlotsSet, AreSlotsSame}
+use Rattle.udfs_index.specs.Slots.{Slot, slot_by, slot_in, is_placed, is_disputed, settled, slot_found, slot_at, IsSlotSet, AreSlotsForgotten, AreSlotsSet, AreSlotsSame, AreSlotsSettled}
+use Rattle.udfs_lattice.specs.Tables.{is_named}
 
 -- ---- one packet
 -- block i is put to a place
@@ -113,3 +114,92 @@ pub disputed_bit : (k c place i : ℕ) → k < 2 ^ 32 → i < 32 → (bit_at (bi
 disputed_bit k c place i fits small =
     ap (λ (x : ℕ). x == 1) (bit_at_and c (bit_not w32 k) i ∙ ap (min (bit_at c i)) (bit_at_not w32 k i fits small))
     ∙ disputed_by (bit_at k i) (bit_at c i) place (bit_at-lt k i) (bit_at-lt c i)
+
+-- ---- what is forgotten
+-- block i is forgotten
+pub forget_slot : (k c : ℕ) (ps : List ℕ) (i j : ℕ) (b : Bool) → (j == i) ≡ b → i < 32 → j < 32
+    → slot_by (bit_at (bit_and k (bit_not w32 (1 * 2 ^ i % 2 ^ 32))) j == 1) (bit_at (bit_and c (bit_not w32 (1 * 2 ^ i % 2 ^ 32))) j == 1) (slice_index_or ps j 0) ≡ cond b Unknown (slot_by (bit_at k j == 1) (bit_at c j == 1) (slice_index_or ps j 0))
+forget_slot k c ps i j true is small near =
+    let same : j ≡ i = eqb-true j i is in
+    let clear : (x : ℕ) → bit_at (bit_and x (bit_not w32 (1 * 2 ^ i % 2 ^ 32))) j ≡ 0 = λ x. ap (bit_at (bit_and x (bit_not w32 (1 * 2 ^ i % 2 ^ 32)))) same ∙ bit_at_clear_same w32 x i small in
+    ap (λ (x : ℕ). slot_by (x == 1) (bit_at (bit_and c (bit_not w32 (1 * 2 ^ i % 2 ^ 32))) j == 1) (slice_index_or ps j 0)) (clear k)
+    ∙ ap (λ (x : ℕ). slot_by false (x == 1) (slice_index_or ps j 0)) (clear c)
+forget_slot k c ps i j false is small near =
+    let other : j ≢ i = eqb-false j i is in
+    ap (λ (x : ℕ). slot_by (x == 1) (bit_at (bit_and c (bit_not w32 (1 * 2 ^ i % 2 ^ 32))) j == 1) (slice_index_or ps j 0)) (bit_at_clear_other w32 k i small j near other)
+    ∙ ap (λ (x : ℕ). slot_by (bit_at k j == 1) (x == 1) (slice_index_or ps j 0)) (bit_at_clear_other w32 c i small j near other)
+
+settled_by : (k c : Bool) (place : ℕ) → slot_by k false place ≡ settled (slot_by k c place)
+settled_by true c place = refl
+settled_by false true place = refl
+settled_by false false place = refl
+
+-- no block of a packet is in conflict
+pub settle_slots : (k c : ℕ) (ps : List ℕ) (i : ℕ) → slot_by (bit_at k i == 1) (bit_at 0 i == 1) (slice_index_or ps i 0) ≡ settled (slot_by (bit_at k i == 1) (bit_at c i == 1) (slice_index_or ps i 0))
+settle_slots k c ps i =
+    ap (λ (x : ℕ). slot_by (bit_at k i == 1) (x == 1) (slice_index_or ps i 0)) (bit_at-zero i) ∙ settled_by (bit_at k i == 1) (bit_at c i == 1) (slice_index_or ps i 0)
+
+none_there : (ps : List Packet) (k i : ℕ) → length ps ≤ k → slot_found (slice_get ps k) i ≡ Unknown
+none_there [] zero i past = refl
+none_there [] (suc k) i past = refl
+none_there (x ∷ ps) zero i past = absurd (omega (arith, past))
+none_there (x ∷ ps) (suc k) i past = none_there ps k i (omega (arith, past))
+
+unsaid_by : (ps : List Packet) (n q : ℕ) (b : Bool) → (q == n) ≡ b → length ps ≤ n / 32 → slot_at ps q ≡ cond b Unknown (slot_at ps q)
+unsaid_by ps n q true is past = ap (slot_at ps) (eqb-true q n is) ∙ none_there ps (n / 32) (n % 32) past
+unsaid_by ps n q false is past = refl
+
+-- a block of which there is no packet
+pub slots_unsaid : (ps : List Packet) (n : ℕ) → length ps ≤ n / 32 → AreSlotsSet ps n Unknown ps
+slots_unsaid ps n past q = unsaid_by ps n q (q == n) refl past
+
+forgotten_by : (a b : Bool) (x y : Slot) → y ≡ cond a Unknown x → cond b Unknown y ≡ cond (a || b) Unknown x
+forgotten_by true true x y is = refl
+forgotten_by true false x y is = is
+forgotten_by false true x y is = refl
+forgotten_by false false x y is = is
+
+-- the first of some blocks, and the others
+pub forgotten_first : (old mid new : List Packet) (n : ℕ) (ns : List ℕ) → AreSlotsSet old n Unknown mid → AreSlotsForgotten mid ns new → AreSlotsForgotten old (n ∷ ns) new
+forgotten_first old mid new n ns one rest q = rest q ∙ forgotten_by (q == n) (is_named ns q) (slot_at old q) (slot_at mid q) (one q)
+
+-- the packets before this one have no block in conflict
+pub record SettledBelow (old : List Packet) (number : ℕ) (new : List Packet) : Type 0 where
+  pub size : length new ≡ length old
+  pub below : (k i : ℕ) → k < number → slot_found (slice_get new k) i ≡ settled (slot_found (slice_get old k) i)
+  pub others : (k : ℕ) → number ≤ k → slice_get new k ≡ slice_get old k
+
+pub settled_none : (old : List Packet) → SettledBelow old 0 old
+settled_none old = record { size = refl; below = λ k i lt. absurd (omega (arith, lt)); others = λ k le. refl }
+
+settled_at : (old mid : List Packet) (number : ℕ) (p new : Packet) (k i : ℕ) (b : Bool) → (k == number) ≡ b → k < number + 1 → number < length mid → slice_get old number ≡ Some p → ((j : ℕ) → slot_in new j ≡ settled (slot_in p j))
+    → (k < number → slot_found (slice_get mid k) i ≡ settled (slot_found (slice_get old k) i)) → slot_found (slice_get (set mid number new) k) i ≡ settled (slot_found (slice_get old k) i)
+settled_at old mid number p new k i true is lt within was says below =
+    let same : k ≡ number = eqb-true k number is in
+    ap (λ (x : ℕ). slot_found (slice_get (set mid number new) x) i) same
+    ∙ ap (λ (o : Option Packet). slot_found o i) (got_same mid number new within)
+    ∙ says i
+    ∙ sym (ap (λ (o : Option Packet). settled (slot_found o i)) (ap (slice_get old) same ∙ was))
+settled_at old mid number p new k i false is lt within was says below =
+    let other : k ≢ number = eqb-false k number is in
+    ap (λ (o : Option Packet). slot_found o i) (got_other mid number k new other) ∙ below (omega (arith, lt, other))
+
+-- and this one
+pub settled_more : (old mid : List Packet) (number : ℕ) (p new : Packet) → number < length mid → slice_get mid number ≡ Some p → ((j : ℕ) → slot_in new j ≡ settled (slot_in p j)) → SettledBelow old number mid → SettledBelow old (number + 1) (set mid number new)
+settled_more old mid number p new within was says h =
+    record {
+      size = length-set mid number new ∙ h.size;
+      below = λ k i lt. settled_at old mid number p new k i (k == number) refl lt within (sym (h.others number (omega arith)) ∙ was) says (λ less. h.below k i less);
+      others = λ k le. got_other mid number k new (λ e. omega (arith, e, le)) ∙ h.others k (omega (arith, le));
+    }
+
+settled_found : (old new : List Packet) (number q : ℕ) → (q / 32 < number) ⊎ (number ≤ q / 32) → length old ≤ number → SettledBelow old number new → slot_at new q ≡ settled (slot_at old q)
+settled_found old new number q (inl low) end h = h.below (q / 32) (q % 32) low
+settled_found old new number q (inr past) end h =
+    ap (λ (o : Option Packet). slot_found o (q % 32)) (h.others (q / 32) past)
+    ∙ none_there old (q / 32) (q % 32) (omega (arith, past, end))
+    ∙ sym (ap settled (none_there old (q / 32) (q % 32) (omega (arith, past, end))))
+
+-- where it was the last one, no packet has
+pub settled_all : (old new : List Packet) (number : ℕ) → length old ≤ number → SettledBelow old number new → AreSlotsSettled old new
+settled_all old new number end h q = settled_found old new number q (cases_lt (q / 32) number) end h

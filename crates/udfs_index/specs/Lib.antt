@@ -6,3 +6,4 @@ pub mod Windows
 pub mod Copying
 pub mod Stores
 pub mod Placed
+pub mod Imaging

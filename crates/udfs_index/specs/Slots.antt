@@ -4,6 +4,7 @@ use Rattle.std.specs.Int.{bit_at}
 use Rattle.std.specs.List.{slice_get}
 use Rattle.udfs_lattice.specs.declared.facts.Fact.{Fact}
 use Rattle.udfs_lattice.specs.declared.facts.Fact.TheVariants.{Unknown, Known, Conflict}
+use Rattle.udfs_lattice.specs.Tables.{is_named}
 use Rattle.udfs_index.specs.declared.packet.Packet.{Packet}
 
 -- a known block has a place
@@ -40,6 +41,22 @@ AreSlotsSet old n slot new = (q : ℕ) → slot_at new q ≡ cond (q == n) slot 
 -- the packets say what they said
 abbrev pub AreSlotsSame : List Packet → List Packet → Type 0
 AreSlotsSame old new = (q : ℕ) → slot_at new q ≡ slot_at old q
+
+-- ---- what packets forget
+
+-- the packets say nothing of these blocks, and of the others what they said
+abbrev pub AreSlotsForgotten : List Packet → List ℕ → List Packet → Type 0
+AreSlotsForgotten old blocks new = (q : ℕ) → slot_at new q ≡ cond (is_named blocks q) Unknown (slot_at old q)
+
+-- the slot itself, but Unknown for Conflict
+abbrev pub settled : Slot → Slot
+settled Unknown = Unknown
+settled (Known place) = Known place
+settled Conflict = Unknown
+
+-- the packets say nothing of each block that was in conflict, and of the others what they said
+abbrev pub AreSlotsSettled : List Packet → List Packet → Type 0
+AreSlotsSettled old new = (q : ℕ) → slot_at new q ≡ settled (slot_at old q)
 
 -- ---- the masks of a packet
 

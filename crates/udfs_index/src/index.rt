@@ -2,13 +2,14 @@
 
 ghost use Rattle.std.specs.Prelude.{◌≡◌, ℕ, ◌+◌, ◌*◌, ◌^◌, ◌≤◌, ◌<◌, List, Some, map, length, take, drop, IfOk, IfSome, OnOk, OnErr};
 ghost use Rattle.udfs_lattice.specs.declared.facts.Fact.TheVariants.{Unknown, Known, Conflict};
-ghost use Rattle.udfs_lattice.specs.Tables.{Table, IsTable, conflict_count, empty_table, known_count, join_tables, one_entry, one_record};
+ghost use Rattle.udfs_lattice.specs.Tables.{AreForgotten, IsTable, IsWithoutConflicts, Table, conflict_count, empty_table, known_count, join_tables, one_entry, one_record};
 ghost use Rattle.udfs_reading.specs.Field.{TakesBlock};
 ghost use Rattle.udfs_reading.specs.Gains.{Gains};
 ghost use Rattle.udfs_reading.specs.PacketFile.{table_bytes};
 ghost use Rattle.udfs_reading.specs.Places.{HasBlockAt};
 ghost use Rattle.udfs_reading.specs.TableFile.{table_bytes_v1};
 ghost use Rattle.udfs_index.specs.Copying.{AreAllTold, BlamesNone, Copies, CountsSink, NoneFails};
+ghost use Rattle.udfs_index.specs.Imaging.{filled_to};
 ghost use Rattle.udfs_index.specs.Index.{Took, IsAtPlace, IsPlaceOf, contents_of, input_by};
 ghost use Rattle.udfs_index.specs.Places.{AreHeld, behind};
 ghost use Rattle.udfs_index.specs.Recorded.{IsOf, IsRecordedAt, TakesNext};
@@ -22,7 +23,7 @@ use crate::places::{NOWHERE, Places, end_of};
 use crate::recorded::{RecordTaker, take_records};
 use crate::stamp::Stamp;
 use crate::stored::{Stored, block_at, fill};
-use crate::{counting, entries, packing};
+use crate::{counting, entries, imaging, packing};
 use std::alloc::{AllocError, Global};
 use udfs_lattice::Fact;
 use udfs_reading::{NotTaken, Sink, Taker};
@@ -118,6 +119,21 @@ impl<'a, S: Stored> Index<'a, S> {
         }
     }
 
+    /// Makes these blocks unknown, whatever they are, and leaves all others as they are. They may be in any order, and each may come several
+    /// times. It takes no memory.
+    pub fn forget_all(&mut self, blocks: &[u32])
+        ensures { (t u : Table) → ⟦<Index<'a, S> as Taker<Cursor<'a, S>>>⟧.took self.old t → AreForgotten t blocks.now u → ⟦<Index<'a, S> as Taker<Cursor<'a, S>>>⟧.took self.new u }
+    {
+        self.places.forget_all(blocks);
+    }
+
+    /// Makes each block that is in conflict unknown, and leaves all others as they are. It takes no memory.
+    pub fn forget_conflicts(&mut self)
+        ensures { (t u : Table) → ⟦<Index<'a, S> as Taker<Cursor<'a, S>>>⟧.took self.old t → IsWithoutConflicts t u → ⟦<Index<'a, S> as Taker<Cursor<'a, S>>>⟧.took self.new u }
+    {
+        self.places.forget_conflicts();
+    }
+
     /// The state of block `n`. The place of a known block is the number of its input, from 0, times 2 ^ 44, plus the offset of its
     /// bytes in that input.
     pub fn slot(&self, n: u32) -> Fact<u64>
@@ -156,6 +172,23 @@ impl<'a, S: Stored> Index<'a, S> {
         ensures reads { (t : Table) → IsTable t → AreAllTold S.content → NoneFails S.fails → ⟦<Index<'a, S> as Taker<Cursor<'a, S>>>⟧.took self.now t → BlamesNone result }
     {
         entries::write_table_v1(&self.inputs, &self.places.packets, sink)
+    }
+
+    /// Writes the image of what was taken: `2048 * (last + 1)` bytes, those of each block that is known, and zeros in the place of each
+    /// that is not. Bytes that follow one another in an input are read at once. It allocates no memory.
+    ///
+    /// # Errors
+    ///
+    /// As of [`write_table`](Self::write_table).
+    pub fn write_image<W: Sink>(&self, last: u32, sink: &mut W) -> Result<(), CopyFault>
+        requires { last ≤ 4194303 }
+        ensures bytes { (t : Table) → AreAllTold S.content → ⟦<Index<'a, S> as Taker<Cursor<'a, S>>>⟧.took self.now t →
+            Copies (W.stream sink.old) (W.stream sink.new) (filled_to t last) result }
+        ensures count { CountsSink (W.stream sink.old).faults (W.stream sink.new).faults result }
+        // An input is blamed only where calls on one may fail, or the bytes of one are not known.
+        ensures reads { (t : Table) → IsTable t → AreAllTold S.content → NoneFails S.fails → ⟦<Index<'a, S> as Taker<Cursor<'a, S>>>⟧.took self.now t → BlamesNone result }
+    {
+        imaging::write_image(&self.inputs, &self.places.packets, last, sink)
     }
 
     /// The place of what comes after the first `at` bytes of the input that is taken, if it has one.

@@ -11,6 +11,7 @@ mod entries;
 mod fault;
 mod file;
 mod heads;
+mod imaging;
 mod index;
 mod inputs;
 pub mod laws;

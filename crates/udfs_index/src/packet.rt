@@ -2,8 +2,8 @@
 
 ghost use Rattle.std.specs.Prelude.{◌≡◌, ◌<◌, ◌==◌, ℕ};
 ghost use Rattle.std.specs.Int.{bit_at};
-ghost use Rattle.udfs_lattice.specs.declared.facts.Fact.TheVariants.{Known, Conflict};
-ghost use Rattle.udfs_index.specs.Slots.{IsSlotSet, slot_in, is_placed, is_disputed};
+ghost use Rattle.udfs_lattice.specs.declared.facts.Fact.TheVariants.{Unknown, Known, Conflict};
+ghost use Rattle.udfs_index.specs.Slots.{IsSlotSet, slot_in, is_placed, is_disputed, settled};
 
 use udfs_lattice::Fact;
 
@@ -77,5 +77,21 @@ impl Packet {
         self.places[i as usize] = by;
         self.known &= !(1 << i);
         self.conflict |= 1 << i;
+    }
+
+    /// Makes block `i` unknown, whatever it is.
+    pub fn forget(&mut self, i: u32)
+        requires { i < 32 }
+        ensures { IsSlotSet self.old i Unknown self.new }
+    {
+        self.known &= !(1 << i);
+        self.conflict &= !(1 << i);
+    }
+
+    /// Makes each block that is in conflict unknown.
+    pub fn forget_conflicts(&mut self)
+        ensures { (i : ℕ) → slot_in self.new i ≡ settled (slot_in self.old i) }
+    {
+        self.conflict = 0;
     }
 }

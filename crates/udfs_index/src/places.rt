@@ -2,7 +2,7 @@
 
 ghost use Rattle.std.specs.Prelude.{◌≡◌, ◌≤◌, ◌<◌, ℕ, length, [], IfOk, OnOk, OnErr};
 ghost use Rattle.udfs_lattice.specs.declared.facts.Fact.TheVariants.{Unknown, Known, Conflict};
-ghost use Rattle.udfs_index.specs.Slots.{AreSlotsSame, AreSlotsSet, slot_at};
+ghost use Rattle.udfs_index.specs.Slots.{AreSlotsForgotten, AreSlotsSame, AreSlotsSet, AreSlotsSettled, slot_at};
 
 use crate::packet::{Packet, UNKNOWN};
 use std::alloc::{AllocError, Global};
@@ -118,5 +118,33 @@ impl Places {
         reach(&mut self.packets, number)?;
         self.packets[number].dispute(n % 32, by);
         Ok(())
+    }
+
+    /// Makes block `n` unknown, whatever it is. It takes no memory.
+    fn forget(&mut self, n: u32)
+        ensures { AreSlotsSet self.old.packets.items n Unknown self.new.packets.items }
+    {
+        let number = (n / 32) as usize;
+        if number < self.packets.len() {
+            self.packets[number].forget(n % 32);
+        }
+    }
+
+    /// Makes these blocks unknown, whatever they are. It takes no memory.
+    pub fn forget_all(&mut self, blocks: &[u32])
+        ensures { AreSlotsForgotten self.old.packets.items blocks.now self.new.packets.items }
+    {
+        for n in blocks {
+            self.forget(*n);
+        }
+    }
+
+    /// Makes each block that is in conflict unknown. It takes no memory.
+    pub fn forget_conflicts(&mut self)
+        ensures { AreSlotsSettled self.old.packets.items self.new.packets.items }
+    {
+        for number in 0..self.packets.len() {
+            self.packets[number].forget_conflicts();
+        }
     }
 }

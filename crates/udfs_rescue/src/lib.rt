@@ -32,4 +32,4 @@ pub use mapfile::Mapfile;
 pub use opening::{PairFault, open_pair};
 pub use pair::Pair;
 pub use run::{Run, RunStatus};
-pub use writing::{write_domain, write_image_map};
+pub use writing::{Statuses, write_domain, write_image_map};

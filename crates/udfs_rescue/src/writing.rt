@@ -5,20 +5,45 @@ ghost use Rattle.std.specs.Prelude.{◌≡◌, true, ℕ, ◌+◌, ◌*◌, ◌�
 ghost use Rattle.std.specs.List.Sorted.{IsNonDecreasing};
 ghost use Rattle.udfs_reading.specs.Writing.{Writes, Passes, FailedPast};
 ghost use Rattle.udfs_rescue.specs.declared.run.Run.{Run};
+ghost use Rattle.udfs_rescue.specs.declared.run.RunStatus.{RunStatus};
 ghost use Rattle.udfs_rescue.specs.Writing.{wanted_status, table_status, status_byte, joined_run, runs_of_blocks, hex_digits, places, position_text, run_line, run_lines, made_by, mark_line, status_line, map_text, domain_text};
-ghost use Rattle.udfs_rescue.specs.BlockSteps.{status_in, heading_in, BlocksRise, TakesRun};
+ghost use Rattle.udfs_rescue.specs.BlockSteps.{heading, TakesRun};
 
 use crate::run::{Run, RunStatus};
 use udfs_lattice::{BlockTable, Fact};
 use udfs_reading::{Outgoing, Sink, WriteFault};
 
-/// What the statuses of the blocks come from.
-#[derive(Clone, Copy)]
-pub enum Blocks<'a> {
-    /// The blocks that are wanted, rising.
-    Wanted(&'a [u32]),
-    /// A table.
-    Of(&'a BlockTable),
+/// What has a status for each block: a table, or what else knows which blocks are known.
+pub trait Statuses {
+    /// The status of each block.
+    ghost statuses: { Self → ℕ → RunStatus };
+
+    /// The status of a block.
+    fn status(&self, block: u32) -> RunStatus
+        ensures { result ≡ statuses self.now block };
+}
+
+impl Statuses for BlockTable {
+    ghost statuses = { λ t n. table_status t n };
+
+    fn status(&self, block: u32) -> RunStatus {
+        table_status(self, block)
+    }
+}
+
+/// The blocks that are wanted, rising.
+#[derive(Drop)]
+struct Wanted<'a> {
+    blocks: &'a [u32],
+    ghost rises: { IsNonDecreasing blocks.now },
+}
+
+impl<'a> Statuses for Wanted<'a> {
+    ghost statuses = { λ wanted n. wanted_status wanted.blocks.now n };
+
+    fn status(&self, block: u32) -> RunStatus {
+        wanted_status(self.blocks, block)
+    }
 }
 
 fn wanted_status(wanted: &[u32], block: u32) -> RunStatus
@@ -136,85 +161,77 @@ fn take_block<W: Sink>(
     Ok(())
 }
 
-impl<'a> Blocks<'a> {
-    fn status(self, block: u32) -> RunStatus
-        requires { BlocksRise self }
-        ensures { result ≡ status_in self.entry block }
-    {
-        match self {
-            Blocks::Wanted(wanted) => wanted_status(wanted, block),
-            Blocks::Of(table) => table_status(table, block),
-        }
-    }
-}
-
 /// The runs of the blocks up to the last one.
-fn write_runs<W: Sink>(
+fn write_runs<T: Statuses, W: Sink>(
     out: &mut Outgoing,
     sink: &mut W,
-    blocks: Blocks<'_>,
+    of: &T,
     last: u32,
 ) -> Result<(), WriteFault>
-    requires rises { BlocksRise blocks }
-    requires last { last ≤ 4194303 }
-    ensures { Passes (W.stream sink.old) (W.stream sink.new) out.old out.new (run_lines (runs_of_blocks (status_in blocks.entry) 0 (last + 1))) result }
+    requires { last ≤ 4194303 }
+    ensures { Passes (W.stream sink.old) (W.stream sink.new) out.old out.new (run_lines (runs_of_blocks (T.statuses of.now) 0 (last + 1))) result }
 {
     let mut run = Run {
         at: 0,
         size: 2048,
-        status: blocks.status(0),
+        status: of.status(0),
     };
     let mut block = 1;
     while block <= last {
-        take_block(out, sink, &mut run, block, blocks.status(block))?;
+        take_block(out, sink, &mut run, block, of.status(block))?;
         block += 1;
     }
     write_run(out, sink, run)?;
     Ok(())
 }
 
-/// Who made the map, the mark of wanted blocks, and the status line.
+/// Who made the map, where it is marked the mark of wanted blocks, and the status line.
 fn write_heading<W: Sink>(
     out: &mut Outgoing,
     sink: &mut W,
-    blocks: Blocks<'_>,
+    is_marked: bool,
 ) -> Result<(), WriteFault>
-    ensures { Passes (W.stream sink.old) (W.stream sink.new) out.old out.new (heading_in blocks.entry) result }
+    ensures { Passes (W.stream sink.old) (W.stream sink.new) out.old out.new (heading is_marked) result }
 {
-    match blocks {
-        Blocks::Wanted(_) => out.push(
+    if is_marked {
+        out.push(
             sink,
             b"# Mapfile. Created by udfsalvage 0.1.0\n# Blocks to read again, for ddrescue -m: not the mapfile of a pass\n0x00000000     +               1\n",
-        ),
-        Blocks::Of(_) => out.push(
+        )
+    } else {
+        out.push(
             sink,
             b"# Mapfile. Created by udfsalvage 0.1.0\n0x00000000     +               1\n",
-        ),
+        )
     }
 }
 
-fn write_all_lines<W: Sink>(
+fn write_all_lines<T: Statuses, W: Sink>(
     out: &mut Outgoing,
     sink: &mut W,
-    blocks: Blocks<'_>,
+    of: &T,
+    is_marked: bool,
     last: u32,
 ) -> Result<(), WriteFault>
-    requires rises { BlocksRise blocks }
-    requires last { last ≤ 4194303 }
-    ensures { Passes (W.stream sink.old) (W.stream sink.new) out.old out.new (heading_in blocks.entry ++ run_lines (runs_of_blocks (status_in blocks.entry) 0 (last + 1))) result }
+    requires { last ≤ 4194303 }
+    ensures { Passes (W.stream sink.old) (W.stream sink.new) out.old out.new (heading is_marked ++ run_lines (runs_of_blocks (T.statuses of.now) 0 (last + 1))) result }
 {
-    write_heading(out, sink, blocks)?;
-    write_runs(out, sink, blocks, last)?;
+    write_heading(out, sink, is_marked)?;
+    write_runs(out, sink, of, last)?;
     Ok(())
 }
 
-fn write_map<W: Sink>(blocks: Blocks<'_>, last: u32, sink: &mut W) -> Result<(), WriteFault>
-    requires rises { BlocksRise blocks }
-    requires last { last ≤ 4194303 }
-    ensures { Writes (W.stream sink.old) (W.stream sink.new) (heading_in blocks.entry ++ run_lines (runs_of_blocks (status_in blocks.entry) 0 (last + 1))) result }
+fn write_map<T: Statuses, W: Sink>(
+    of: &T,
+    is_marked: bool,
+    last: u32,
+    sink: &mut W,
+) -> Result<(), WriteFault>
+    requires { last ≤ 4194303 }
+    ensures { Writes (W.stream sink.old) (W.stream sink.new) (heading is_marked ++ run_lines (runs_of_blocks (T.statuses of.now) 0 (last + 1))) result }
 {
     let mut out = Outgoing::new();
-    write_all_lines(&mut out, sink, blocks, last)?;
+    write_all_lines(&mut out, sink, of, is_marked, last)?;
     out.flush(sink)?;
     Ok(())
 }
@@ -231,22 +248,22 @@ pub fn write_domain<W: Sink>(wanted: &[u32], last: u32, sink: &mut W) -> Result<
     requires last { last ≤ 4194303 }
     ensures { Writes (W.stream sink.old) (W.stream sink.new) (domain_text wanted.now last) result }
 {
-    write_map(Blocks::Wanted(wanted), last, sink)
+    write_map(&Wanted { blocks: wanted }, true, last, sink)
 }
 
-/// Writes the mapfile of a table's image: from block 0 to `last`, `+` for each block that is known, `-` for one in
-/// conflict, and `?` for one that is unknown. Its runs go from 0 to `2048 * (last + 1)` bytes. It takes no memory.
+/// Writes the mapfile of the image of a table, or of what else has statuses: from block 0 to `last`, `+` for each block that is known,
+/// `-` for one in conflict, and `?` for one that is unknown. Its runs go from 0 to `2048 * (last + 1)` bytes. It takes no memory.
 ///
 /// # Errors
 ///
 /// `WriteFault` if and only if the sink failed. A prefix of the mapfile has been written then.
-pub fn write_image_map<W: Sink>(
-    table: &BlockTable,
+pub fn write_image_map<T: Statuses, W: Sink>(
+    of: &T,
     last: u32,
     sink: &mut W,
 ) -> Result<(), WriteFault>
     requires { last ≤ 4194303 }
-    ensures { Writes (W.stream sink.old) (W.stream sink.new) (map_text (table_status table.now) last) result }
+    ensures { Writes (W.stream sink.old) (W.stream sink.new) (map_text (T.statuses of.now) last) result }
 {
-    write_map(Blocks::Of(table), last, sink)
+    write_map(of, false, last, sink)
 }

@@ -1,7 +1,10 @@
 -- The first of some lists and the others.
-use Rattle.std.proofs.Common.{◌≡◌, ◌≢◌, ◌⊎◌, ◌∙◌, ◌≤◌, ◌-◌, ℕ, List, [], ◌∷◌, ◌++◌, Bor, Option, alloc_error, arith, ap, drop, inl, inr, take, length, refl, slice_index_or, subst, sym}
+use Rattle.std.proofs.Common.{◌≡◌, ◌≢◌, ◌⊎◌, ◌∙◌, ◌≤◌, ◌-◌, ℕ, List, [], ◌∷◌, ◌++◌, ◌&&◌, Bool, true, false, cond, not, Bor, Option, None, alloc_error, arith, ap, drop, inl, inr, take, length, refl, slice_index_or, subst, sym}
 use Rattle.std.proofs.lemmas.List.{append_assoc, take_all}
-use Rattle.udfs_lattice.specs.Tables.{Table}
+use Rattle.std.specs.FinMap as fin
+use Rattle.udfs_lattice.specs.declared.facts.Fact.TheVariants.{Unknown, Known, Conflict}
+use Rattle.udfs_lattice.specs.States.{State, is_conflict}
+use Rattle.udfs_lattice.specs.Tables.{AreForgotten, Held, IsStateAt, IsTable, IsWithoutConflicts, Table, fact_found, is_named, state_of, without_conflict}
 use Rattle.udfs_words.specs.Requests.{texts}
 use Rattle.udfs_words.specs.declared.request.ForgetRequest.{ForgetRequest}
 use Rattle.udfs_common.specs.Reach.{Reach, found_at}
@@ -56,16 +59,61 @@ rest_refused reach at (p ∷ ps) d first refusal some has rest =
     (subst (λ (l : List (Bor (List ℕ))). ListsRefused reach at (texts l) refusal) (rest_is p ps) rest)
 
 -- the table of the join of the inputs, after it forgot the blocks of the lists, is the one that a request asks for
-pub forgets_of : {F I M S W : Type 0} (reach : Reach F I M S W) (at : F) (request : ForgetRequest) (lists : List (Bor (List ℕ))) (blocks all : List ℕ) (joined table : Table) → lists ≡ request.lists.items → Lists (found_at reach at) (texts lists) blocks →
-    OfInputs reach at request.inputs request.force (λ t. joined ≡ t) → all ≡ blocks → Forgets request.conflicts all joined table → IsForgottenJoin reach at request table
-forgets_of reach at request lists blocks all joined table e listed of same forgets = record {
-  blocks = blocks;
-  listed = subst (λ (l : List (Bor (List ℕ))). Lists (found_at reach at) (texts l) blocks) e listed;
-  left = record {
-    one_disc = of.one_disc;
-    join = (of.join.0, of.join.1, subst (λ (t : Table). Forgets request.conflicts blocks t table) of.join.2 (subst (λ (b : List ℕ). Forgets request.conflicts b joined table) same forgets));
-  };
-}
+pub forgets_of : {F I M S W : Type 0} (reach : Reach F I M S W) (at : F) (request : ForgetRequest) (blocks : List ℕ) (table : Table) → Lists (found_at reach at) (texts request.lists.items) blocks →
+    OfInputs reach at request.inputs request.force (λ t. Forgets request.conflicts blocks t table) → IsForgottenJoin reach at request table
+forgets_of reach at request blocks table listed left = record { blocks = blocks; listed = listed; left = left }
+
+-- so it is where the join was held
+pub forgets_held : {F I M S W : Type 0} (reach : Reach F I M S W) (at : F) (request : ForgetRequest) (blocks : List ℕ) (joined table : Table) → Lists (found_at reach at) (texts request.lists.items) blocks →
+    OfInputs reach at request.inputs request.force (λ t. joined ≡ t) → Forgets request.conflicts blocks joined table → IsForgottenJoin reach at request table
+forgets_held reach at request blocks joined table listed of forgets =
+    forgets_of reach at request blocks table listed (record {
+      one_disc = of.one_disc;
+      join = (of.join.0, of.join.1, subst (λ (t : Table). Forgets request.conflicts blocks t table) of.join.2 forgets);
+    })
+
+-- ---- the table without some blocks
+
+-- whether a table keeps what it says of a block
+abbrev keeps : Bool → List ℕ → Table → ℕ → Bool
+keeps conflicts blocks t n = not (is_named blocks n) && not (conflicts && is_conflict (state_of t n))
+
+-- it is there
+pub without : Bool → List ℕ → Table → Table
+without conflicts blocks t = fin.retain_keys t (keeps conflicts blocks t)
+
+found_if : (b : Bool) (held : Option Held) → fact_found (cond b held None) ≡ cond b (fact_found held) Unknown
+found_if true held = refl
+found_if false held = refl
+
+kept_by : (named conflicts : Bool) (s : State) → cond (not named && not (conflicts && is_conflict s)) s Unknown ≡ cond named Unknown (cond conflicts (without_conflict s) s)
+kept_by true conflicts s = refl
+kept_by false false s = refl
+kept_by false true Unknown = refl
+kept_by false true (Known bytes) = refl
+kept_by false true Conflict = refl
+
+pub forgets_without : (conflicts : Bool) (blocks : List ℕ) (t : Table) → Forgets conflicts blocks t (without conflicts blocks t)
+unfolding without
+forgets_without conflicts blocks t n =
+    ap fact_found (fin.get-retain_keys t (keeps conflicts blocks t) n (λ x same. ap (keeps conflicts blocks t) (sym (fin.nat_cmp-IsAntisymmetric n x same))))
+    ∙ found_if (keeps conflicts blocks t n) (fin.get t n)
+    ∙ kept_by (is_named blocks n) conflicts (state_of t n)
+
+fits_by : (n : ℕ) (named conflicts : Bool) (s : State) → IsStateAt n s → IsStateAt n (cond named Unknown (cond conflicts (without_conflict s) s))
+fits_by n true conflicts s fits = tt
+fits_by n false false s fits = fits
+fits_by n false true Unknown fits = tt
+fits_by n false true (Known bytes) fits = fits
+fits_by n false true Conflict fits = tt
+
+-- it is one of those that there are
+pub left_is_table : (conflicts : Bool) (blocks : List ℕ) (t u : Table) → Forgets conflicts blocks t u → IsTable t → IsTable u
+left_is_table conflicts blocks t u forgets is n = subst (IsStateAt n) (sym (forgets n)) (fits_by n (is_named blocks n) conflicts (state_of t n) (is n))
+
+-- those in conflict are forgotten first
+pub settled_first : (blocks : List ℕ) (t u : Table) → Forgets true blocks t u → IsWithoutConflicts t (without true [] t) × AreForgotten (without true [] t) blocks u
+settled_first blocks t u forgets = (forgets_without true [] t, λ n. forgets n ∙ ap (cond (is_named blocks n) Unknown) (sym (forgets_without true [] t n)))
 
 -- ---- nothing is told as done
 
@@ -75,7 +123,6 @@ list_early reach at path r (inr (inl shut)) = λ e. let bad : ListOpen ≡ Unkep
 list_early reach at path r (inr (inr (inl failed))) = λ e. let bad : ListRead ≡ Unkept = sym failed.0 ∙ e in cc
 list_early reach at path r (inr (inr (inr fault))) = λ e. let bad : ListLine fault.0 ≡ Unkept = sym fault.1 ∙ e in cc
 
--- where the lists were not read or the inputs not joined
-pub unforgotten_early : {F I M S W : Type 0} {Inputs More : Type 0} (reach : Reach F I M S W) (at : F) (paths : List (List ℕ)) (r : Refusal) → ListsRefused reach at paths r ⊎ (Inputs × (r ≢ Unkept) × More) → r ≢ Unkept
-unforgotten_early reach at paths r (inl lists) = list_early reach at lists.path r lists.why
-unforgotten_early reach at paths r (inr inputs) = inputs.1
+-- where the lists were not read
+pub lists_early : {F I M S W : Type 0} (reach : Reach F I M S W) (at : F) (paths : List (List ℕ)) (r : Refusal) → ListsRefused reach at paths r → r ≢ Unkept
+lists_early reach at paths r lists = list_early reach at lists.path r lists.why

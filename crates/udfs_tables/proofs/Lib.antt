@@ -6,3 +6,4 @@ mod MergingLemmas
 mod OutlookLemmas
 mod EntryTables
 pub mod OldClauses
+mod ImagedLemmas

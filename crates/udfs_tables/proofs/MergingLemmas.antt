@@ -1,23 +1,26 @@
 -- What a job that writes a table file leaves of the output's path, and that the file is that of what the inputs hold.
-use Rattle.std.proofs.Common.{◌≡◌, ◌≢◌, ◌⊎◌, ◌∙◌, ℕ, List, Option, Ok, Err, Some, alloc_error, inl, inr, length, refl, subst, sym, ⊎_elim}
+use Rattle.std.proofs.Common.{◌≡◌, ◌≢◌, ◌⊎◌, ◌∙◌, ℕ, Bool, true, List, Option, Ok, Err, Some, alloc_error, inl, inr, length, refl, subst, sym, ⊎_elim}
 use Rattle.udfs_files.specs.Disk.{After, Disk, Fails, Replaced, SinkFails}
 use Rattle.udfs_index.specs.Copying.{AreAllTold}
 use Rattle.udfs_lattice.specs.Records.{join_all}
 use Rattle.udfs_lattice.specs.Tables.{Table}
 use Rattle.udfs_pairs.specs.declared.any_stored.AnyStored.{AnyStored}
 use Rattle.udfs_words.specs.declared.input_path.InputPath.{InputPath}
-use Rattle.udfs_words.specs.declared.request.MergeRequest.{MergeRequest}
+use Rattle.udfs_words.specs.declared.request.Inputs.{Inputs}
 use Rattle.udfs_common.specs.Keeping.{FailedOut, IsKept, IsTaken, Opens}
 use Rattle.udfs_common.specs.OtherDiscs.{EachIsOne}
 use Rattle.udfs_common.specs.Puts.{HasPut, IsBroken, KeepsOthers, KeepsOut, Left, MayPut, PutFails, Puts}
 use Rattle.udfs_common.specs.Reach.{Reach, found_at}
-use Rattle.udfs_common.specs.Refusing.{IsUnput}
-use Rattle.udfs_common.specs.Spelling.{table_file}
+use Rattle.udfs_common.specs.Refusing.{IsUnput, NamesNoOther}
+use Rattle.udfs_common.specs.Blaming.{AreJudgedFor, source_reason, stored_reason}
+use Rattle.udfs_common.specs.Refused.{IndexRefused, IsRereadOf, IsUnindexed}
+use Rattle.udfs_common.proofs.NamingLemmas.{reread_names_none, unput_names_none}
 use Rattle.udfs_common.specs.declared.refusal.Refusal.{Refusal}
+use Rattle.udfs_common.specs.declared.sources.AnySource.{AnySource}
 use Rattle.udfs_common.specs.declared.refusal.Refusal.TheVariants.{Memory, Output, Unkept}
-use Rattle.udfs_common.proofs.StoredLemmas.{HaveSources, joined_by}
+use Rattle.udfs_common.proofs.StoredLemmas.{HaveSources, joined_by, of_other, of_stored, of_unread}
 use Rattle.udfs_common.specs.Indexing.{Indexed}
-use Rattle.udfs_tables.specs.Merging.{IsMerged}
+use Rattle.udfs_tables.specs.Joining.{OfInputs}
 
 -- what a crash shows of a file of these bytes
 may_put : {F I M S W : Type 0} (reach : Reach F I M S W) (Is : List ℕ → Type 0) (out : List ℕ) (old new : F) (bytes : List ℕ) → Is bytes →
@@ -61,13 +64,35 @@ job_unput reach Is out old new refusal bytes is unput untouched refused unkept a
   elsewhere = elsewhere;
 }
 
--- what was taken of inputs that are read at positions is what the inputs hold
-pub merged : {F I M S W T : Type 0} {g : _} (reach : Reach F I M S W) (old : F) (request : MergeRequest) (content : AnyStored T g → Option (List ℕ)) (have : HaveSources reach.remaining content) (paths : List InputPath) (stored : List (AnyStored T g)) (New : Table → Type 0) →
-    paths ≡ request.inputs.paths.items → length stored ≡ length request.inputs.paths.items → Opens (found_at reach old) content request.inputs.paths.items stored → (reach.files.tells → AreAllTold content) → (i : Indexed content paths stored request.force New) →
-    IsMerged reach old request (table_file request.version (join_all i.tables))
-merged reach old request content have paths stored New same each opened told i =
-    let joined = joined_by have (found_at reach old) request.inputs.paths.items stored i.tables opened each i.are in
+-- what holds of what was taken of inputs that are read at positions holds of what the inputs hold
+pub of_indexed : {F I M S W T : Type 0} {g : _} (reach : Reach F I M S W) (old : F) (inputs : Inputs) (force : Bool) (content : AnyStored T g → Option (List ℕ)) (have : HaveSources reach.remaining content) (paths : List InputPath) (stored : List (AnyStored T g)) (New Holds : Table → Type 0) →
+    paths ≡ inputs.paths.items → length stored ≡ length inputs.paths.items → Opens (found_at reach old) content inputs.paths.items stored → (reach.files.tells → AreAllTold content) → (i : Indexed content paths stored force New) →
+    Holds (join_all i.tables) → OfInputs reach old inputs force Holds
+of_indexed reach old inputs force content have paths stored New Holds same each opened told i holds =
+    let joined = joined_by have (found_at reach old) inputs.paths.items stored i.tables opened each i.are in
     record {
       one_disc = λ tells unforced. record { tables = i.tables; joined = joined; each = subst (λ (l : List InputPath). EachIsOne l i.tables) same (i.each (told tells) unforced) };
-      join = (i.tables, joined, refl);
+      join = (i.tables, joined, holds);
     }
+
+-- inputs that were not taken were not joined
+pub not_taken : {R I S : Type 0} {g : _} {tells : Type 0} {remaining : AnySource R I → Option (List ℕ)} {content : AnyStored S g → Option (List ℕ)} (have : HaveSources remaining content) → ((s : AnyStored S g) → source_reason (have s).0 ≡ stored_reason s) →
+    (found : List ℕ → Option (Option (List ℕ))) (shut : List ℕ → Type 0) (paths : List InputPath) (force : Bool) (stored : List (AnyStored S g)) (r : Refusal) → length stored ≡ length paths → Opens found content paths stored → AreJudgedFor found stored_reason paths stored → (tells → AreAllTold content) →
+    IsUnindexed content paths stored force r → IndexRefused tells found shut remaining paths r × (force ≡ true → NamesNoOther r)
+not_taken have same found shut paths force stored r each opened judged told why = (
+  ⊎_elim (λ refused. of_stored have same found shut paths stored r each opened judged refused) (λ other. of_other have found shut paths stored r each opened told other) why.0,
+  why.2,
+)
+
+-- and nothing was put
+pub not_indexed : {R I S : Type 0} {g : _} {tells : Type 0} {remaining : AnySource R I → Option (List ℕ)} {content : AnyStored S g → Option (List ℕ)} (have : HaveSources remaining content) → ((s : AnyStored S g) → source_reason (have s).0 ≡ stored_reason s) →
+    (found : List ℕ → Option (Option (List ℕ))) (shut : List ℕ → Type 0) (Failed : Type 0) (paths : List InputPath) (force : Bool) (stored : List (AnyStored S g)) (r : Refusal) → length stored ≡ length paths → Opens found content paths stored → AreJudgedFor found stored_reason paths stored → (tells → AreAllTold content) →
+    IsUnindexed content paths stored force r → (IndexRefused tells found shut remaining paths r ⊎ IsUnput Failed r) × (force ≡ true → NamesNoOther r)
+not_indexed have same found shut Failed paths force stored r each opened judged told why =
+    let refused = not_taken have same found shut paths force stored r each opened judged told why in (inl refused.0, refused.1)
+
+-- nor was it where their file was not
+pub not_put : {R I : Type 0} {tells : Type 0} (found : List ℕ → Option (Option (List ℕ))) (shut : List ℕ → Type 0) (remaining : AnySource R I → Option (List ℕ)) (Failed : Type 0) (paths : List InputPath) (force : Bool) (count : ℕ) (r : Refusal) → count ≡ length paths → IsRereadOf count r ⊎ IsUnput Failed r →
+    (IndexRefused tells found shut remaining paths r ⊎ IsUnput Failed r) × (force ≡ true → NamesNoOther r)
+not_put found shut remaining Failed paths force count r many (inl reread) = (inl (of_unread found shut remaining paths count r many reread), λ forced. reread_names_none count r reread)
+not_put found shut remaining Failed paths force count r many (inr unput) = (inr unput, λ forced. unput_names_none Failed r unput)

@@ -1,9 +1,8 @@
 -- What is said of two paths where an image and its mapfile are put: of the calls that put them, of nothing, of more, and where the paths lead.
-use Rattle.std.proofs.Common.{◌≡◌, ◌≢◌, ◌⊎◌, ◌∙◌, ℕ, List, None, Some, Ok, Err, Result, OnOk, alloc_error, arith, inl, inr, refl, subst, sym, ⊎_elim}
+use Rattle.std.proofs.Common.{◌≡◌, ◌≢◌, ◌⊎◌, ◌∙◌, ℕ, ◌+◌, List, None, Some, Ok, Err, Result, OnOk, alloc_error, arith, inl, inr, refl, subst, sym, ⊎_elim}
 use Rattle.udfs_files.specs.Disk.{Disk, Goes, Gone, IsOwn, Replaced}
 use Rattle.udfs_files.specs.declared.files.Files.{Ghosts}
 use Rattle.udfs_lattice.specs.Tables.{Table}
-use Rattle.udfs_words.specs.declared.input_path.InputPath.{InputPath}
 use Rattle.udfs_words.specs.declared.request.ImageRequest.{ImageRequest}
 use Rattle.udfs_common.specs.Ends.{IsEnd}
 use Rattle.udfs_common.specs.Guarding.{IsApart}
@@ -13,9 +12,10 @@ use Rattle.udfs_common.specs.Refusing.{IsUnput}
 use Rattle.udfs_common.specs.declared.refusal.Refusal.{Refusal}
 use Rattle.udfs_common.specs.declared.refusal.Refusal.TheVariants.{Memory, Output, Spared}
 use Rattle.udfs_tables.proofs.ImagingLemmas.{after_clear, after_image, after_mapfile, still_image, still_none}
-use Rattle.udfs_tables.specs.Imaging.{ImageUnput, OfDisc}
+use Rattle.udfs_tables.specs.Imaging.{OfDisc}
 use Rattle.udfs_tables.specs.Joining.{OfInputs}
-use Rattle.udfs_tables.specs.Pairing.{AreKept, BothReplaced, GoesPair, IsGone, IsPairPut, PutsPair, SparesPair, Stands}
+use Rattle.udfs_common.specs.Refused.{IsRereadOf}
+use Rattle.udfs_tables.specs.Pairing.{AreKept, BothReplaced, GoesPair, IsGone, IsPairPut, IsUnmade, LeftPair, PairFails, PutsPair, SparesPair, Stands}
 
 -- the same of two other names
 pub at_both : {a b c d : List ℕ} (Of : List ℕ → List ℕ → Type 0) → a ≡ b → c ≡ d → Of a c → Of b d
@@ -76,6 +76,17 @@ kept_both files image mapfile bytes text mid new apart kept two elsewhere put =
       put tells,
     )
 
+-- where it is known what is there, the mapfile may be told as another text that is the same then
+pub goes_told : {F I M S W : Type 0} (files : Ghosts F I M S W) (image mapfile bytes text other : List ℕ) (old new : F) → (files.tells → text ≡ other) → GoesPair files image mapfile bytes text old new → GoesPair files image mapfile bytes other old new
+goes_told files image mapfile bytes text other old new same goes = record {
+  crash = λ tells. subst (λ (t : List ℕ). Goes files.moment files.may_leave files.left_since old new (BothReplaced image mapfile bytes t)) (same tells) (goes.crash tells);
+  stand = λ tells. subst (λ (t : List ℕ). Stands (Some None) (Some (Some bytes)) (Some (Some t)) (files.holds old image) (files.holds old mapfile) (files.holds new image) (files.holds new mapfile)) (same tells) (goes.stand tells);
+  elsewhere = goes.elsewhere;
+}
+
+pub kept_told : {F I M S W : Type 0} (files : Ghosts F I M S W) (image mapfile bytes text other : List ℕ) (new : F) → (files.tells → text ≡ other) → AreKept files image mapfile bytes text new → AreKept files image mapfile bytes other new
+kept_told files image mapfile bytes text other new same kept = λ tells. ((kept tells).0, subst (λ (t : List ℕ). IsKept (files.holds new) (files.may_leave new) mapfile t) (same tells) (kept tells).1)
+
 -- ---- the two paths
 
 -- nothing was begun
@@ -134,18 +145,14 @@ wider {reach = reach} {image = image} {mapfile = mapfile} {old = old} {new = new
 }
 
 -- what holds of the join of the inputs, and of the last block, holds of the disc of a request
-pub of_disc : {F I M S W : Type 0} (reach : Reach F I M S W) (old : F) (request : ImageRequest) (paths : List InputPath) (last : ℕ) (table : Table) (Holds : ℕ → Table → Type 0) → paths ≡ request.inputs.paths.items → IsEnd (found_at reach old) request.last paths last →
-    OfInputs reach old request.inputs request.force (λ t. table ≡ t) → Holds last table → OfDisc reach old request Holds
-of_disc reach old request paths last table Holds same end of holds = (
-  last,
-  subst (λ (l : List InputPath). IsEnd (found_at reach old) request.last l last) same end,
-  record { one_disc = of.one_disc; join = (of.join.0, of.join.1, subst (λ (t : Table). Holds last t) of.join.2 holds) },
-)
+pub of_disc : {F I M S W : Type 0} (reach : Reach F I M S W) (old : F) (request : ImageRequest) (last : ℕ) (Holds : ℕ → Table → Type 0) → IsEnd (found_at reach old) request.last request.inputs.paths.items last → OfInputs reach old request.inputs request.force (Holds last) → OfDisc reach old request Holds
+of_disc reach old request last Holds end of = (last, end, of)
 
--- so it is where its image was not put
-pub disc_unput : {F I M S W : Type 0} (reach : Reach F I M S W) (old : F) (request : ImageRequest) (paths : List InputPath) (last : ℕ) (table : Table) (refusal : Refusal) → paths ≡ request.inputs.paths.items → IsEnd (found_at reach old) request.last paths last →
-    OfInputs reach old request.inputs request.force (λ t. table ≡ t) → ImageUnput reach old request last refusal table → OfDisc reach old request (λ n. ImageUnput reach old request n refusal)
-disc_unput reach old request paths last table refusal same end of unput = of_disc reach old request paths last table (λ n. ImageUnput reach old request n refusal) same end of unput
+-- so it is where the join was held
+pub of_held_disc : {F I M S W : Type 0} (reach : Reach F I M S W) (old : F) (request : ImageRequest) (last : ℕ) (table : Table) (Holds : ℕ → Table → Type 0) → IsEnd (found_at reach old) request.last request.inputs.paths.items last →
+    OfInputs reach old request.inputs request.force (λ t. table ≡ t) → Holds last table → OfDisc reach old request Holds
+of_held_disc reach old request last table Holds end of holds =
+    of_disc reach old request last Holds end (record { one_disc = of.one_disc; join = (of.join.0, of.join.1, subst (λ (t : Table). Holds last t) of.join.2 holds) })
 
 -- ---- why they were not put
 
@@ -160,7 +167,16 @@ no_place refusal (inl out) cause spared = inr (inr (inr (inl out, either_of (cau
 no_place refusal (inr (inl is)) cause spared = inr (inl (is, spared is))
 no_place refusal (inr (inr memory)) cause spared = inr (inr (inl memory))
 
--- memory ran out or a call failed
-pub not_put : {A B C : Type 0} (refusal : Refusal) → IsUnput C refusal → IsUnput (A ⊎ B ⊎ C) refusal
-not_put refusal (inl memory) = inl memory
-not_put refusal (inr failed) = inr (failed.0, inr (inr failed.1))
+-- memory ran out, or a call failed, or an input could not be read a second time
+pub not_made : {A B C : Type 0} (inputs : ℕ) (refusal : Refusal) → IsUnmade inputs C refusal → IsUnput (A ⊎ B ⊎ C) refusal ⊎ IsRereadOf inputs refusal
+not_made inputs refusal (inl (inl memory)) = inl (inl memory)
+not_made inputs refusal (inl (inr failed)) = inl (inr (failed.0, inr (inr failed.1)))
+not_made inputs refusal (inr reread) = inr reread
+
+pub left_made : {F I M S W : Type 0} (reach : Reach F I M S W) (image mapfile : List ℕ) (old new : F) (inputs : ℕ) (refusal : Refusal) → IsUnput (PairFails reach image mapfile old) refusal ⊎ IsRereadOf inputs refusal → LeftPair reach image mapfile old new refusal
+left_made reach image mapfile old new inputs refusal (inl unput) = inr (inl unput)
+left_made reach image mapfile old new inputs refusal (inr reread) = inr (inr (reread.0 + 1, reread.1, reread.3))
+
+-- where no input is read again, none could not be
+pub no_input : {refusal : Refusal} → IsRereadOf 0 refusal → ⊥
+no_input reread = let less = reread.2 in omega (arith, less)

@@ -6,7 +6,6 @@
 --     SomeFault                     a count of faults changed: some read failed
 --     IsListRefused                 the list at a path was not read, and why
 --     ListsRefused                  the lists at these paths were not read, and why
---     IsUnforgotten                 the lists were not read, or the inputs were not joined, and why
 --     ForgetRefused                 why `forget` fails
 use Rattle.std.specs.Prelude.{◌≡◌, ◌≢◌, ◌⊎◌, ◌++◌, ℕ, List, [], ◌∷◌, Bool, cond, Option, IfSome, Ok, Err, alloc_error}
 use Rattle.udfs_lattice.specs.declared.facts.Fact.TheVariants.{Unknown}
@@ -15,14 +14,12 @@ use Rattle.udfs_rescue.specs.BlockLists.{list_outcome}
 use Rattle.udfs_words.specs.Requests.{texts}
 use Rattle.udfs_words.specs.declared.forms.Version.TheVariants.{Two}
 use Rattle.udfs_words.specs.declared.request.ForgetRequest.{ForgetRequest}
-use Rattle.udfs_common.specs.Puts.{PutFails}
 use Rattle.udfs_common.specs.Reach.{Reach, found_at}
-use Rattle.udfs_common.specs.Refusing.{IsUnput}
 use Rattle.udfs_common.specs.Spelling.{table_file}
 use Rattle.udfs_common.specs.declared.refusal.Refusal.{Refusal}
 use Rattle.udfs_common.specs.declared.refusal.Refusal.TheVariants.{ListLine, ListOpen, ListRead, Memory}
-use Rattle.udfs_tables.specs.Joining.{IsNotJoined, OfInputs}
-use Rattle.udfs_tables.specs.Outputs.{OutRefused}
+use Rattle.udfs_tables.specs.Joining.{OfInputs}
+use Rattle.udfs_tables.specs.Outputs.{IsNotWritten, OutRefused}
 
 -- the numbers are those of the list that is held, where that is known
 abbrev pub HasList : Option (Option (List ℕ)) → List ℕ → Type 0
@@ -71,10 +68,6 @@ module _ {F I M S W : Type 0} (reach : Reach F I M S W) (old : F) (request : For
   abbrev pub IsForgotten : List ℕ → Type 0
   IsForgotten bytes = (table : Table) × IsForgottenJoin reach old request table × (bytes ≡ table_file Two table)
 
-  -- the lists are read before an input is opened
-  abbrev pub IsUnforgotten : Refusal → Type 0
-  IsUnforgotten refusal = ListsRefused reach old (texts request.lists.items) refusal ⊎ IsNotJoined reach old request.inputs request.force refusal
-
-  -- the output may not be written, or there is no such table, or its file was not put
+  -- the output may not be written; or the lists were not read, which are before an input is opened; or the inputs were not joined, or the file was not put
   abbrev pub ForgetRefused : Refusal → Type 0
-  ForgetRefused refusal = OutRefused reach old request.inputs request.force request.out.now refusal ⊎ IsUnforgotten refusal ⊎ IsUnput (PutFails reach request.out.now old) refusal
+  ForgetRefused refusal = OutRefused reach old request.inputs request.force request.out.now refusal ⊎ ListsRefused reach old (texts request.lists.items) refusal ⊎ IsNotWritten reach old request.inputs request.force request.out.now refusal

@@ -2,6 +2,7 @@
 --     Stands          what is at the two, beside what was there before
 --     BothReplaced    the same on a disk, and nothing else changes
 --     PairFails       a call that puts them failed
+--     IsUnmade        an image was not put, and why
 --     IsGone          nothing is at a path, and each crash leaves it so
 --     AreKept         this image and this mapfile are at two places, and each crash leaves them
 --     GoesPair        what a call that puts them makes of the two places, and a crash at any moment of it
@@ -15,8 +16,10 @@ use Rattle.udfs_files.specs.Disk.{After, Disk, Fails, Goes, IsOwn, Same, SinkFai
 use Rattle.udfs_files.specs.declared.files.Files.{Ghosts}
 use Rattle.udfs_common.specs.Keeping.{IsKept}
 use Rattle.udfs_common.specs.Reach.{Reach}
+use Rattle.udfs_common.specs.Refused.{IsRereadOf}
 use Rattle.udfs_common.specs.Refusing.{IsUnput}
 use Rattle.udfs_common.specs.declared.refusal.Refusal.{Refusal}
+use Rattle.udfs_common.specs.declared.refusal.Refusal.TheVariants.{Reread}
 
 -- where an image a and a mapfile b were, are x and y: as they were; or no mapfile, beside the old image or the new one; or the new image and the new mapfile
 abbrev pub Stands : {V : Type 0} → V → V → V → V → V → V → V → Type 0
@@ -30,6 +33,10 @@ pub record BothReplaced (image mapfile bytes text : List ℕ) (d c : Disk) : Typ
 -- one of the two paths is shut, or a call on the files or on an output may fail
 abbrev pub PairFails : {F I M S W : Type 0} → Reach F I M S W → List ℕ → List ℕ → F → Type 0
 PairFails reach image mapfile old = reach.files.shut old image ⊎ reach.files.shut old mapfile ⊎ Fails reach.files.faults ⊎ SinkFails reach.output
+
+-- an image was not put: memory ran out, or a call failed, or one of this many inputs could not be read a second time
+abbrev pub IsUnmade : ℕ → Type 0 → Refusal → Type 0
+IsUnmade inputs Failed refusal = IsUnput Failed refusal ⊎ IsRereadOf inputs refusal
 
 module _ {F I M S W : Type 0} (files : Ghosts F I M S W) where
   -- where it is known what is there
@@ -53,9 +60,9 @@ pub record IsPairPut {F I M S W : Type 0} (reach : Reach F I M S W) (Is : List �
   pub are : Is bytes text
   pub put : AreKept reach.files (reach.files.real old image) (reach.files.real old mapfile) bytes text new
 
--- nothing has changed; or memory ran out, or a call failed
+-- nothing has changed; or memory ran out, or a call failed, or an input could not be read a second time
 abbrev pub LeftPair : {F I M S W : Type 0} → Reach F I M S W → List ℕ → List ℕ → F → F → Refusal → Type 0
-LeftPair reach image mapfile old new refusal = (new ≡ old) ⊎ IsUnput (PairFails reach image mapfile old) refusal
+LeftPair reach image mapfile old new refusal = (new ≡ old) ⊎ IsUnput (PairFails reach image mapfile old) refusal ⊎ ((input number : ℕ) × (refusal ≡ Reread input number))
 
 -- the disk is as it was, or such an image and such a mapfile take the places of what was there
 abbrev pub MayPutPair : {F I M S W : Type 0} → Reach F I M S W → (List ℕ → List ℕ → Type 0) → List ℕ → List ℕ → F → Disk → Disk → Type 0

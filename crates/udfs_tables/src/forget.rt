@@ -4,9 +4,10 @@ ghost use Rattle.std.specs.Prelude.{◌≡◌, ◌++◌, ℕ, List, IfOk, IfErr,
 ghost use Rattle.udfs_words.specs.Requests.{texts};
 ghost use Rattle.udfs_common.specs.Puts.{HasPut, Puts};
 ghost use Rattle.udfs_common.specs.Reach.{found_at};
-ghost use Rattle.udfs_tables.specs.Forgetting.{ForgetRefused, Forgets, HasList, IsForgotten, IsForgottenJoin, IsListRefused, IsUnforgotten, Lists, ListsRefused};
-ghost use Rattle.udfs_tables.specs.Outputs.{IsOutFree};
+ghost use Rattle.udfs_tables.specs.Forgetting.{ForgetRefused, Forgets, HasList, IsForgotten, IsListRefused, Lists, ListsRefused};
+ghost use Rattle.udfs_tables.specs.Outputs.{IsNotWritten, IsOutFree};
 
+use crate::forget_stored::forget_stored;
 use crate::joining::join_of;
 use crate::merge::TableFile;
 use crate::outlook::check_out;
@@ -15,6 +16,7 @@ use udfs_common::files::Files;
 use udfs_common::known::Known;
 use udfs_common::putting::put_file;
 use udfs_common::refusal::Refusal;
+use udfs_common::stored_inputs::open_all_stored;
 use udfs_lattice::BlockTable;
 use udfs_rescue::{BlockList, ListError};
 use udfs_words::forms::Version;
@@ -87,38 +89,69 @@ fn forget_blocks(table: &mut BlockTable, conflicts: bool, blocks: &[u32])
     table.forget_all(blocks);
 }
 
-/// The join of the inputs without the named blocks. The lists are read first, in order.
-fn forgotten<F: Files>(
+/// Joins the inputs and puts the table file of their join without these blocks, as [`forget`] does, and holds the blocks meanwhile.
+fn forget_held<F: Files>(
     alloc: Global,
     request: &ForgetRequest<'_>,
-    files: &F,
-) -> Result<BlockTable, Refusal>
-    ensures left { IfOk result (IsForgottenJoin ⟦<F as Known>⟧.reach files.now request.now) }
-    ensures why { IfErr result (IsUnforgotten ⟦<F as Known>⟧.reach files.now request.now) }
+    blocks: &[u32],
+    files: &mut F,
+) -> Result<(), Refusal>
+    requires { Lists (found_at ⟦<F as Known>⟧.reach files.now) (texts request.now.lists.items) blocks.now }
+    ensures puts { Puts ⟦<F as Known>⟧.reach (IsForgotten ⟦<F as Known>⟧.reach files.old request.now) request.now.out.now files.old files.new result }
+    ensures unkept { IsErrOf result Refusal.Unkept → F.tells → HasPut ⟦<F as Known>⟧.reach (IsForgotten ⟦<F as Known>⟧.reach files.old request.now) request.now.out.now files.old files.new }
+    ensures why { IfErr result (IsNotWritten ⟦<F as Known>⟧.reach files.old request.now.inputs request.now.force request.now.out.now) }
 {
-    let lists = request.lists.as_slice();
-    let blocks = match listed(alloc, lists, files) {
-        Ok(blocks) => blocks,
-        Err(refusal) => return Err(refusal),
-    };
     let mut table = match join_of(alloc, &request.inputs, request.force, files) {
         Ok(table) => table,
         Err(refusal) => return Err(refusal),
     };
-    forget_blocks(&mut table, request.conflicts, blocks.as_slice());
-    Ok(table)
+    forget_blocks(&mut table, request.conflicts, blocks);
+    let content = TableFile {
+        table: &table,
+        version: Version::Two,
+    };
+    match put_file(alloc, &content, request.out, files) {
+        Ok(()) => Ok(()),
+        Err(refusal) => Err(refusal),
+    }
+}
+
+/// Joins the inputs and puts the table file of their join without these blocks, as [`forget`] does, and holds no block where all of them can be read at positions.
+fn forget_inputs<F: Files>(
+    alloc: Global,
+    request: &ForgetRequest<'_>,
+    blocks: &[u32],
+    files: &mut F,
+) -> Result<(), Refusal>
+    requires { Lists (found_at ⟦<F as Known>⟧.reach files.now) (texts request.now.lists.items) blocks.now }
+    ensures puts { Puts ⟦<F as Known>⟧.reach (IsForgotten ⟦<F as Known>⟧.reach files.old request.now) request.now.out.now files.old files.new result }
+    ensures unkept { IsErrOf result Refusal.Unkept → F.tells → HasPut ⟦<F as Known>⟧.reach (IsForgotten ⟦<F as Known>⟧.reach files.old request.now) request.now.out.now files.old files.new }
+    ensures why { IfErr result (IsNotWritten ⟦<F as Known>⟧.reach files.old request.now.inputs request.now.force request.now.out.now) }
+{
+    let paths = request.inputs.paths.as_slice();
+    // Where there is no input, nothing is read again.
+    if paths.is_empty() {
+        return forget_held(alloc, request, blocks, files);
+    }
+    match open_all_stored(alloc, paths, files) {
+        Ok(Some(stored)) => forget_stored(alloc, stored.as_slice(), request, blocks, files),
+        Ok(None) => forget_held(alloc, request, blocks, files),
+        Err(refusal) => Err(refusal),
+    }
 }
 
 /// Joins the inputs, and puts the table file of their join without the named blocks at the output's path, over an old one. An image that disagrees with the inputs
 /// before it so that it is of another disc is refused, but by force. The lists are read before an input is opened, and the output is begun only after all are
-/// joined. A file is put in its place whole or not at all; a device or a pipe is written in place.
+/// joined. A file is put in its place whole or not at all; a device or a pipe is written in place. Where each input is a regular file by its own path, or an image and
+/// a mapfile that are, no block is held, as in [`merge`](crate::merge::merge): an input must not change meanwhile.
 ///
 /// # Errors
 ///
 /// `Spared` where the output would take the place of an image or a mapfile of the inputs or, without force, of a file with bytes that is no input and no table file. Why a list was not
 /// read, or the inputs were not joined. `Output` where what is at the output's path could not be looked at, or a call that puts the file failed: its path then
-/// holds what it held, unless it is that of a device or a pipe. `Unkept` where the file is in its place and only its folder could not be synced. `Memory` if
-/// memory ran out. Any error but `Output` and `Unkept` leaves all files as they were.
+/// holds what it held, unless it is that of a device or a pipe. `Reread` where an input could not be read a second time or has changed: the new file is removed again,
+/// and the path holds the same. `Unkept` where the file is in its place and only its folder could not be synced. `Memory` if memory ran out. Any error but `Output`,
+/// `Unkept` and `Reread` leaves all files as they were.
 pub fn forget<F: Files>(
     alloc: Global,
     request: &ForgetRequest<'_>,
@@ -137,15 +170,12 @@ pub fn forget<F: Files>(
         Ok(()) => {}
         Err(refusal) => return Err(refusal),
     }
-    let table = match forgotten(alloc, request, files) {
-        Ok(table) => table,
+    let lists = request.lists.as_slice();
+    let blocks = match listed(alloc, lists, files) {
+        Ok(blocks) => blocks,
         Err(refusal) => return Err(refusal),
     };
-    let content = TableFile {
-        table: &table,
-        version: Version::Two,
-    };
-    match put_file(alloc, &content, request.out, files) {
+    match forget_inputs(alloc, request, blocks.as_slice(), files) {
         Ok(()) => Ok(()),
         Err(refusal) => Err(refusal),
     }

@@ -1,29 +1,36 @@
 //! The command `image`: readings in, the image of their disc and its mapfile out.
 
-ghost use Rattle.std.specs.Prelude.{◌≡◌, ◌⊎◌, ◌≤◌, IfErr, OnOk, Some, None, MatchOption, string_bytes};
+ghost use Rattle.std.specs.Prelude.{◌≡◌, ◌⊎◌, ◌<◌, ◌≤◌, ℕ, IfErr, OnOk, Some, None, length, string_bytes};
 ghost use Rattle.udfs_files.specs.Disk.{Fails, SinkFails};
 ghost use Rattle.udfs_files.specs.declared.files.Kind.{Kind};
-ghost use Rattle.udfs_lattice.specs.Tables.{state_of};
+ghost use Rattle.udfs_lattice.specs.Tables.{Table, state_of};
 ghost use Rattle.udfs_rescue.specs.Images.{image_bytes};
 ghost use Rattle.udfs_rescue.specs.Writing.{map_text, table_status};
 ghost use Rattle.udfs_salvage.specs.Reports.{IsNothingPast, IsOutOfRange, IsPastEnd};
-ghost use Rattle.udfs_common.specs.Refusing.{IsUnput};
+ghost use Rattle.udfs_common.specs.Blaming.{AreJudgedFor, stored_reason};
+ghost use Rattle.udfs_common.specs.Ends.{IsEnd};
 ghost use Rattle.udfs_common.specs.Guarding.{IsApart};
-ghost use Rattle.udfs_tables.specs.Imaging.{HasNoImage, ImageRefused, ImageUnput, IsImageOf, IsImaged, IsPairFree, PairRefused};
-ghost use Rattle.udfs_tables.specs.Pairing.{AreKept, GoesPair, PutsPair};
+ghost use Rattle.udfs_common.specs.Keeping.{Opens};
+ghost use Rattle.udfs_common.specs.Reach.{found_at};
+ghost use Rattle.udfs_common.specs.Refused.{IsRereadOf};
+ghost use Rattle.udfs_tables.specs.Imaging.{ImageRefused, ImageUnput, IsImageOf, IsImaged, IsNotTaken, IsPairFree, OfDisc, PairRefused};
+ghost use Rattle.udfs_tables.specs.Pairing.{AreKept, GoesPair, IsUnmade, PutsPair};
 
-use crate::joining::{join_of, unwritten_of};
-use crate::pairing::put_both;
+use crate::imaged::{Imaged, Indexed};
+use crate::joining::{index_of, join_of, unwritten_of};
+use crate::pairing::{ImageOf, put_both};
 use std::alloc::Global;
 use udfs_common::ends::last_block;
 use udfs_common::files::Files;
 use udfs_common::known::Known;
 use udfs_common::placing::{Places, find_places, look_at_both};
 use udfs_common::refusal::Refusal;
+use udfs_common::stored_inputs::open_all_stored;
 use udfs_files::{Content, Stage};
-use udfs_lattice::BlockTable;
+use udfs_index::Stored;
+use udfs_pairs::AnyStored;
 use udfs_reading::{Sink, WriteFault};
-use udfs_rescue::{write_image, write_image_map};
+use udfs_rescue::write_image_map;
 use udfs_words::request::ImageRequest;
 
 /// The least number of a last block.
@@ -32,69 +39,41 @@ const FIRST_LAST: u32 = 513;
 /// The greatest number of a block.
 const LAST_BLOCK: u32 = 4_194_303;
 
-/// A table up to a last block, to be written as an image.
+/// What an image is written of, up to a last block, to be written as the mapfile of the image.
 #[derive(Drop)]
-struct ImageOf<'a> {
-    table: &'a BlockTable,
+struct MapOf<'i, T: Imaged> {
+    of: &'i T,
     last: u32,
     ghost in_range: { last ≤ 4194303 },
 }
 
-impl<'a> Content for ImageOf<'a> {
-    ghost bytes = { λ image. image_bytes image.table.now image.last };
+impl<'i, T: Imaged> Content for MapOf<'i, T> {
+    ghost bytes = { λ map. map_text (T.Statuses.statuses map.of.now) map.last };
 
     fn write_to<W: Sink>(&self, sink: &mut W) -> Result<(), WriteFault> {
-        write_image(self.table, self.last, sink)
+        write_image_map(self.of, self.last, sink)
     }
 }
 
-/// A table up to a last block, to be written as the mapfile of its image.
-#[derive(Drop)]
-struct MapOf<'a> {
-    table: &'a BlockTable,
-    last: u32,
-    ghost in_range: { last ≤ 4194303 },
-}
-
-impl<'a> Content for MapOf<'a> {
-    ghost bytes = { λ map. map_text (table_status map.table.now) map.last };
-
-    fn write_to<W: Sink>(&self, sink: &mut W) -> Result<(), WriteFault> {
-        write_image_map(self.table, self.last, sink)
-    }
-}
-
-/// The first block after the block `last` of which something is known.
-fn past_end(table: &BlockTable, last: u32) -> Option<u32>
-    ensures { MatchOption result (IsNothingPast (state_of table.now) last) (λ n. IsPastEnd (state_of table.now) last n) }
-{
-    for (block, _) in table.entries() {
-        if block > last {
-            return Some(block);
-        }
-    }
-    None
-}
-
-/// That a table has an image up to this last block.
-fn check_end(table: &BlockTable, last: u32) -> Result<(), Refusal>
+/// That there is an image up to this last block.
+fn check_end<T: Imaged>(of: &T, last: u32) -> Result<(), Refusal>
     ensures in_range { OnOk result (¬ IsOutOfRange last) }
-    ensures nothing_past { OnOk result (IsNothingPast (state_of table.now) last) }
-    ensures told { IfErr result (λ refusal. HasNoImage last refusal table.now) }
+    ensures nothing_past { OnOk result ((t : Table) → T.shows of.now t → IsNothingPast (state_of t) last) }
+    ensures told { IfErr result (λ refusal. ((refusal ≡ Refusal.LastRange) × IsOutOfRange last) ⊎ ((n : ℕ) × (refusal ≡ Refusal.PastEnd n) × (¬ IsOutOfRange last) × ((t : Table) → T.shows of.now t → IsPastEnd (state_of t) last n))) }
 {
     if last < FIRST_LAST || last > LAST_BLOCK {
         return Err(Refusal::LastRange);
     }
-    match past_end(table, last) {
+    match of.past_end(last) {
         Some(block) => Err(Refusal::PastEnd(block)),
         None => Ok(()),
     }
 }
 
-/// Puts the image of a table and its mapfile where they go.
-fn put_at<F: Files>(
+/// Puts an image and its mapfile where they go.
+fn put_at<F: Files, T: Imaged>(
     alloc: Global,
-    table: &BlockTable,
+    of: &T,
     last: u32,
     places: &Places,
     files: &mut F,
@@ -102,12 +81,12 @@ fn put_at<F: Files>(
     requires apart { IsApart (string_bytes places.now.image) (string_bytes places.now.mapfile) }
     requires absent { places.now.old ≡ Kind.Absent → F.tells → F.holds files.old (string_bytes places.now.mapfile) ≡ Some None }
     requires in_range { last ≤ 4194303 }
-    ensures kept { OnOk result (AreKept F.Files (string_bytes places.now.image) (string_bytes places.now.mapfile) (image_bytes table.now last) (map_text (table_status table.now) last) files.new) }
-    ensures goes { GoesPair F.Files (string_bytes places.now.image) (string_bytes places.now.mapfile) (image_bytes table.now last) (map_text (table_status table.now) last) files.old files.new }
-    ensures why { IfErr result (IsUnput (Fails F.faults ⊎ SinkFails F.Output.stream)) }
+    ensures kept { OnOk result ((t : Table) → (F.tells → T.shows of.now t) → AreKept F.Files (string_bytes places.now.image) (string_bytes places.now.mapfile) (image_bytes t last) (map_text (T.Statuses.statuses of.now) last) files.new) }
+    ensures goes { (t : Table) → (F.tells → T.shows of.now t) → GoesPair F.Files (string_bytes places.now.image) (string_bytes places.now.mapfile) (image_bytes t last) (map_text (T.Statuses.statuses of.now) last) files.old files.new }
+    ensures why { IfErr result (IsUnmade (T.inputs of.now) (Fails F.faults ⊎ SinkFails F.Output.stream)) }
 {
-    let image = ImageOf { table, last };
-    let map = MapOf { table, last };
+    let image = ImageOf { of, last };
+    let map = MapOf { of, last };
     match put_both(
         alloc,
         files,
@@ -122,18 +101,18 @@ fn put_at<F: Files>(
     }
 }
 
-/// Puts the image of a table and its mapfile at the two paths that are asked for.
-fn put_table<F: Files>(
+/// Puts an image and its mapfile at the two paths that are asked for.
+fn put_imaged<F: Files, T: Imaged>(
     alloc: Global,
-    table: &BlockTable,
+    of: &T,
     last: u32,
     request: &ImageRequest<'_>,
     files: &mut F,
 ) -> Result<(), Refusal>
-    ensures puts { PutsPair ⟦<F as Known>⟧.reach (λ bytes text. IsImageOf last bytes text table.now) request.now.image.now request.now.mapfile.now files.old files.new result }
-    ensures why { IfErr result (λ refusal. ImageUnput ⟦<F as Known>⟧.reach files.old request.now last refusal table.now) }
+    ensures puts { (t : Table) → (F.tells → T.shows of.now t) → PutsPair ⟦<F as Known>⟧.reach (λ bytes text. IsImageOf F.tells last bytes text t) request.now.image.now request.now.mapfile.now files.old files.new result }
+    ensures why { IfErr result (λ refusal. IsRereadOf (T.inputs of.now) refusal ⊎ ((t : Table) → (F.tells → T.shows of.now t) → ImageUnput ⟦<F as Known>⟧.reach files.old request.now last refusal t)) }
 {
-    match check_end(table, last) {
+    match check_end(of, last) {
         Ok(()) => {}
         Err(refusal) => return Err(refusal),
     }
@@ -142,8 +121,84 @@ fn put_table<F: Files>(
         Ok(places) => places,
         Err(refusal) => return Err(refusal),
     };
-    match put_at(alloc, table, last, &places, files) {
+    match put_at(alloc, of, last, &places, files) {
         Ok(()) => Ok(()),
+        Err(refusal) => Err(refusal),
+    }
+}
+
+/// Joins the inputs and puts the image of their join and its mapfile, as [`image`] does, and holds the blocks meanwhile.
+fn image_held<F: Files>(
+    alloc: Global,
+    last: u32,
+    request: &ImageRequest<'_>,
+    files: &mut F,
+) -> Result<(), Refusal>
+    requires { IsEnd (found_at ⟦<F as Known>⟧.reach files.now) request.now.last request.now.inputs.paths.items last }
+    ensures puts { PutsPair ⟦<F as Known>⟧.reach (IsImaged ⟦<F as Known>⟧.reach files.old request.now) request.now.image.now request.now.mapfile.now files.old files.new result }
+    ensures why { IfErr result (λ refusal. IsNotTaken ⟦<F as Known>⟧.reach files.old request.now refusal ⊎ OfDisc ⟦<F as Known>⟧.reach files.old request.now (λ n. ImageUnput ⟦<F as Known>⟧.reach files.old request.now n refusal)) }
+{
+    let table = match join_of(alloc, &request.inputs, request.force, files) {
+        Ok(table) => table,
+        Err(refusal) => return Err(refusal),
+    };
+    match put_imaged(alloc, &table, last, request, files) {
+        Ok(()) => Ok(()),
+        Err(refusal) => Err(refusal),
+    }
+}
+
+/// The same of inputs that are opened, and holds no block: of each known block it keeps in which input its bytes are, and where, and reads them again when it
+/// writes them.
+fn image_stored<F: Files>(
+    alloc: Global,
+    stored: &[AnyStored<F::Stored>],
+    last: u32,
+    request: &ImageRequest<'_>,
+    files: &mut F,
+) -> Result<(), Refusal>
+    requires ends { IsEnd (found_at ⟦<F as Known>⟧.reach files.now) request.now.last request.now.inputs.paths.items last }
+    requires each { length stored.now ≡ length request.now.inputs.paths.items }
+    requires opened { Opens (found_at ⟦<F as Known>⟧.reach files.now) ⟦<AnyStored<F::Stored> as Stored>⟧.content request.now.inputs.paths.items stored.now }
+    requires judged { AreJudgedFor (found_at ⟦<F as Known>⟧.reach files.now) stored_reason request.now.inputs.paths.items stored.now }
+    requires some { 0 < length request.now.inputs.paths.items }
+    ensures puts { PutsPair ⟦<F as Known>⟧.reach (IsImaged ⟦<F as Known>⟧.reach files.old request.now) request.now.image.now request.now.mapfile.now files.old files.new result }
+    ensures why { IfErr result (λ refusal. IsNotTaken ⟦<F as Known>⟧.reach files.old request.now refusal ⊎ OfDisc ⟦<F as Known>⟧.reach files.old request.now (λ n. ImageUnput ⟦<F as Known>⟧.reach files.old request.now n refusal)) }
+{
+    let paths = request.inputs.paths.as_slice();
+    let index = match index_of(alloc, stored, paths, request.force) {
+        Ok(index) => index,
+        Err(refusal) => return Err(refusal),
+    };
+    let indexed = Indexed {
+        index: &index,
+        stored,
+    };
+    match put_imaged(alloc, &indexed, last, request, files) {
+        Ok(()) => Ok(()),
+        Err(refusal) => Err(refusal),
+    }
+}
+
+/// The same of the inputs, as they can be read.
+fn image_inputs<F: Files>(
+    alloc: Global,
+    last: u32,
+    request: &ImageRequest<'_>,
+    files: &mut F,
+) -> Result<(), Refusal>
+    requires { IsEnd (found_at ⟦<F as Known>⟧.reach files.now) request.now.last request.now.inputs.paths.items last }
+    ensures puts { PutsPair ⟦<F as Known>⟧.reach (IsImaged ⟦<F as Known>⟧.reach files.old request.now) request.now.image.now request.now.mapfile.now files.old files.new result }
+    ensures why { IfErr result (λ refusal. IsNotTaken ⟦<F as Known>⟧.reach files.old request.now refusal ⊎ OfDisc ⟦<F as Known>⟧.reach files.old request.now (λ n. ImageUnput ⟦<F as Known>⟧.reach files.old request.now n refusal)) }
+{
+    let paths = request.inputs.paths.as_slice();
+    // Where there is no input, nothing is read again.
+    if paths.is_empty() {
+        return image_held(alloc, last, request, files);
+    }
+    match open_all_stored(alloc, paths, files) {
+        Ok(Some(stored)) => image_stored(alloc, stored.as_slice(), last, request, files),
+        Ok(None) => image_held(alloc, last, request, files),
         Err(refusal) => Err(refusal),
     }
 }
@@ -172,14 +227,16 @@ fn check_both<F: Files>(alloc: Global, request: &ImageRequest<'_>, files: &F) ->
 
 /// Joins the inputs, and puts the image of the blocks from 0 to the last one and its mapfile at two paths. An old mapfile is removed first, and the new one is
 /// put last, so that there is never a mapfile beside an image that lacks a block which it marks `+`. All inputs are opened in order before one is read. An image
-/// that disagrees with the inputs before it so that it is of another disc is refused, but by force.
+/// that disagrees with the inputs before it so that it is of another disc is refused, but by force. Where each input is a regular file by its own path, or an image
+/// and a mapfile that are, no block is held, as in [`merge`](crate::merge::merge): an input must not change meanwhile.
 ///
 /// # Errors
 ///
 /// `Spared` where one of the outputs would take the place of an input or, without force, of anything, or is no file, or is in the way of the other. `NoLast`
 /// where no last block is known, `LastRange` where it is out of range, and `PastEnd` where something is known of a later block. Why the inputs are not joined.
 /// `Output` where what is at the two paths could not be looked at, or a call that puts the two files failed; `Unkept` where the folder of one that is in its
-/// place could not be synced. `Memory` if memory ran out. Any error but `Output`, `Unkept` and `Memory` leaves all files as they were.
+/// place could not be synced. `Reread` where an input could not be read a second time or has changed: no image is put then. `Memory` if memory ran out. Any error
+/// but `Output`, `Unkept`, `Reread` and `Memory` leaves all files as they were.
 pub fn image<F: Files>(
     alloc: Global,
     request: &ImageRequest<'_>,
@@ -201,11 +258,7 @@ pub fn image<F: Files>(
         Ok(last) => last,
         Err(refusal) => return Err(refusal),
     };
-    let table = match join_of(alloc, &request.inputs, request.force, files) {
-        Ok(table) => table,
-        Err(refusal) => return Err(refusal),
-    };
-    match put_table(alloc, &table, last, request, files) {
+    match image_inputs(alloc, last, request, files) {
         Ok(()) => Ok(()),
         Err(refusal) => Err(refusal),
     }

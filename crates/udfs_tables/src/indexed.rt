@@ -1,17 +1,24 @@
 //! The table file of inputs that are read at positions.
 
-ghost use Rattle.std.specs.Prelude.{◌<◌, length};
+ghost use Rattle.std.specs.Prelude.{◌≡◌, ◌⊎◌, ◌<◌, IfErr, IsErrOf, Some, length};
 ghost use Rattle.std.specs.Io.KnownBytes.{Appends};
 ghost use Rattle.udfs_index.specs.Copying.{AreAllTold, Copies, CountsSink};
 ghost use Rattle.udfs_lattice.specs.Tables.{Table, IsTable};
 ghost use Rattle.udfs_common.specs.Indexing.{IsSinkFault};
+ghost use Rattle.udfs_common.specs.Puts.{PutFails, Puts};
 ghost use Rattle.udfs_common.specs.Refused.{IsRereadOf};
+ghost use Rattle.udfs_common.specs.Refusing.{IsUnput};
 ghost use Rattle.udfs_common.specs.Spelling.{table_file};
 
+use std::alloc::Global;
+use udfs_common::files::Files;
 use udfs_common::index_taking::reread_of;
+use udfs_common::job_putting::put_job;
+use udfs_common::known::Known;
 use udfs_common::refusal::Refusal;
 use udfs_files::Job;
 use udfs_index::{CopyFault, Cursor, END, Index, Stored, Unread};
+use udfs_pairs::AnyStored;
 use udfs_reading::{Sink, Taker};
 use udfs_words::forms::Version;
 
@@ -61,5 +68,38 @@ impl<'i, 'a, S: Stored> IndexedFile<'i, 'a, S> {
         ensures { 0 < length self.now.stored.now → IsRereadOf (length self.now.stored.now) result }
     {
         reread_of(self.stored, unread)
+    }
+}
+
+/// Puts the table file of what was taken of stored inputs at a path, over an old one, whole or not at all; or writes it to what is there and is no file.
+///
+/// # Errors
+///
+/// Those of [`put_file`](udfs_common::putting::put_file); or `Reread` where an input could not be read a second time or has changed: the new file is removed again.
+pub fn put_index<'a, F: Files>(
+    alloc: Global,
+    index: &Index<'a, AnyStored<F::Stored>>,
+    stored: &'a [AnyStored<F::Stored>],
+    version: Version,
+    out: &str,
+    files: &mut F,
+) -> Result<(), Refusal>
+    requires { 0 < length stored.now }
+    ensures puts { (t : Table) → (AreAllTold ⟦<AnyStored<F::Stored> as Stored>⟧.content → IsTable t) → ⟦<Index<'a, AnyStored<F::Stored>> as Taker<Cursor<'a, AnyStored<F::Stored>>>>⟧.took index.now t →
+        Puts ⟦<F as Known>⟧.reach (λ bytes. bytes ≡ table_file version t) out.now files.old files.new result }
+    ensures unkept { IsErrOf result Refusal.Unkept → F.tells → (t : Table) → (AreAllTold ⟦<AnyStored<F::Stored> as Stored>⟧.content → IsTable t) → ⟦<Index<'a, AnyStored<F::Stored>> as Taker<Cursor<'a, AnyStored<F::Stored>>>>⟧.took index.now t →
+        F.holds files.new (F.real files.old out.now) ≡ Some (Some (table_file version t)) }
+    ensures why { IfErr result (λ refusal. IsRereadOf (length stored.now) refusal ⊎ IsUnput (PutFails ⟦<F as Known>⟧.reach out.now files.old) refusal) }
+{
+    let job = IndexedFile {
+        index,
+        stored,
+        version,
+    };
+    match put_job(alloc, &job, out, files) {
+        Ok(Ok(())) => Ok(()),
+        Ok(Err(CopyFault::Sink(_))) => Err(Refusal::Output),
+        Ok(Err(CopyFault::Input(unread))) => Err(job.reread(unread)),
+        Err(refusal) => Err(refusal),
     }
 }

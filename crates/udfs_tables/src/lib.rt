@@ -5,7 +5,9 @@
 mod beside;
 mod closing;
 pub mod forget;
+mod forget_stored;
 pub mod image;
+mod imaged;
 mod index_tally;
 mod indexed;
 mod joining;

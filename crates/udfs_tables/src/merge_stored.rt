@@ -11,14 +11,13 @@ ghost use Rattle.udfs_tables.specs.Merging.{IsMerged, IsUnmerged};
 
 use crate::closing::remark_on_merge;
 use crate::index_tally::IndexTally;
-use crate::indexed::IndexedFile;
+use crate::indexed::put_index;
 use std::alloc::{AllocError, Global};
 use udfs_common::files::Files;
 use udfs_common::indexing::index_all;
-use udfs_common::job_putting::put_job;
 use udfs_common::known::Known;
 use udfs_common::refusal::Refusal;
-use udfs_index::{CopyFault, Cursor, Stored};
+use udfs_index::{Cursor, Stored};
 use udfs_pairs::AnyStored;
 use udfs_reading::Taker;
 use udfs_words::input_path::InputPath;
@@ -66,19 +65,19 @@ pub fn merge_stored<F: Files>(
         Ok(tally) => tally,
         Err(refusal) => return Err(refusal),
     };
-    let job = IndexedFile {
-        index: tally.index(),
+    match put_index(
+        alloc,
+        tally.index(),
         stored,
-        version: request.version,
-    };
-    match put_job(alloc, &job, request.out, files) {
-        Ok(Ok(())) => {
+        request.version,
+        request.out,
+        files,
+    ) {
+        Ok(()) => {
             let totals = tally.close();
             remark_on_merge(alloc, paths.len(), totals, tally.disagreements(), files);
             Ok(())
         }
-        Ok(Err(CopyFault::Sink(_))) => Err(Refusal::Output),
-        Ok(Err(CopyFault::Input(unread))) => Err(job.reread(unread)),
         Err(refusal) => Err(refusal),
     }
 }

@@ -14,14 +14,14 @@ pub loop-i-init : goal.loop-i-init
 loop-i-init g c =
     record {
       read = c.requires.read;
-      bytes = λ wholes t told shown. subst (Passed _ _ _ _) (sym (blocks_none t (32 * c.args.index))) (passed_none _ _);
+      bytes = λ wholes t told shown. subst (Passed _ _ _ _) (sym (blocks_none content t (32 * c.args.index))) (passed_none _ _);
       count = refl;
     }
 
 pub returns-in_err-write_block-clause-bytes : goal.returns-in_err-write_block-clause-bytes
 returns-in_err-write_block-clause-bytes g c wholes t told shown =
     let p = err_from_is_err_and c.from_residual.result c.from_residual.ensures.1 in
-    let cut = blocks_cut t (32 * c.args.index) c.loop-i.i 32 (search rules) in
+    let cut = blocks_cut content t (32 * c.args.index) c.loop-i.i 32 (search rules) in
     let here = ap (λ (s : State). (flat_map content (states_from t (32 * c.args.index) c.loop-i.i) ++ content s) ++ cut.0) (sym (shown (32 * c.args.index + c.loop-i.i))) ∙ cut.1 in
     rw (p.1, p.2)
     (subst (λ (l : List ℕ). FailsBy (g.W.Sink.stream c.args.sink.now) (g.W.Sink.stream c.write_block.new.sink) c.args.out.now l c.in_err-write_block.field-0.0) here
@@ -34,7 +34,7 @@ loop-i-preserved g c =
       read = c.in_ok-write_block.ensures.read;
       bytes = λ wholes t told shown.
           subst (Passed _ _ _ _)
-          (ap (λ (s : State). flat_map content (states_from t (32 * c.args.index) c.loop-i.i) ++ content s) (sym (shown (32 * c.args.index + c.loop-i.i))) ∙ sym (blocks_more t (32 * c.args.index) c.loop-i.i))
+          (ap (λ (s : State). flat_map content (states_from t (32 * c.args.index) c.loop-i.i) ++ content s) (sym (shown (32 * c.args.index + c.loop-i.i))) ∙ sym (blocks_more content t (32 * c.args.index) c.loop-i.i))
           (passed_then (c.loop-i.invariant.bytes wholes t told shown) (c.in_ok-write_block.ensures.bytes wholes told));
       count = search rules;
     }

@@ -1,11 +1,10 @@
 use Rattle.std.proofs.lemmas.Result.{err_from_is_err_and}
 use Rattle.std.proofs.Common.{arith}
-use Rattle.udfs_rescue.specs.BlockSteps.{status_in}
 use Rattle.udfs_rescue.proofs.MapText.{behind_first, behind_more, behind_fails, behind_all, behind_last}
 use Rattle.udfs_rescue.proofs.writing.write_runs.Goals as goal
 
 pub loop-block-init : goal.loop-block-init
-loop-block-init g c = rw c.status.ensures (behind_first (g.W.Sink.stream c.args.sink.now) c.args.out.now (status_in c.args.blocks) c.args.last)
+loop-block-init g c = rw c.status.ensures (behind_first (g.W.Sink.stream c.args.sink.now) c.args.out.now (g.T.Statuses.statuses c.args.of.now) c.args.last)
 
 pub returns-in_err-take_block : goal.returns-in_err-take_block
 returns-in_err-take_block g c =

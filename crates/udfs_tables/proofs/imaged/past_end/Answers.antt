@@ -1,6 +1,6 @@
 use Rattle.std.proofs.Common.{◌∙◌, arith}
 use Rattle.udfs_tables.proofs.PastEnds.{least_past, none_yet, nothing_past, one_more}
-use Rattle.udfs_tables.proofs.image.past_end.Goals as goal
+use Rattle.udfs_tables.proofs.imaged.past_end.Goals as goal
 
 pub loop-block-init : goal.loop-block-init
 loop-block-init c = none_yet c.args.table.now c.args.last c.into_iter-block-iterator.result
