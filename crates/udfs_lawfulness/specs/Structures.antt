@@ -3,12 +3,14 @@
 --     IsReason profile blocks last why          what is known contradicts that
 --     asked profile blocks last                 the blocks that decide it
 --     IsJudged profile blocks last answer       what an answer says
-use Rattle.std.specs.Prelude.{◌≡◌, ◌≢◌, ℕ, List, [], ◌++◌, Some, Contains}
+--     ListsRise answer                          the blocks that it lists rise
+use Rattle.std.specs.Prelude.{◌≡◌, ◌≢◌, ⊤, ℕ, List, [], ◌++◌, Some, Contains}
 use Rattle.udfs_lattice.specs.Volumes.{Agrees, Blocks, IsVolume, Volume, ascending, complete, not_known}
 use Rattle.udfs_volume.specs.Answers.{Answer, found, holes, faulty}
 use Rattle.udfs_volume.specs.Differences.{anchors_apart}
 use Rattle.udfs_volume.specs.Laws.{IsLawfulLayoutBy}
 use Rattle.udfs_volume.specs.Layout.{Layout, Partition, layout_by}
+use Rattle.udfs_volume.specs.Seen.{IsRising}
 use Rattle.udfs_volume.specs.Sequence.{anchor, anchor_places}
 use Rattle.udfs_volume.specs.declared.anchors.AnchorExtents.{AnchorExtents}
 use Rattle.udfs_volume.specs.declared.faults.VolumeFault.{VolumeFault}
@@ -105,3 +107,9 @@ abbrev pub IsJudged : Profile → Blocks → ℕ → Structures → Type 0
 IsJudged profile blocks last Sound = AreSettled profile blocks last
 IsJudged profile blocks last (Unsound why) = IsContradicted profile blocks last why
 IsJudged profile blocks last (Open listed) = IsUndecided profile blocks last listed.items
+
+-- the blocks that an answer lists rise
+abbrev pub ListsRise : Structures → Type 0
+ListsRise Sound = ⊤
+ListsRise (Unsound why) = ⊤
+ListsRise (Open blocks) = IsRising blocks.items

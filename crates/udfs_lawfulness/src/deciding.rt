@@ -1,12 +1,12 @@
 //! Whether a volume is lawful.
 
-ghost use Rattle.std.specs.Prelude.{◌≡◌, ◌≤◌, ◌++◌, ℕ, IfOk, map};
+ghost use Rattle.std.specs.Prelude.{◌≡◌, ◌≤◌, ◌++◌, ℕ, IfOk, IsErrOf, map};
 ghost use Rattle.udfs_lattice.specs.Tables.{state_of};
 ghost use Rattle.udfs_lattice.specs.Volumes.{Blocks, ascending};
 ghost use Rattle.udfs_volume.specs.Answers.{found, holes};
 ghost use Rattle.udfs_volume.specs.Seen.{IsRising};
 ghost use Rattle.udfs_space.specs.Places.{view};
-ghost use Rattle.udfs_space.specs.Views.{view_now};
+ghost use Rattle.udfs_space.specs.Views.{view_by};
 ghost use Rattle.udfs_walk.specs.Bare.{full_node};
 ghost use Rattle.udfs_walk.specs.Walks.{AreNodes};
 ghost use Rattle.udfs_salvage.specs.Found.{Found, found_now, volume_by};
@@ -15,14 +15,14 @@ ghost use Rattle.udfs_lawfulness.specs.Left.{AreLeft, GivesListed};
 
 use crate::answers::{Lawfulness, Structures, Why};
 use crate::names::first_twice;
-use crate::structures::{is_none, structures_of};
+use crate::structures::{is_none, structures_by};
 use crate::trees::{asking, first_faulty, why_faulty};
 use std::alloc::{AllocError, Global};
-use udfs_lattice::BlockTable;
+use udfs_lattice::{BlockStore, BlockTable, GaveUp};
 use udfs_salvage::{OpenVolume, open_by};
-use udfs_space::View;
+use udfs_space::StoreView;
 use udfs_volume::{Profile, Seen};
-use udfs_walk::{Node, NodesError, bare_nodes, bare_reread};
+use udfs_walk::{Node, NodesGaveUp, bare_nodes_by, bare_reread_by};
 use udfs_witnesses::add_rising;
 
 /// Lawful, unless blocks that are not known decide it.
@@ -39,16 +39,17 @@ fn by_list(unread: Vec<u32>, more: &[u32]) -> Result<Lawfulness, AllocError>
 }
 
 /// What is decided by the nodes of a volume.
-fn by_nodes(
+fn by_nodes<B: BlockStore>(
     alloc: Global,
-    known: View<'_>,
+    known: StoreView<'_, B>,
     nodes: Vec<Node>,
     unread: Vec<u32>,
-) -> Result<Lawfulness, AllocError>
+) -> Result<Lawfulness, GaveUp>
     requires { IsRising unread.items }
-    ensures { (profile : Profile) (last : ℕ) (f : Found) → AreLeft profile (state_of known.entry.table.now) last unread.items → volume_by profile (state_of known.entry.table.now) last ≡ found f
-        → view_now known.entry ≡ view (state_of known.entry.table.now) f.space → AreNodes (view_now known.entry) f.root (map (full_node (view_now known.entry)) nodes.items)
-        → IfOk result (IsDecided profile (state_of known.entry.table.now) last) }
+    ensures decided { B.tells → (profile : Profile) (last : ℕ) (f : Found) → AreLeft profile (B.states known.entry.blocks.now) last unread.items → volume_by profile (B.states known.entry.blocks.now) last ≡ found f
+        → view_by B.states known.entry ≡ view (B.states known.entry.blocks.now) f.space → AreNodes (view_by B.states known.entry) f.root (map (full_node (view_by B.states known.entry)) nodes.items)
+        → IfOk result (IsDecided profile (B.states known.entry.blocks.now) last) }
+    ensures fails { IsErrOf result GaveUp.Unread → B.fails }
 {
     let mut nodes = nodes;
     if let Some(at) = first_faulty(&nodes) {
@@ -60,50 +61,56 @@ fn by_nodes(
         return Ok(Lawfulness::Unlawful(Why::SameName(path)));
     }
     let asking = asking(alloc, known, nodes)?;
-    let more = bare_reread(alloc, known, &asking)?;
-    by_list(unread, &more)
+    let more = bare_reread_by(alloc, known, &asking)?;
+    let answer = by_list(unread, &more)?;
+    Ok(answer)
 }
 
 /// What is decided by the tree of a volume that opens.
-fn by_tree(
+fn by_tree<B: BlockStore>(
     alloc: Global,
-    table: &BlockTable,
+    blocks: &B,
     opened: &OpenVolume,
     unread: Vec<u32>,
-) -> Result<Lawfulness, AllocError>
+) -> Result<Lawfulness, GaveUp>
     requires { IsRising unread.items }
-    ensures { (profile : Profile) (last : ℕ) → AreLeft profile (state_of table.now) last unread.items → volume_by profile (state_of table.now) last ≡ found (found_now opened.now)
-        → IfOk result (IsDecided profile (state_of table.now) last) }
+    ensures decided { B.tells → (profile : Profile) (last : ℕ) → AreLeft profile (B.states blocks.now) last unread.items → volume_by profile (B.states blocks.now) last ≡ found (found_now opened.now)
+        → IfOk result (IsDecided profile (B.states blocks.now) last) }
+    ensures fails { IsErrOf result GaveUp.Unread → B.fails }
 {
-    let view = opened.view(table);
-    match bare_nodes(alloc, view, opened.root) {
+    let view = opened.view_by(blocks);
+    match bare_nodes_by(alloc, view, opened.root) {
         Ok(nodes) => by_nodes(alloc, view, nodes, unread),
-        Err(NodesError::TooManyPaths) => Ok(Lawfulness::Unlawful(Why::TooManyPaths)),
-        Err(NodesError::OutOfMemory) => Err(AllocError),
+        Err(NodesGaveUp::TooManyPaths) => Ok(Lawfulness::Unlawful(Why::TooManyPaths)),
+        Err(NodesGaveUp::OutOfMemory) => Err(GaveUp::OutOfMemory),
+        Err(NodesGaveUp::Unread) => Err(GaveUp::Unread),
     }
 }
 
 /// What is decided where nothing that is known contradicts the structures of a volume, and these blocks decide them that are not known.
-fn by_structures(
+fn by_structures<B: BlockStore>(
     alloc: Global,
-    table: &BlockTable,
+    blocks: &B,
     last: u32,
     profile: Profile,
     unread: Vec<u32>,
-) -> Result<Lawfulness, AllocError>
+) -> Result<Lawfulness, GaveUp>
     requires from { 513 ≤ last }
     requires to { last ≤ 4194303 }
-    requires left { AreLeft profile (state_of table.now) last unread.items }
-    ensures { IfOk result (IsDecided profile (state_of table.now) last) }
+    requires rising { IsRising unread.items }
+    requires left { B.tells → AreLeft profile (B.states blocks.now) last unread.items }
+    ensures decided { IfOk result (λ answer. B.tells → IsDecided profile (B.states blocks.now) last answer) }
+    ensures fails { IsErrOf result GaveUp.Unread → B.fails }
 {
-    let Ok(seen) = open_by(alloc, table, last, profile) else {
-        unreachable!();
-    };
+    let seen = open_by(alloc, blocks, last, profile)?;
     match seen {
-        Seen::Got(opened) => by_tree(alloc, table, &opened, unread),
-        Seen::Holes(more) => by_list(unread, &more),
+        Seen::Got(opened) => by_tree(alloc, blocks, &opened, unread),
+        Seen::Holes(more) => {
+            let answer = by_list(unread, &more)?;
+            Ok(answer)
+        }
         Seen::Fault(fault) => Ok(Lawfulness::Unlawful(Why::Volume(fault))),
-        Seen::OutOfMemory => Err(AllocError),
+        Seen::OutOfMemory => Err(GaveUp::OutOfMemory),
     }
 }
 
@@ -120,7 +127,6 @@ fn by_structures(
 /// # Errors
 ///
 /// `AllocError` where memory runs out. Nothing is decided then.
-#[tactic(auto, using(crate::proofs::Decided::structures_refute))]
 pub fn lawfulness(
     alloc: Global,
     table: &BlockTable,
@@ -131,9 +137,33 @@ pub fn lawfulness(
     requires to { last ≤ 4194303 }
     ensures { IfOk result (IsDecided profile (state_of table.now) last) }
 {
-    match structures_of(alloc, table, last, profile)? {
-        Structures::Sound => by_structures(alloc, table, last, profile, Vec::new(alloc)),
+    match lawfulness_by(alloc, table, last, profile) {
+        Ok(answer) => Ok(answer),
+        Err(GaveUp::OutOfMemory) => Err(AllocError),
+        Err(GaveUp::Unread) => unreachable!(),
+    }
+}
+
+/// The same as [`lawfulness`], by any store of blocks: its structures, the entries and the directories are read.
+///
+/// # Errors
+///
+/// `OutOfMemory` where memory runs out, and `Unread` where the bytes of a known block could not be read. Nothing is decided then.
+#[tactic(auto, using(crate::proofs::Decided::structures_refute))]
+pub fn lawfulness_by<B: BlockStore>(
+    alloc: Global,
+    blocks: &B,
+    last: u32,
+    profile: Profile,
+) -> Result<Lawfulness, GaveUp>
+    requires from { 513 ≤ last }
+    requires to { last ≤ 4194303 }
+    ensures decided { IfOk result (λ answer. B.tells → IsDecided profile (B.states blocks.now) last answer) }
+    ensures fails { IsErrOf result GaveUp.Unread → B.fails }
+{
+    match structures_by(alloc, blocks, last, profile)? {
+        Structures::Sound => by_structures(alloc, blocks, last, profile, Vec::new(alloc)),
         Structures::Unsound(reason) => Ok(Lawfulness::Unlawful(Why::Structures(reason))),
-        Structures::Open(unread) => by_structures(alloc, table, last, profile, unread),
+        Structures::Open(unread) => by_structures(alloc, blocks, last, profile, unread),
     }
 }

@@ -14,5 +14,5 @@ mod tables;
 mod trees;
 
 pub use answers::{Lawfulness, Reason, Structures, Why};
-pub use deciding::lawfulness;
-pub use structures::structures_of;
+pub use deciding::{lawfulness, lawfulness_by};
+pub use structures::{structures_by, structures_of};

@@ -1,8 +1,7 @@
 //! Both copies of the volume descriptor sequence (ECMA-167 3/8.4.2).
 
-ghost use Rattle.std.specs.Prelude.{◌≡◌, ◌≤◌, ◌+◌, ◌/◌, ◌++◌, IfOk, MatchOption, false};
+ghost use Rattle.std.specs.Prelude.{◌≡◌, ◌≤◌, ◌+◌, ◌/◌, ◌++◌, IfOk, IsErrOf, MatchOption, OnErr, false};
 ghost use Rattle.udfs_lattice.specs.States.{fact_now};
-ghost use Rattle.udfs_lattice.specs.Tables.{state_of};
 ghost use Rattle.udfs_volume.specs.Differences.{differ_in, known_differ, say_the_same};
 ghost use Rattle.udfs_volume.specs.Laws.{is_of_layout};
 ghost use Rattle.udfs_volume.specs.Sequence.{goes_on, position, shared, shorter};
@@ -10,8 +9,7 @@ ghost use Rattle.udfs_volume.specs.Sequences.{descriptor_of};
 ghost use Rattle.udfs_lawfulness.specs.Sequences.{IsPairApart, pairs_in};
 
 use crate::tables::behind;
-use std::alloc::AllocError;
-use udfs_lattice::{BlockTable, Fact};
+use udfs_lattice::{BlockStore, Fact, GaveUp, ReadFault};
 use udfs_tag::{Tag, identifiers};
 use udfs_volume::AnchorExtents;
 
@@ -68,20 +66,34 @@ fn goes_on(block: &[u8; 2048], place: u32) -> bool
 
 /// Whether it is known to go on after a position, by the first of its copies that is known.
 #[tactic(auto, unfolding(udfs_volume::specs::Sequence::position))]
-fn goes_on_at(table: &BlockTable, main: u32, reserve: u32) -> bool
-    ensures { result ≡ goes_on (position (state_of table.now) main reserve) }
+fn goes_on_at<B: BlockStore>(blocks: &B, main: u32, reserve: u32) -> Result<bool, ReadFault>
+    ensures value { IfOk result (λ on. B.tells → on ≡ goes_on (position (B.states blocks.now) main reserve)) }
+    ensures fails { OnErr result B.fails }
 {
-    if let Fact::Known(block) = table.state(main) {
-        return goes_on(block, main);
+    let mut room = [0; 2048];
+    if let Fact::Known(block) = blocks.lend(main, &mut room)? {
+        return Ok(goes_on(block, main));
     }
-    match table.state(reserve) {
-        Fact::Known(block) => goes_on(block, reserve),
-        _ => false,
+    match blocks.lend(reserve, &mut room)? {
+        Fact::Known(block) => Ok(goes_on(block, reserve)),
+        _ => Ok(false),
     }
 }
 
+/// Whether the blocks of a position are both known, and do not say the same.
+fn differ_at<B: BlockStore>(blocks: &B, main: u32, reserve: u32) -> Result<bool, ReadFault>
+    ensures value { IfOk result (λ differ. B.tells → differ ≡ known_differ (B.states blocks.now main) main (B.states blocks.now reserve) reserve) }
+    ensures fails { OnErr result B.fails }
+{
+    let mut main_room = [0; 2048];
+    let mut room = [0; 2048];
+    let one = blocks.lend(main, &mut main_room)?;
+    let other = blocks.lend(reserve, &mut room)?;
+    Ok(known_differ(one, main, other, reserve))
+}
+
 /// How many positions the sequence has: as many blocks as the shorter extent has.
-fn positions(extents: AnchorExtents) -> u32
+pub(crate) fn positions(extents: AnchorExtents) -> u32
     ensures { result ≡ shorter extents / 2048 }
 {
     if extents.main.length <= extents.reserve.length {
@@ -92,40 +104,48 @@ fn positions(extents: AnchorExtents) -> u32
 }
 
 /// The blocks of the first position that is known to be reached, and whose copies are both known and do not say the same.
-pub(crate) fn pair_apart(table: &BlockTable, extents: AnchorExtents) -> Option<(u32, u32)>
+pub(crate) fn pair_apart<B: BlockStore>(
+    blocks: &B,
+    extents: AnchorExtents,
+) -> Result<Option<(u32, u32)>, ReadFault>
     requires main { extents.main.block + shorter extents / 2048 ≤ 4194304 }
     requires reserve { extents.reserve.block + shorter extents / 2048 ≤ 4194304 }
-    ensures { MatchOption result (differ_in (state_of table.now) (shared extents) ≡ false) (λ pair. IsPairApart (state_of table.now) extents pair.0 pair.1) }
+    ensures value { IfOk result (λ pair. B.tells → MatchOption pair (differ_in (B.states blocks.now) (shared extents) ≡ false) (λ pair. IsPairApart (B.states blocks.now) extents pair.0 pair.1)) }
+    ensures fails { OnErr result B.fails }
 {
     for i in 0..positions(extents) {
         let main = extents.main.block + i;
         let reserve = extents.reserve.block + i;
-        if known_differ(table.state(main), main, table.state(reserve), reserve) {
-            return Some((main, reserve));
+        let differ = differ_at(blocks, main, reserve)?;
+        if differ {
+            return Ok(Some((main, reserve)));
         }
-        if !goes_on_at(table, main, reserve) {
-            return None;
+        let on = goes_on_at(blocks, main, reserve)?;
+        if !on {
+            return Ok(None);
         }
     }
-    None
+    Ok(None)
 }
 
 /// Appends both blocks of each position, up to the first after which the sequence is not known to go on.
-pub(crate) fn push_pairs(
+pub(crate) fn push_pairs<B: BlockStore>(
     numbers: &mut Vec<u32>,
-    table: &BlockTable,
+    blocks: &B,
     extents: AnchorExtents,
-) -> Result<(), AllocError>
+) -> Result<(), GaveUp>
     requires main { extents.main.block + shorter extents / 2048 ≤ 4194304 }
     requires reserve { extents.reserve.block + shorter extents / 2048 ≤ 4194304 }
-    ensures { IfOk result (λ done. numbers.new.items ≡ numbers.old.items ++ pairs_in (state_of table.now) extents) }
+    ensures value { IfOk result (λ done. B.tells → numbers.new.items ≡ numbers.old.items ++ pairs_in (B.states blocks.now) extents) }
+    ensures fails { IsErrOf result GaveUp.Unread → B.fails }
 {
     for i in 0..positions(extents) {
         let main = extents.main.block + i;
         let reserve = extents.reserve.block + i;
         numbers.push(main)?;
         numbers.push(reserve)?;
-        if !goes_on_at(table, main, reserve) {
+        let on = goes_on_at(blocks, main, reserve)?;
+        if !on {
             return Ok(());
         }
     }

@@ -1,9 +1,8 @@
 //! The copies of sparing tables (UDF 2.01 2.2.11).
 
-ghost use Rattle.std.specs.Prelude.{◌≡◌, ◌≤◌, ◌<◌, ◌+◌, ◌-◌, ◌++◌, All, IfOk, IfSome, MatchOption, drop, false, find, length, map, take, true};
+ghost use Rattle.std.specs.Prelude.{◌≡◌, ◌≤◌, ◌<◌, ◌+◌, ◌-◌, ◌++◌, All, IfOk, IfSome, IsErrOf, MatchOption, OnErr, drop, false, find, length, map, take, true};
 ghost use Rattle.std.specs.List.{range_with_len};
 ghost use Rattle.udfs_lattice.specs.States.{fact_now, is_known};
-ghost use Rattle.udfs_lattice.specs.Tables.{state_of};
 ghost use Rattle.udfs_lattice.specs.declared.facts.Fact.TheVariants.{Known};
 ghost use Rattle.udfs_volume.specs.Layout.{blocks_in};
 ghost use Rattle.udfs_volume.specs.LayoutParts.{partition_now};
@@ -13,7 +12,7 @@ ghost use Rattle.udfs_lawfulness.specs.Tables.{FitsMap, blocks_of, copy_bytes, d
 
 use crate::answers::Reason;
 use std::alloc::{AllocError, Global};
-use udfs_lattice::{BlockTable, Fact};
+use udfs_lattice::{BlockStore, Fact, GaveUp, ReadFault};
 use udfs_tag::{Tag, identifiers};
 use udfs_volume::{Partition, PartitionMap, SparableMap};
 
@@ -69,38 +68,66 @@ fn differs(size: u32, k: u32, one: Fact<&[u8; 2048]>, other: Fact<&[u8; 2048]>) 
     }
 }
 
+/// Whether block `k` of the copies that begin at two places is known in both, and does not say the same.
+fn differ_at<B: BlockStore>(
+    blocks: &B,
+    size: u32,
+    k: u32,
+    place: u32,
+    other: u32,
+) -> Result<bool, ReadFault>
+    requires place { place + k < 4194304 }
+    requires other { other + k < 4194304 }
+    ensures value { IfOk result (λ differ. B.tells → differ ≡ differs size k (B.states blocks.now (place + k)) (B.states blocks.now (other + k))) }
+    ensures fails { OnErr result B.fails }
+{
+    let mut one_room = [0; 2048];
+    let mut room = [0; 2048];
+    let one = blocks.lend(place + k, &mut one_room)?;
+    let two = blocks.lend(other + k, &mut room)?;
+    Ok(differs(size, k, one, two))
+}
+
 /// Block `k` of the copy that begins at a place, and that of the first of these copies that differs from it.
-fn apart_from(
-    table: &BlockTable,
+fn apart_from<B: BlockStore>(
+    blocks: &B,
     size: u32,
     k: u32,
     places: &[u32],
     place: u32,
-) -> Option<(u32, u32)>
+) -> Result<Option<(u32, u32)>, ReadFault>
     requires place { place + k < 4194304 }
     requires fit { FitAll (k + 1) places.now }
-    ensures { result ≡ apart_from (state_of table.now) size k places.now place }
+    ensures value { IfOk result (λ pair. B.tells → pair ≡ apart_from (B.states blocks.now) size k places.now place) }
+    ensures fails { OnErr result B.fails }
 {
     for other in places {
-        let one = table.state(place + k);
-        if differs(size, k, one, table.state(*other + k)) {
-            return Some((place + k, *other + k));
+        let differ = differ_at(blocks, size, k, place, *other)?;
+        if differ {
+            return Ok(Some((place + k, *other + k)));
         }
     }
-    None
+    Ok(None)
 }
 
 /// Block `k` of the first two copies that differ in it.
-fn apart_in(table: &BlockTable, size: u32, k: u32, places: &[u32]) -> Option<(u32, u32)>
+fn apart_in<B: BlockStore>(
+    blocks: &B,
+    size: u32,
+    k: u32,
+    places: &[u32],
+) -> Result<Option<(u32, u32)>, ReadFault>
     requires { FitAll (k + 1) places.now }
-    ensures { result ≡ apart_in (state_of table.now) size places.now k }
+    ensures value { IfOk result (λ pair. B.tells → pair ≡ apart_in (B.states blocks.now) size places.now k) }
+    ensures fails { OnErr result B.fails }
 {
     for place in places {
-        if let Some(pair) = apart_from(table, size, k, places, *place) {
-            return Some(pair);
+        let found = apart_from(blocks, size, k, places, *place)?;
+        if let Some(pair) = found {
+            return Ok(Some(pair));
         }
     }
-    None
+    Ok(None)
 }
 
 /// How many blocks a table of `bytes` bytes takes.
@@ -111,45 +138,58 @@ fn blocks_in(bytes: u32) -> u32
 }
 
 /// The first block of the table of a map in which copies differ: that block of two of them.
-fn copies_apart(table: &BlockTable, map: &SparableMap) -> Option<(u32, u32)>
+fn copies_apart<B: BlockStore>(
+    blocks: &B,
+    map: &SparableMap,
+) -> Result<Option<(u32, u32)>, ReadFault>
     requires { FitAll (blocks_in map.now.size) map.now.tables.items }
-    ensures { result ≡ copies_apart (state_of table.now) map.now.size map.now.tables.items }
+    ensures value { IfOk result (λ pair. B.tells → pair ≡ copies_apart (B.states blocks.now) map.now.size map.now.tables.items) }
+    ensures fails { OnErr result B.fails }
 {
     for k in 0..blocks_in(map.size) {
-        if let Some(pair) = apart_in(table, map.size, k, &map.tables) {
-            return Some(pair);
+        let found = apart_in(blocks, map.size, k, &map.tables)?;
+        if let Some(pair) = found {
+            return Ok(Some(pair));
         }
     }
-    None
+    Ok(None)
 }
 
 /// The bytes of a block, if it is known.
-fn known_block(table: &BlockTable, n: u32) -> Option<&[u8; 2048]>
-    ensures known { MatchOption result (is_known (state_of table.now n) ≡ false) (λ block. state_of table.now n ≡ Known block.now) }
-    ensures size { IfSome result (λ block. length block.now ≡ 2048) }
+fn known_block<'r, B: BlockStore>(
+    blocks: &'r B,
+    n: u32,
+    room: &'r mut [u8; 2048],
+) -> Result<Option<&'r [u8; 2048]>, ReadFault>
+    ensures known { IfOk result (λ read. B.tells → MatchOption read (is_known (B.states blocks.now n) ≡ false) (λ block. B.states blocks.now n ≡ Known block.now)) }
+    ensures size { IfOk result (λ read. IfSome read (λ block. length block.now ≡ 2048)) }
+    ensures fails { OnErr result B.fails }
 {
-    match table.state(n) {
-        Fact::Known(block) => Some(block),
-        _ => None,
+    match blocks.lend(n, room)? {
+        Fact::Known(block) => Ok(Some(block)),
+        _ => Ok(None),
     }
 }
 
 /// The bytes of the copy of a table that begins at a place, if each of its blocks is known.
-fn copy_bytes(
+fn copy_bytes<B: BlockStore>(
     alloc: Global,
-    table: &BlockTable,
+    blocks: &B,
     size: u32,
     place: u32,
-) -> Result<Option<Vec<u8>>, AllocError>
+) -> Result<Option<Vec<u8>>, GaveUp>
     requires { place + blocks_in size ≤ 4194304 }
-    ensures known { IfOk result (λ read. MatchOption read (is_known_copy (state_of table.now) size place ≡ false)
-        (λ bytes. is_known_copy (state_of table.now) size place ≡ true)) }
-    ensures value { IfOk result (λ read. MatchOption read (Unit {0}) (λ bytes. bytes.items ≡ copy_bytes (state_of table.now) size place)) }
+    ensures known { IfOk result (λ read. B.tells → MatchOption read (is_known_copy (B.states blocks.now) size place ≡ false)
+        (λ bytes. is_known_copy (B.states blocks.now) size place ≡ true)) }
+    ensures value { IfOk result (λ read. B.tells → MatchOption read (Unit {0}) (λ bytes. bytes.items ≡ copy_bytes (B.states blocks.now) size place)) }
     ensures size { IfOk result (λ read. MatchOption read (Unit {0}) (λ bytes. length bytes.items ≡ size)) }
+    ensures fails { IsErrOf result GaveUp.Unread → B.fails }
 {
     let mut bytes = Vec::new(alloc);
+    let mut room = [0; 2048];
     for k in 0..blocks_in(size) {
-        let Some(block) = known_block(table, place + k) else {
+        let read = known_block(blocks, place + k, &mut room)?;
+        let Some(block) = read else {
             return Ok(None);
         };
         bytes.extend_from_slice(block)?;
@@ -159,25 +199,37 @@ fn copy_bytes(
 }
 
 /// Whether the copy of a table that begins at a place is known whole, and has no valid tag there.
-fn is_untagged(alloc: Global, table: &BlockTable, size: u32, place: u32) -> Result<bool, AllocError>
+fn is_untagged<B: BlockStore>(
+    alloc: Global,
+    blocks: &B,
+    size: u32,
+    place: u32,
+) -> Result<bool, GaveUp>
     requires size { 56 ≤ size }
     requires fit { place + blocks_in size ≤ 4194304 }
-    ensures { IfOk result (λ untagged. untagged ≡ is_untagged (state_of table.now) size place) }
+    ensures value { IfOk result (λ untagged. B.tells → untagged ≡ is_untagged (B.states blocks.now) size place) }
+    ensures fails { IsErrOf result GaveUp.Unread → B.fails }
 {
-    match copy_bytes(alloc, table, size, place)? {
+    match copy_bytes(alloc, blocks, size, place)? {
         Some(bytes) => Ok(!Tag::is_valid(&bytes, place, identifiers::SPARING_TABLE)),
         None => Ok(false),
     }
 }
 
 /// Where the first copy of the table of a map begins that is known whole and has no valid tag.
-fn untagged(alloc: Global, table: &BlockTable, map: &SparableMap) -> Result<Option<u32>, AllocError>
+fn untagged<B: BlockStore>(
+    alloc: Global,
+    blocks: &B,
+    map: &SparableMap,
+) -> Result<Option<u32>, GaveUp>
     requires size { 56 ≤ map.now.size }
     requires fit { FitAll (blocks_in map.now.size) map.now.tables.items }
-    ensures { IfOk result (λ place. place ≡ find (is_untagged (state_of table.now) map.now.size) map.now.tables.items) }
+    ensures value { IfOk result (λ place. B.tells → place ≡ find (is_untagged (B.states blocks.now) map.now.size) map.now.tables.items) }
+    ensures fails { IsErrOf result GaveUp.Unread → B.fails }
 {
     for place in &map.tables {
-        if is_untagged(alloc, table, map.size, *place)? {
+        let without = is_untagged(alloc, blocks, map.size, *place)?;
+        if without {
             return Ok(Some(*place));
         }
     }
@@ -185,50 +237,54 @@ fn untagged(alloc: Global, table: &BlockTable, map: &SparableMap) -> Result<Opti
 }
 
 /// Why the copies of the table of a map are not lawful.
-fn copies_reason(
+fn copies_reason<B: BlockStore>(
     alloc: Global,
-    table: &BlockTable,
+    blocks: &B,
     map: &SparableMap,
-) -> Result<Option<Reason>, AllocError>
+) -> Result<Option<Reason>, GaveUp>
     requires size { 56 ≤ map.now.size }
     requires fit { FitAll (blocks_in map.now.size) map.now.tables.items }
-    ensures { IfOk result (λ reason. reason ≡ copies_reason (state_of table.now) map.now.size map.now.tables.items) }
+    ensures value { IfOk result (λ reason. B.tells → reason ≡ copies_reason (B.states blocks.now) map.now.size map.now.tables.items) }
+    ensures fails { IsErrOf result GaveUp.Unread → B.fails }
 {
-    if let Some((one, other)) = copies_apart(table, map) {
+    if let Some((one, other)) = copies_apart(blocks, map)? {
         return Ok(Some(Reason::Tables { one, other }));
     }
-    match untagged(alloc, table, map)? {
+    match untagged(alloc, blocks, map)? {
         Some(place) => Ok(Some(Reason::NoTable(place))),
         None => Ok(None),
     }
 }
 
 /// The same of the table of a partition's map, if it has one.
-fn map_reason(
+fn map_reason<B: BlockStore>(
     alloc: Global,
-    table: &BlockTable,
+    blocks: &B,
     partition: &Partition,
-) -> Result<Option<Reason>, AllocError>
+) -> Result<Option<Reason>, GaveUp>
     requires { FitsMap (partition_now partition.now).kind }
-    ensures { IfOk result (λ reason. reason ≡ map_reason (state_of table.now) (partition_now partition.now).kind) }
+    ensures value { IfOk result (λ reason. B.tells → reason ≡ map_reason (B.states blocks.now) (partition_now partition.now).kind) }
+    ensures fails { IsErrOf result GaveUp.Unread → B.fails }
 {
     match &partition.kind {
         PartitionMap::Type1 => Ok(None),
-        PartitionMap::Sparable(map) => copies_reason(alloc, table, map),
+        PartitionMap::Sparable(map) => copies_reason(alloc, blocks, map),
     }
 }
 
 /// The same of the first of these partitions.
-pub(crate) fn partitions_reason(
+pub(crate) fn partitions_reason<B: BlockStore>(
     alloc: Global,
-    table: &BlockTable,
+    blocks: &B,
     partitions: &[Partition],
-) -> Result<Option<Reason>, AllocError>
+) -> Result<Option<Reason>, GaveUp>
     requires { All (λ p. FitsMap (partition_now p).kind) partitions.now }
-    ensures { IfOk result (λ reason. reason ≡ partitions_reason (state_of table.now) (map partition_now partitions.now)) }
+    ensures value { IfOk result (λ reason. B.tells → reason ≡ partitions_reason (B.states blocks.now) (map partition_now partitions.now)) }
+    ensures fails { IsErrOf result GaveUp.Unread → B.fails }
 {
     for partition in partitions {
-        if let Some(reason) = map_reason(alloc, table, partition)? {
+        let found = map_reason(alloc, blocks, partition)?;
+        if let Some(reason) = found {
             return Ok(Some(reason));
         }
     }

@@ -1,15 +1,16 @@
 //! What the nodes of a volume say of its tree.
 
-ghost use Rattle.std.specs.Prelude.{◌≡◌, IfOk, MatchOption, filter, true};
-ghost use Rattle.udfs_space.specs.Views.{view_now};
+ghost use Rattle.std.specs.Prelude.{◌≡◌, IfOk, IsErrOf, MatchOption, filter, true};
+ghost use Rattle.udfs_space.specs.Views.{view_by};
 ghost use Rattle.udfs_lawfulness.specs.Asking.{asks, is_data, is_torn};
 ghost use Rattle.udfs_lawfulness.specs.Spelling.{AreFaultless, IsFaultyAt, IsFaultyFor, is_faulty};
 
 use crate::answers::Why;
 use crate::filled::is_mapped;
-use std::alloc::{AllocError, Global};
+use std::alloc::Global;
 use udfs_file::Kind;
-use udfs_space::View;
+use udfs_lattice::{BlockStore, GaveUp};
+use udfs_space::StoreView;
 use udfs_walk::{Node, Standing};
 
 /// Whether a node is a loop or has a fault.
@@ -67,8 +68,13 @@ fn is_torn(standing: &Standing) -> bool
 }
 
 /// Whether a torn node could be unlawful: not if it is no directory, and all its allocation descriptors are known.
-fn asks(alloc: Global, view: View<'_>, node: &Node) -> Result<bool, AllocError>
-    ensures { IfOk result (λ asked. asked ≡ asks (view_now view.entry) node.now) }
+fn asks<B: BlockStore>(
+    alloc: Global,
+    view: StoreView<'_, B>,
+    node: &Node,
+) -> Result<bool, GaveUp>
+    ensures value { IfOk result (λ asked. B.tells → asked ≡ asks (view_by B.states view.entry) node.now) }
+    ensures fails { IsErrOf result GaveUp.Unread → B.fails }
 {
     if !is_torn(&node.standing) {
         return Ok(false);
@@ -81,12 +87,13 @@ fn asks(alloc: Global, view: View<'_>, node: &Node) -> Result<bool, AllocError>
 }
 
 /// Those of these nodes.
-pub(crate) fn asking(
+pub(crate) fn asking<B: BlockStore>(
     alloc: Global,
-    view: View<'_>,
+    view: StoreView<'_, B>,
     nodes: Vec<Node>,
-) -> Result<Vec<Node>, AllocError>
-    ensures { IfOk result (λ kept. kept.items ≡ filter (asks (view_now view.entry)) nodes.items) }
+) -> Result<Vec<Node>, GaveUp>
+    ensures value { IfOk result (λ kept. B.tells → kept.items ≡ filter (asks (view_by B.states view.entry)) nodes.items) }
+    ensures fails { IsErrOf result GaveUp.Unread → B.fails }
 {
     let mut kept = Vec::new(alloc);
     for node in nodes {

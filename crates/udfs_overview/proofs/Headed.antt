@@ -3,8 +3,8 @@ use Rattle.std.proofs.Common.{◌≡◌, ◌++◌, ℕ, List, Result, Ok, Err, a
 use Rattle.udfs_reading.specs.Device.{Stream}
 use Rattle.udfs_salvage.specs.Printing.{PassesOn}
 use Rattle.udfs_salvage.specs.declared.errors.RunError.{RunError}
-use Rattle.udfs_overview.specs.StorePrinting.{PassesOnBy, leaves_as}
-use Rattle.udfs_overview.specs.declared.errors.PrintError.{PrintError}
+use Rattle.udfs_salvage.specs.StorePrinting.{PassesOnBy, leaves_as}
+use Rattle.udfs_salvage.specs.declared.errors.PrintError.{PrintError}
 
 pub pushed_first : {X : Type 0} (a b : Stream) (p m q x y : List ℕ) (r : Result X RunError) → m ≡ p ++ x → PassesOn a b m q y r → PassesOn a b p q (x ++ y) r
 pushed_first a b p m q x y (Ok u) held h = record { out = h.out; given = h.given; whole = sym (append_assoc p x y) ∙ ap (λ (l : List ℕ). l ++ y) (sym held) ∙ h.whole; kept = h.kept }

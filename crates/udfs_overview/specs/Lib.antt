@@ -2,7 +2,6 @@ pub mod Figures
 pub mod SafeFronts
 pub mod SafeNames
 pub mod NodeLists
-pub mod StorePrinting
 pub mod LeftOut
 pub mod Narrow
 pub mod TornRows

@@ -4,7 +4,6 @@
 
 mod disagreements;
 mod disc_tallies;
-mod errors;
 mod figures;
 mod guarantees;
 mod left_out;
@@ -36,7 +35,6 @@ mod widenings;
 
 pub use disagreements::{push_anchors_text, push_apart};
 pub use disc_tallies::{DiscTally, UnnamedTally, count_disc, count_unnamed};
-pub use errors::PrintError;
 pub use figures::{push_grouped, push_percent, push_size};
 pub use guarantees::{push_guarantee, push_guarantee_line, push_why_place, push_why_words};
 pub use left_out::{left_out_remark, left_out_types, push_left_out, wide_writes};

@@ -10,16 +10,15 @@ ghost use Rattle.udfs_salvage.specs.Listings.{listing_by};
 ghost use Rattle.udfs_salvage.specs.Printing.{PassesOn, Prints};
 ghost use Rattle.udfs_salvage.specs.Surveys.{survey_by, survey_now};
 ghost use Rattle.udfs_overview.specs.NodeLists.{bare_lines, column_names, columns, front_columns, header_line, line_end, list_line, list_text, listed, listed_in, tail_column};
-ghost use Rattle.udfs_overview.specs.StorePrinting.{PassesOnBy, PrintsBy};
+ghost use Rattle.udfs_salvage.specs.StorePrinting.{PassesOnBy, PrintsBy};
 
-use crate::errors::PrintError;
 use crate::node_columns::{is_whole, push_safe_path, push_told};
 use crate::node_objects::push_object;
 use std::alloc::Global;
 use udfs_lattice::BlockStore;
 use udfs_osta::OutOfMemory;
 use udfs_reading::Sink;
-use udfs_salvage::{Listing, RunError, Survey, Volume, flush, pass_on};
+use udfs_salvage::{Listing, PrintError, RunError, Survey, Volume, flush, pass_on};
 use udfs_space::StoreView;
 use udfs_walk::{Node, Standing, full_standing_by, tail_by};
 

@@ -1,6 +1,6 @@
 //! Whether the guarantee holds for a volume.
 
-ghost use Rattle.std.specs.Prelude.{◌≡◌, ◌≤◌, IfOk, IfErr, alloc_error};
+ghost use Rattle.std.specs.Prelude.{◌≡◌, ◌≤◌, IfOk, IfErr, IsErrOf, OnErr, alloc_error};
 ghost use Rattle.std.specs.String.{string_bytes};
 ghost use Rattle.udfs_lattice.specs.Tables.{state_of};
 ghost use Rattle.udfs_lawfulness.specs.Lawfulness.{IsDecided};
@@ -9,8 +9,8 @@ ghost use Rattle.udfs_overview.specs.Guarantees.{IsGuarantee};
 use std::alloc::{AllocError, Global};
 use udfs_common::files::Files;
 use udfs_common::refusal::Refusal;
-use udfs_lattice::BlockTable;
-use udfs_lawfulness::{Lawfulness, lawfulness};
+use udfs_lattice::{BlockStore, BlockTable, GaveUp, ReadFault};
+use udfs_lawfulness::{Lawfulness, lawfulness, lawfulness_by};
 use udfs_overview::push_guarantee;
 use udfs_salvage::Survey;
 use udfs_volume::Profile;
@@ -34,30 +34,44 @@ pub fn judged(
 }
 
 /// Whether the guarantee holds for a volume, as a sentence.
-fn guarantee_text(
+fn guarantee_text<B: BlockStore>(
     alloc: Global,
-    table: &BlockTable,
+    blocks: &B,
     last: u32,
     profile: Profile,
-) -> Result<String, AllocError>
+) -> Result<String, GaveUp>
     requires from { 513 ≤ last }
     requires to { last ≤ 4194303 }
-    ensures { IfOk result (λ text. IsGuarantee profile (state_of table.now) last (string_bytes text)) }
+    ensures text { IfOk result (λ text. B.tells → IsGuarantee profile (B.states blocks.now) last (string_bytes text)) }
+    ensures fails { IsErrOf result GaveUp.Unread → B.fails }
 {
-    let answer = lawfulness(alloc, table, last, profile)?;
+    let answer = lawfulness_by(alloc, blocks, last, profile)?;
     let mut text = String::new(alloc);
     match push_guarantee(&mut text, &answer) {
         Ok(()) => Ok(text),
-        Err(_) => Err(AllocError),
+        Err(_) => Err(GaveUp::OutOfMemory),
     }
 }
 
 /// Says in a remark whether the guarantee holds for the volume of a survey, by its rules. Where memory runs out nothing is said.
-pub fn remark_on_guarantee<F: Files>(alloc: Global, survey: &Survey<'_>, files: &F) {
+///
+/// # Errors
+///
+/// Where the bytes of a known block could not be read: nothing is said then.
+pub fn remark_on_guarantee_by<B: BlockStore, F: Files>(
+    alloc: Global,
+    survey: &Survey<'_, B>,
+    files: &F,
+) -> Result<(), ReadFault>
+    ensures { OnErr result B.fails }
+{
     if survey.last < 513 || survey.last > 4_194_303 {
-        return;
+        return Ok(());
     }
-    if let Ok(text) = guarantee_text(alloc, survey.table, survey.last, survey.profile) {
-        files.remark(text.as_str());
+    match guarantee_text(alloc, survey.table, survey.last, survey.profile) {
+        Ok(text) => files.remark(text.as_str()),
+        Err(GaveUp::OutOfMemory) => {}
+        Err(GaveUp::Unread) => return Err(ReadFault),
     }
+    Ok(())
 }

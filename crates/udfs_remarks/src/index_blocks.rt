@@ -7,8 +7,9 @@ ghost use Rattle.udfs_lattice.specs.Tables.{IsTable, Table};
 ghost use Rattle.udfs_salvage.specs.Reports.{IsPastEnd};
 ghost use Rattle.udfs_remarks.specs.IndexBlocks.{IsNothingBehind, IsTakenTable, bounded};
 
+use crate::steady::SteadyStore;
 use std::cell::Cell;
-use udfs_index::{Cursor, Index, Stored, Unread};
+use udfs_index::{Cursor, END, Index, Stored, Unread};
 use udfs_lattice::{BlockStore, Fact, ReadFault};
 use udfs_reading::Taker;
 use udfs_salvage::ReportStore;
@@ -40,7 +41,7 @@ impl<'i, 'a, S: Stored> IndexBlocks<'i, 'a, S> {
         }
     }
 
-    /// What could not be read, where a read failed: an input, counted from 0, and the position of the block's bytes in it.
+    /// What could not be read, where a read failed: an input, counted from 0, and the position of the block's bytes in it, or its end where it has changed.
     pub fn unread(&self) -> Unread {
         match self.unread.get() {
             Some(unread) => unread,
@@ -143,5 +144,18 @@ impl<'i, 'a, S: Stored> ReportStore for IndexBlocks<'i, 'a, S> {
     #[tactic(auto, using(crate::proofs::IndexStates::nothing_past))]
     fn first_past(&self, last: u32) -> Option<u32> {
         self.least_behind(last)
+    }
+}
+
+impl<'i, 'a, S: Stored> SteadyStore for IndexBlocks<'i, 'a, S> {
+    /// Whether all inputs are as they were when they were taken, as far as their length and the time of their last change say.
+    fn is_steady(&self) -> bool {
+        match self.index.changed() {
+            Some(input) => {
+                self.unread.set(Some(Unread { input, at: END }));
+                false
+            }
+            None => true,
+        }
     }
 }

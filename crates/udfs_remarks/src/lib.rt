@@ -7,6 +7,8 @@ mod index_blocks;
 pub mod looking;
 pub mod no_reports;
 pub mod remarks;
+mod steady;
 mod structures;
 
 pub use index_blocks::IndexBlocks;
+pub use steady::SteadyStore;

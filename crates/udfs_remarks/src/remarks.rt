@@ -16,6 +16,9 @@ use udfs_volume::sequences::sequence;
 use udfs_volume::{Profile, Seen, VolumeFault};
 use udfs_walk::Node;
 
+/// What is said where the remarks on a volume could not be made.
+pub const UNREAD: &str = "no remarks on the volume: an input could not be read again";
+
 /// What remarks on a volume are made from: its table, or of another store those of its blocks by which it is opened; the greatest block of which something is
 /// known, where it is asked for; its last block, by which rules, and what came of opening it.
 #[derive(Clone, Copy)]
@@ -176,6 +179,31 @@ pub fn remark_on<F: Files>(alloc: Global, survey: &Survey<'_>, files: &F) {
     remark_nodes(alloc, told, &survey.nodes, files);
 }
 
+/// Says in remarks what [`remark_on`] says, of a survey of any store of blocks. It reads the blocks by which the volume is opened once more.
+///
+/// # Errors
+///
+/// Where the bytes of one of them could not be read: nothing is said then.
+pub fn remark_on_by<B: ReportStore, F: Files>(
+    alloc: Global,
+    survey: &Survey<'_, B>,
+    files: &F,
+) -> Result<(), ReadFault>
+    ensures { OnErr result B.fails }
+{
+    if let Some(table) = structures_of(alloc, survey.table, survey.last, &survey.volume)? {
+        let told = Told {
+            table: &table,
+            greatest: greatest_where(survey.table, &survey.volume),
+            last: survey.last,
+            profile: survey.profile,
+            volume: &survey.volume,
+        };
+        remark_nodes(alloc, told, &survey.nodes, files);
+    }
+    Ok(())
+}
+
 /// The greatest block of which something is known, where a volume wants blocks before it opens.
 fn greatest_where<B: ReportStore>(blocks: &B, volume: &Volume) -> Option<u32> {
     match volume {
@@ -195,14 +223,16 @@ fn told_in<'a, B: ReportStore>(listing: &'a Listing<'_, B>, table: &'a BlockTabl
     }
 }
 
-/// The blocks of a store by which the volume of a listing is opened; `None` where memory runs out, so that nothing is said then.
+/// The blocks of a store by which a volume is opened; `None` where memory runs out, so that nothing is said then.
 fn structures_of<B: BlockStore>(
     alloc: Global,
-    listing: &Listing<'_, B>,
+    blocks: &B,
+    last: u32,
+    volume: &Volume,
 ) -> Result<Option<BlockTable>, ReadFault>
     ensures { OnErr result B.fails }
 {
-    match structures_in(alloc, listing.table, listing.last, &listing.volume) {
+    match structures_in(alloc, blocks, last, volume) {
         Ok(table) => Ok(Some(table)),
         Err(GaveUp::OutOfMemory) => Ok(None),
         Err(GaveUp::Unread) => Err(ReadFault),
@@ -240,7 +270,7 @@ pub fn remark_on_listing_by<B: ReportStore, F: Files>(
 ) -> Result<(), ReadFault>
     ensures { OnErr result B.fails }
 {
-    if let Some(table) = structures_of(alloc, listing)? {
+    if let Some(table) = structures_of(alloc, listing.table, listing.last, &listing.volume)? {
         remark_volume(alloc, told_in(listing, &table), files);
     }
     Ok(())
@@ -258,7 +288,7 @@ pub fn remark_on_nodes_by<B: ReportStore, F: Files>(
 ) -> Result<(), ReadFault>
     ensures { OnErr result B.fails }
 {
-    if let Some(table) = structures_of(alloc, listing)? {
+    if let Some(table) = structures_of(alloc, listing.table, listing.last, &listing.volume)? {
         remark_nodes(alloc, told_in(listing, &table), &listing.nodes, files);
     }
     Ok(())

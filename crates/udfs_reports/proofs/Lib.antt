@@ -2,6 +2,6 @@ pub mod PagingLemmas
 pub mod RereadingLemmas
 pub mod TellingLemmas
 mod InRange
-mod ListedLines
+mod ToldTexts
 mod StoreListings
 mod ToldVolumes

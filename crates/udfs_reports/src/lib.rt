@@ -12,7 +12,6 @@ mod paths;
 pub mod report;
 pub mod reread;
 pub mod reread_map;
-mod stored_list;
 mod stored_reread;
 pub mod summary;
 pub mod telling;

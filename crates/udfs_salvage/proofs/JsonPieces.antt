@@ -108,6 +108,13 @@ full_node_pieces front P v n hidden k s tail same_hidden same_kind is marked =
     ∙ node_behind front v tail n s is
     ∙ ap (λ t. front ++ compact_text (node_data t (full_node v n))) marked
 
+-- the same of a node with another standing
+pub told_by_fields : (front : List ℕ) (n : NodeFields) (hidden : Bool) (k : Kind) (s : Standing) (end : List ℕ) → hidden ≡ n.hidden → k ≡ n.kind
+    → (front ++ node_front hidden) ++ (told_piece s k ++ end) ≡ (front ++ node_front n.hidden) ++ (told_piece s n.kind ++ end)
+told_by_fields front n hidden k s end same_hidden same_kind =
+    ap (λ h. (front ++ node_front h) ++ (told_piece s k ++ end)) same_hidden
+    ∙ ap (λ l. (front ++ node_front n.hidden) ++ (told_piece s l ++ end)) same_kind
+
 -- the same of an entry
 pub full_entry_pieces : (front : List ℕ) (v : View) (two : Bool) (u : Unnamed) (s : Standing) → s ≡ with_lists (lists_at v (address_of (icb_at u.reference u.block))) u.standing
     → (front ++ entry_front u.block) ++ (told_piece s u.kind ++ entry_end two u) ≡ front ++ compact_text (unnamed_data two (full_entry v u))
@@ -173,3 +180,17 @@ report_pieces P t last r =
     (codes ",\"label\":") (compact_text (label_data_of r.volume)) (codes ",\"last\":") (compact_text (count last)) (codes ",\"nodes\":")
     (nodes ++ (reread_words P ++ (rereads ++ (codes ",\"unnamed\":" ++ (unnamed ++ (codes ",\"volume\":" ++ (volume ++ codes "}")))))))
     ∙ keys_of P t last r)
+
+-- the same of a store's states, which are the table's
+pub report_pieces_by : (P : Profile) (M : Blocks) (t : Table) (last : ℕ) (r : Report) → M ≡ state_of t →
+    report_front t last r.volume ++ (compact_text (nodes_data P M r.volume r.nodes)
+    ++ (reread_words P ++ (compact_text (list_data (reread_data M) r.reread)
+    ++ (codes ",\"unnamed\":" ++ (compact_text (list_data (unnamed_data (has_two r.volume)) r.unnamed)
+    ++ (report_end r.volume ++ codes "\n"))))))
+    ≡ line (json_text_by P t last r)
+report_pieces_by P M t last r same =
+    ap (λ (blocks : Blocks). report_front t last r.volume ++ (compact_text (nodes_data P blocks r.volume r.nodes)
+    ++ (reread_words P ++ (compact_text (list_data (reread_data blocks) r.reread)
+    ++ (codes ",\"unnamed\":" ++ (compact_text (list_data (unnamed_data (has_two r.volume)) r.unnamed)
+    ++ (report_end r.volume ++ codes "\n"))))))) same
+    ∙ report_pieces P t last r

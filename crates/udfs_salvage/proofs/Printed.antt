@@ -8,6 +8,8 @@ use Rattle.std.specs.Io.KnownBytes.{Appends}
 use Rattle.std.proofs.KnownBytes.{Appends-trans}
 use Rattle.udfs_reading.specs.Writing.{Passed}
 use Rattle.udfs_salvage.specs.Printing.{CountsBy, Stopped, PassesOn, Prints}
+use Rattle.udfs_salvage.specs.StorePrinting.{PassesOnBy, leaves_as}
+use Rattle.udfs_salvage.specs.declared.errors.PrintError.{PrintError}
 use Rattle.udfs_salvage.specs.declared.errors.RunError.{RunError}
 use Rattle.udfs_salvage.proofs.Passing.{passed_then}
 use Rattle.udfs_reading.specs.Device.{Stream}
@@ -127,3 +129,32 @@ passes_three d u x y z whole r is h g f = passes_two d u x (y ++ z) whole r is h
 -- the same text in other words
 pub passes_same : {X : Type 0} (a b : Stream) (p q x y : List ℕ) (r : Result X RunError) → x ≡ y → PassesOn a b p q x r → PassesOn a b p q y r
 passes_same a b p q x y r is h = subst (λ (t : List ℕ). PassesOn a b p q t r) is h
+
+-- it stopped in the same text in other words
+pub stopped_same : {a b : Stream} {e : RunError} (p x y : List ℕ) → x ≡ y → Stopped a b (p ++ x) e → Stopped a b (p ++ y) e
+stopped_same {a = a} {b = b} {e = e} p x y is h = subst (λ (t : List ℕ). Stopped a b (p ++ t) e) is h
+
+-- it stopped in the third
+pub stopped_third_of : {a b c d : Stream} {p q s : List ℕ} {e : RunError} (x y z whole : List ℕ) → x ++ (y ++ z) ≡ whole → Passed a b p q x → Passed b c q s y → Stopped c d (s ++ z) e → Stopped a d (p ++ whole) e
+stopped_third_of {a = a} {d = d} {p = p} {e = e} x y z whole is h g f = subst (λ (t : List ℕ). Stopped a d (p ++ t) e) is (stopped_then (y ++ z) h (stopped_then z g f))
+
+-- three texts were passed on
+pub passed_three : {a b c d : Stream} {p q s u : List ℕ} (x y z whole : List ℕ) → x ++ (y ++ z) ≡ whole → Passed a b p q x → Passed b c q s y → Passed c d s u z → Passed a d p u whole
+passed_three {a = a} {d = d} {p = p} {u = u} x y z whole is h g f = subst (Passed a d p u) is (passed_then h (passed_then g f))
+
+-- ---- the same where a read may fail
+
+-- the last of two
+pub passes_two_by : {X : Type 0} {a b : Stream} {p q : List ℕ} (c : Stream) (s x y whole : List ℕ) (r : Result X PrintError) → x ++ y ≡ whole → Passed a b p q x → PassesOnBy b c q s y r → PassesOnBy a c p s whole r
+passes_two_by c s x y whole (Ok u) is h g = passes_two {X = ℕ} c s x y whole (Ok 0) is h g
+passes_two_by c s x y whole (Err e) is h g = passes_two {X = ℕ} c s x y whole (Err (leaves_as e)) is h g
+
+-- the last of three
+pub passes_three_by : {X : Type 0} {a b c : Stream} {p q s : List ℕ} (d : Stream) (u x y z whole : List ℕ) (r : Result X PrintError) → x ++ (y ++ z) ≡ whole
+    → Passed a b p q x → Passed b c q s y → PassesOnBy c d s u z r → PassesOnBy a d p u whole r
+passes_three_by d u x y z whole (Ok v) is h g f = passes_three {X = ℕ} d u x y z whole (Ok 0) is h g f
+passes_three_by d u x y z whole (Err e) is h g f = passes_three {X = ℕ} d u x y z whole (Err (leaves_as e)) is h g f
+
+-- the same text in other words
+pub passes_same_by : {X : Type 0} (a b : Stream) (p q x y : List ℕ) (r : Result X PrintError) → x ≡ y → PassesOnBy a b p q x r → PassesOnBy a b p q y r
+passes_same_by a b p q x y r is h = subst (λ (t : List ℕ). PassesOnBy a b p q t r) is h

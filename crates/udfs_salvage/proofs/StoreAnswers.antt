@@ -1,8 +1,9 @@
 -- Why a store of blocks has no report, and what that says of a table.
 --     AnswersBy P M N r      the errors of a result are those of what is known
-use Rattle.std.proofs.Common.{◌≡◌, refl, ap, subst, arith, ℕ, Result, Ok, Err}
+use Rattle.std.proofs.Common.{◌≡◌, refl, ap, subst, sym, arith, ℕ, Result, Ok, Err}
 use Rattle.std.specs.Prelude.{◌↔◌, IfErr, IsErrOf}
 use Rattle.udfs_volume.specs.declared.profiles.Profile.{Profile}
+use Rattle.udfs_lattice.specs.Tables.{Table, state_of}
 use Rattle.udfs_lattice.specs.Volumes.{Blocks}
 use Rattle.udfs_salvage.specs.Reports.{Report, HasTooManyPathsBy, IsLookRefused, IsNothingPast, IsOutOfRange, IsPastEnd, IsReportBy, IsUnfit, MayWantMemoryBy}
 use Rattle.udfs_salvage.specs.Stores.{IfTold, IsRefused, IsStoreRefused}
@@ -84,3 +85,7 @@ look_store P M N fits none Unread h = (fits, none)
 -- the same error of another result
 pub err_same : {X Y E : Type 0} (e x : E) → IsErrOf {T = X} {E = E} (Err e) x → IsErrOf {T = Y} {E = E} (Err e) x
 err_same e x h = ap Err (let z : e ≡ x = cc in z)
+
+-- where a store says of each block what a table does, its states are the table's
+pub states_same : (M : Blocks) (t : Table) → ((n : ℕ) → state_of t n ≡ M n) → M ≡ state_of t
+states_same M t held = λ i n. sym (held n) i

@@ -8,6 +8,7 @@ pub mod TreeReports
 pub mod Texts
 pub mod NodeTexts
 pub mod Printing
+pub mod StorePrinting
 pub mod KnownEnough
 pub mod Headline
 pub mod Running

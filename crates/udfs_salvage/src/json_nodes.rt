@@ -1,9 +1,9 @@
 //! The JSON of nodes, and of entries that no name leads to.
 
-ghost use Rattle.std.specs.Prelude.{◌≡◌, false, IfOk};
+ghost use Rattle.std.specs.Prelude.{◌≡◌, false, IfOk, IsErrOf};
 ghost use Rattle.serde_json.specs.Data.{string};
 ghost use Rattle.serde_json.specs.View.{members_view, view};
-ghost use Rattle.udfs_space.specs.Views.{view_now};
+ghost use Rattle.udfs_space.specs.Views.{view_by, view_now};
 ghost use Rattle.udfs_salvage.specs.NodeTexts.{kind_name, path_name, standing_name};
 ghost use Rattle.udfs_walk.specs.Rereads.{holes_of, missing_of};
 ghost use Rattle.udfs_salvage.specs.JsonNodes.{count, hole_data, list_data, node_data, node_in, size_data, tail_in, time_data, told_members, unnamed_data};
@@ -14,10 +14,11 @@ use serde_json::{Map, Value, json, put};
 use std::alloc::{AllocError, Global};
 use udfs_file::Kind;
 use udfs_osta::Stamp;
-use udfs_space::View;
+use udfs_lattice::{BlockStore, GaveUp};
+use udfs_space::{StoreView, View};
 use udfs_tag::LongAd;
 use udfs_volume::Profile;
-use udfs_walk::{Node, Path, Standing, Unnamed, tail_at};
+use udfs_walk::{Node, Path, Standing, Unnamed, tail_by};
 
 /// A standing.
 pub(crate) fn standing_value(alloc: Global, standing: &Standing) -> Result<Value, AllocError>
@@ -145,17 +146,38 @@ fn told_members(
 }
 
 /// Whether the body at an address is marked as read by the tail of its last extent: by the strict rules none is.
-pub(crate) fn tail_in(
+pub(crate) fn tail_in<B: BlockStore>(
     alloc: Global,
     profile: Profile,
-    view: View<'_>,
+    view: StoreView<'_, B>,
     address: LongAd,
-) -> Result<bool, AllocError>
-    ensures { IfOk result (λ tail. tail ≡ tail_in profile (view_now view.entry) address) }
+) -> Result<bool, GaveUp>
+    ensures value { IfOk result (λ tail. B.tells → tail ≡ tail_in profile (view_by B.states view.entry) address) }
+    ensures fails { IsErrOf result GaveUp.Unread → B.fails }
 {
     match profile {
         Profile::Strict => Ok(false),
-        Profile::Wide => tail_at(alloc, view, address),
+        Profile::Wide => tail_by(alloc, view, address),
+    }
+}
+
+/// The same in a view of a table.
+fn tail_at(
+    alloc: Global,
+    profile: Profile,
+    volume: View<'_>,
+    address: LongAd,
+) -> Result<bool, AllocError>
+    ensures { IfOk result (λ tail. tail ≡ tail_in profile (view_now volume.entry) address) }
+{
+    let stored = StoreView {
+        blocks: volume.table,
+        space: volume.space,
+    };
+    match tail_in(alloc, profile, stored, address) {
+        Ok(tail) => Ok(tail),
+        Err(GaveUp::OutOfMemory) => Err(AllocError),
+        Err(GaveUp::Unread) => unreachable!(),
     }
 }
 
@@ -194,7 +216,7 @@ fn node_value_in(
 ) -> Result<Value, AllocError>
     ensures { IfOk result (λ v. view v ≡ node_in profile (view_now volume.entry) node.now) }
 {
-    let tail = tail_in(alloc, profile, volume, node.icb)?;
+    let tail = tail_at(alloc, profile, volume, node.icb)?;
     node_value(alloc, tail, node)
 }
 

@@ -4,17 +4,18 @@ ghost use Rattle.std.specs.Prelude.{◌≡◌, ◌++◌, ℕ, Some, false, OnOk}
 ghost use Rattle.std.specs.String.{string_bytes};
 ghost use Rattle.serde_json.specs.View.{view};
 ghost use Rattle.serde_json.specs.Written.{compact_text, has_float};
+ghost use Rattle.udfs_lattice.specs.Tables.{Table};
 ghost use Rattle.udfs_salvage.specs.Found.{volume_now};
 ghost use Rattle.udfs_salvage.specs.JsonNodes.{count};
 ghost use Rattle.udfs_salvage.specs.JsonPieces.{counts_piece, end_piece, entry_end, entry_front, kind_piece, node_end, node_front, object_end, reference_piece, report_end, report_front, reread_words, standing_piece};
 
 use crate::json_nodes::{kind_value, path_value, size_value, standing_value, time_value};
 use crate::json_reports::{label_in, volume_value};
+use crate::stores::ReportStore;
 use crate::volumes::Volume;
 use serde_json::Value;
 use std::alloc::Global;
 use udfs_file::Kind;
-use udfs_lattice::BlockTable;
 use udfs_osta::OutOfMemory;
 use udfs_volume::Profile;
 use udfs_walk::{Node, Standing, Unnamed};
@@ -169,27 +170,31 @@ pub(crate) fn push_entry_end(
 }
 
 /// Appends how many blocks are in conflict and how many are known, with which an object begins.
-#[tactic(auto, unfolding(crate::specs::JsonPieces::counts_piece))]
-fn push_counts(alloc: Global, text: &mut String, table: &BlockTable) -> Result<(), OutOfMemory>
-    ensures { OnOk result (string_bytes text.new ≡ string_bytes text.old ++ counts_piece table.now) }
+fn push_counts<B: ReportStore>(
+    alloc: Global,
+    text: &mut String,
+    blocks: &B,
+) -> Result<(), OutOfMemory>
+    ensures { OnOk result (B.tells → (t : Table) → B.holds blocks.now t → string_bytes text.new ≡ string_bytes text.old ++ counts_piece t) }
 {
-    push_count(alloc, text, "{\"conflict\":", u64::from(table.conflicts()))?;
-    push_count(alloc, text, ",\"known\":", u64::from(table.known()))
+    push_count(alloc, text, "{\"conflict\":", u64::from(blocks.conflicts()))?;
+    push_count(alloc, text, ",\"known\":", u64::from(blocks.known()))?;
+    Ok(())
 }
 
 /// Appends the object of a report up to its nodes.
 #[tactic(auto, using(crate::proofs::JsonFloats::label_of_none), unfolding(crate::specs::JsonPieces::report_front))]
-pub(crate) fn push_report_front(
+pub(crate) fn push_report_front<B: ReportStore>(
     alloc: Global,
     text: &mut String,
-    table: &BlockTable,
+    blocks: &B,
     last: u32,
     volume: &Volume,
 ) -> Result<(), OutOfMemory>
-    ensures { OnOk result (string_bytes text.new ≡ string_bytes text.old ++ report_front table.now last (volume_now volume.now)) }
+    ensures { OnOk result (B.tells → (t : Table) → B.holds blocks.now t → string_bytes text.new ≡ string_bytes text.old ++ report_front t last (volume_now volume.now)) }
 {
     let label = label_in(alloc, volume)?;
-    push_counts(alloc, text, table)?;
+    push_counts(alloc, text, blocks)?;
     push_value(alloc, text, ",\"label\":", &label)?;
     push_count(alloc, text, ",\"last\":", u64::from(last))?;
     text.push_str(",\"nodes\":")

@@ -4,7 +4,6 @@ ghost use Rattle.std.specs.Prelude.{◌++◌, ◌≡◌, false};
 ghost use Rattle.std.specs.String.{string_bytes};
 ghost use Rattle.serde_json.specs.View.{view};
 ghost use Rattle.serde_json.specs.Written.{compact_text, has_float};
-ghost use Rattle.udfs_lattice.specs.Tables.{state_of};
 ghost use Rattle.udfs_salvage.specs.Printing.{PassesOn};
 ghost use Rattle.udfs_salvage.specs.JsonNodes.{count, hole_data, list_data};
 ghost use Rattle.udfs_salvage.specs.JsonPieces.{kind_piece, more_values, told_piece};
@@ -18,7 +17,7 @@ use crate::printing::pass_on;
 use serde_json::Value;
 use std::alloc::Global;
 use udfs_file::Kind;
-use udfs_lattice::BlockTable;
+use udfs_lattice::BlockStore;
 use udfs_reading::Sink;
 use udfs_walk::Standing;
 
@@ -142,51 +141,51 @@ fn put_holes<W: Sink>(
 }
 
 /// `front`, and then a block to read again.
-fn put_reread<W: Sink>(
+fn put_reread<B: BlockStore, W: Sink>(
     alloc: Global,
     text: &mut String,
     sink: &mut W,
-    table: &BlockTable,
+    blocks: &B,
     front: &str,
     block: u32,
 ) -> Result<(), RunError>
-    ensures { PassesOn (W.stream sink.old) (W.stream sink.new) (string_bytes text.old) (string_bytes text.new) (front.now ++ compact_text (reread_data (state_of table.now) block)) result }
+    ensures { B.tells → PassesOn (W.stream sink.old) (W.stream sink.new) (string_bytes text.old) (string_bytes text.new) (front.now ++ compact_text (reread_data (B.states blocks.now) block)) result }
 {
-    let value = reread_value(alloc, table, block)?;
+    let value = reread_value(alloc, blocks, block)?;
     put_value(alloc, text, sink, front, &value)
 }
 
 /// Further blocks to read again, each after a comma.
-fn put_more_rereads<W: Sink>(
+fn put_more_rereads<B: BlockStore, W: Sink>(
     alloc: Global,
     text: &mut String,
     sink: &mut W,
-    table: &BlockTable,
-    blocks: &[u32],
+    blocks: &B,
+    numbers: &[u32],
 ) -> Result<(), RunError>
-    ensures { PassesOn (W.stream sink.old) (W.stream sink.new) (string_bytes text.old) (string_bytes text.new) (more_values (reread_data (state_of table.now)) blocks.now) result }
+    ensures { B.tells → PassesOn (W.stream sink.old) (W.stream sink.new) (string_bytes text.old) (string_bytes text.new) (more_values (reread_data (B.states blocks.now)) numbers.now) result }
 {
-    for block in blocks {
-        put_reread(alloc, text, sink, table, ",", *block)?;
+    for block in numbers {
+        put_reread(alloc, text, sink, blocks, ",", *block)?;
     }
     Ok(())
 }
 
 /// Blocks to read again as a list.
-pub(crate) fn put_rereads<W: Sink>(
+pub(crate) fn put_rereads<B: BlockStore, W: Sink>(
     alloc: Global,
     text: &mut String,
     sink: &mut W,
-    table: &BlockTable,
-    blocks: &[u32],
+    blocks: &B,
+    numbers: &[u32],
 ) -> Result<(), RunError>
-    ensures { PassesOn (W.stream sink.old) (W.stream sink.new) (string_bytes text.old) (string_bytes text.new) (compact_text (list_data (reread_data (state_of table.now)) blocks.now)) result }
+    ensures { B.tells → PassesOn (W.stream sink.old) (W.stream sink.new) (string_bytes text.old) (string_bytes text.new) (compact_text (list_data (reread_data (B.states blocks.now)) numbers.now)) result }
 {
-    let Some((first, rest)) = blocks.split_first() else {
+    let Some((first, rest)) = numbers.split_first() else {
         return put_words(text, sink, "[]");
     };
-    put_reread(alloc, text, sink, table, "[", *first)?;
-    put_more_rereads(alloc, text, sink, table, rest)?;
+    put_reread(alloc, text, sink, blocks, "[", *first)?;
+    put_more_rereads(alloc, text, sink, blocks, rest)?;
     put_words(text, sink, "]")
 }
 

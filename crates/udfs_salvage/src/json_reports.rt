@@ -1,8 +1,9 @@
 //! Reports as JSON.
 
-ghost use Rattle.std.specs.Prelude.{◌≡◌, ◌≤◌, IfOk, length, map, string_bytes};
+ghost use Rattle.std.specs.Prelude.{◌≡◌, ◌≤◌, IfOk, false, length, map, string_bytes};
 ghost use Rattle.serde_json.specs.Data.{string};
 ghost use Rattle.serde_json.specs.View.{members_view, view};
+ghost use Rattle.serde_json.specs.Written.{has_float};
 ghost use Rattle.udfs_lattice.specs.Tables.{state_of};
 ghost use Rattle.udfs_volume.specs.Answers.{faulty, found, holes};
 ghost use Rattle.udfs_volume.specs.LayoutParts.{partition_now};
@@ -19,7 +20,7 @@ use crate::volumes::{OpenVolume, Volume};
 use crate::words::{fault_number, revision_name};
 use serde_json::{Map, Value, put};
 use std::alloc::{AllocError, Global};
-use udfs_lattice::{BlockTable, Fact};
+use udfs_lattice::{BlockStore, BlockTable, Fact};
 use udfs_osta::{Label, Name, OutOfMemory};
 use udfs_volume::{Partition, PartitionMap, Profile, VolumeFault};
 
@@ -200,24 +201,25 @@ pub(crate) fn label_in(alloc: Global, volume: &Volume) -> Result<Value, AllocErr
 }
 
 /// The name of the state of a block that is not known.
-fn state_name(table: &BlockTable, block: u32) -> &'static str
-    ensures { result.now ≡ state_name (state_of table.now block) }
+fn state_name<B: BlockStore>(blocks: &B, block: u32) -> &'static str
+    ensures { B.tells → result.now ≡ state_name (B.states blocks.now block) }
 {
-    match table.state(block) {
+    match blocks.knowledge(block) {
         Fact::Conflict => "conflict",
         _ => "unknown",
     }
 }
 
 /// A block to read again.
-pub(crate) fn reread_value(
+pub(crate) fn reread_value<B: BlockStore>(
     alloc: Global,
-    table: &BlockTable,
+    blocks: &B,
     block: u32,
 ) -> Result<Value, AllocError>
-    ensures { IfOk result (λ v. view v ≡ reread_data (state_of table.now) block) }
+    ensures value { IfOk result (λ v. B.tells → view v ≡ reread_data (B.states blocks.now) block) }
+    ensures plain { IfOk result (λ v. has_float (view v) ≡ false) }
 {
-    let state = Value::try_from_str(alloc, state_name(table, block))?;
+    let state = Value::try_from_str(alloc, state_name(blocks, block))?;
     let mut members = Map::new(alloc);
     put(&mut members, alloc, "block", Value::from(block))?;
     put(&mut members, alloc, "state", state)?;

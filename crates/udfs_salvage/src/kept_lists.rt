@@ -1,8 +1,8 @@
 //! What is missing of torn bodies, kept while there is room, so that it is found once for many names of one body.
 
-ghost use Rattle.std.specs.Prelude.{◌≡◌, IfOk, IfSome};
+ghost use Rattle.std.specs.Prelude.{◌≡◌, IfOk, IfSome, IsErrOf};
 ghost use Rattle.std.specs.BTreeMap.{IsEmpty};
-ghost use Rattle.udfs_space.specs.Views.{view_now};
+ghost use Rattle.udfs_space.specs.Views.{view_by};
 ghost use Rattle.udfs_walk.specs.Bare.{lists_at, with_lists};
 ghost use Rattle.udfs_walk.specs.TornFields.{TornFields};
 ghost use Rattle.udfs_walk.specs.declared.standings.Standing.TheVariants as walk_standing;
@@ -11,9 +11,10 @@ ghost use Rattle.udfs_salvage.specs.KeptLists.{AreKeptLists};
 use std::alloc::{AllocError, Global};
 use std::collections::BTreeMap;
 use udfs_file::file_sets::address_fault;
-use udfs_space::View;
+use udfs_lattice::{BlockStore, GaveUp};
+use udfs_space::StoreView;
 use udfs_tag::LongAd;
-use udfs_walk::{Standing, Torn, full_standing};
+use udfs_walk::{Standing, Torn, full_standing_by};
 
 /// How many bytes all kept lists together may take.
 const MOST_KEPT: usize = 16_000_000;
@@ -58,14 +59,14 @@ impl KeptLists {
     }
 
     /// A standing with the kept missing blocks and holes of the body at an address; `None` where it is not torn or they are not kept.
-    fn again(
+    fn again<B: BlockStore>(
         &self,
-        view: View<'_>,
+        view: StoreView<'_, B>,
         address: LongAd,
         standing: &Standing,
     ) -> Result<Option<Standing>, AllocError>
-        requires { AreKeptLists (view_now view) self.now.lists }
-        ensures { IfOk result (λ again. IfSome again (λ full. full ≡ with_lists (lists_at (view_now view.entry) address) standing.now)) }
+        requires { B.tells → AreKeptLists (view_by B.states view) self.now.lists }
+        ensures { IfOk result (λ again. IfSome again (λ full. B.tells → full ≡ with_lists (lists_at (view_by B.states view.entry) address) standing.now)) }
     {
         let Standing::Torn(_) = standing else {
             return Ok(None);
@@ -84,10 +85,15 @@ impl KeptLists {
     }
 
     /// Keeps the missing blocks and the holes of the body at an address, if it is torn and there is room.
-    fn keep(&mut self, view: View<'_>, address: LongAd, full: &Standing) -> Result<(), AllocError>
-        requires lists { AreKeptLists (view_now view) self.old.lists }
-        requires full { (torn : TornFields) → full.now ≡ walk_standing.Torn torn → torn ≡ lists_at (view_now view) address }
-        ensures { IfOk result (λ done. AreKeptLists (view_now view.entry) self.new.lists) }
+    fn keep<B: BlockStore>(
+        &mut self,
+        view: StoreView<'_, B>,
+        address: LongAd,
+        full: &Standing,
+    ) -> Result<(), AllocError>
+        requires lists { B.tells → AreKeptLists (view_by B.states view) self.old.lists }
+        requires full { B.tells → (torn : TornFields) → full.now ≡ walk_standing.Torn torn → torn ≡ lists_at (view_by B.states view) address }
+        ensures { IfOk result (λ done. B.tells → AreKeptLists (view_by B.states view.entry) self.new.lists) }
     {
         let Standing::Torn(torn) = full else {
             return Ok(());
@@ -104,21 +110,22 @@ impl KeptLists {
 
     /// A standing with the missing blocks and the holes of the body at an address, where it is torn. They are found
     /// anew only where they are not kept.
-    pub(crate) fn full_standing(
+    pub(crate) fn full_standing<B: BlockStore>(
         &mut self,
         alloc: Global,
-        view: View<'_>,
+        view: StoreView<'_, B>,
         address: LongAd,
         standing: &Standing,
-    ) -> Result<Standing, AllocError>
-        requires { AreKeptLists (view_now view) self.old.lists }
-        ensures full { IfOk result (λ full. full ≡ with_lists (lists_at (view_now view.entry) address) standing.now) }
-        ensures lists { IfOk result (λ full. AreKeptLists (view_now view.entry) self.new.lists) }
+    ) -> Result<Standing, GaveUp>
+        requires { B.tells → AreKeptLists (view_by B.states view) self.old.lists }
+        ensures full { IfOk result (λ full. B.tells → full ≡ with_lists (lists_at (view_by B.states view.entry) address) standing.now) }
+        ensures lists { IfOk result (λ full. B.tells → AreKeptLists (view_by B.states view.entry) self.new.lists) }
+        ensures fails { IsErrOf result GaveUp.Unread → B.fails }
     {
         if let Some(again) = self.again(view, address, standing)? {
             return Ok(again);
         }
-        let full = full_standing(alloc, view, address, standing)?;
+        let full = full_standing_by(alloc, view, address, standing)?;
         self.keep(view, address, &full)?;
         Ok(full)
     }

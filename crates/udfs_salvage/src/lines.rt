@@ -1,7 +1,7 @@
 //! The lines of a report before and after those of its nodes.
 
 ghost use Rattle.std.specs.Prelude.{◌≡◌, ◌≤◌, length, map};
-ghost use Rattle.udfs_lattice.specs.Tables.{state_of};
+ghost use Rattle.udfs_lattice.specs.Tables.{Table};
 ghost use Rattle.udfs_volume.specs.Answers.{found, holes, faulty};
 ghost use Rattle.udfs_volume.specs.LayoutParts.{partition_now};
 ghost use Rattle.udfs_volume.specs.Parts.{map_now};
@@ -9,10 +9,11 @@ ghost use Rattle.udfs_printing.specs.Puts.{Puts};
 ghost use Rattle.udfs_salvage.specs.Found.{found_now, volume_now};
 ghost use Rattle.udfs_salvage.specs.Texts.{block_text, block_texts, count_line, end_line, first_line, form_text, has_two, head_text_by, label_line, label_lines, map_texts, open_text, partition_map_text, profile_lines, reread_line, reread_lines, state_text, volume_line};
 
+use crate::stores::ReportStore;
 use crate::volumes::{OpenVolume, Volume};
 use crate::word_printing::{put_count, put_escaped};
 use crate::words::{fault_number, revision_name};
-use udfs_lattice::{BlockTable, Fact};
+use udfs_lattice::{BlockStore, Fact};
 use udfs_osta::{Label, Name};
 use udfs_printing::Printer;
 use udfs_reading::Sink;
@@ -60,13 +61,13 @@ fn put_profile<W: Sink>(out: &mut Printer, sink: &mut W, profile: Profile)
     }
 }
 
-/// The line of the table's counts.
-fn put_counts<W: Sink>(out: &mut Printer, sink: &mut W, table: &BlockTable)
-    ensures { Puts (W.stream sink.old) (W.stream sink.new) out.old out.new (count_line table.now) }
+/// The line of the counts of a store.
+fn put_counts<B: ReportStore, W: Sink>(out: &mut Printer, sink: &mut W, blocks: &B)
+    ensures { B.tells → (t : Table) → B.holds blocks.now t → Puts (W.stream sink.old) (W.stream sink.new) out.old out.new (count_line t) }
 {
-    put_count(out, sink, "known ", u64::from(table.known()));
+    put_count(out, sink, "known ", u64::from(blocks.known()));
     out.put(sink, " conflict ");
-    out.put_number(sink, u64::from(table.conflicts()));
+    out.put_number(sink, u64::from(blocks.conflicts()));
     out.put(sink, "\n");
 }
 
@@ -186,54 +187,54 @@ fn put_label_of<W: Sink>(out: &mut Printer, sink: &mut W, volume: &Volume)
 }
 
 /// The lines before those of the files.
-pub(crate) fn put_head<W: Sink>(
+pub(crate) fn put_head<B: ReportStore, W: Sink>(
     out: &mut Printer,
     sink: &mut W,
-    table: &BlockTable,
+    blocks: &B,
     last: u32,
     profile: Profile,
     volume: &Volume,
 )
-    ensures { Puts (W.stream sink.old) (W.stream sink.new) out.old out.new (head_text_by profile table.now last (volume_now volume.now)) }
+    ensures { B.tells → (t : Table) → B.holds blocks.now t → Puts (W.stream sink.old) (W.stream sink.new) out.old out.new (head_text_by profile t last (volume_now volume.now)) }
 {
     put_first(out, sink, volume, last);
     put_profile(out, sink, profile);
-    put_counts(out, sink, table);
+    put_counts(out, sink, blocks);
     put_volume(out, sink, volume);
     put_label_of(out, sink, volume);
 }
 
 /// What is known of a block to read again.
-fn state_name(table: &BlockTable, block: u32) -> &'static str
-    ensures state { result.now ≡ state_text (state_of table.now block) }
+fn state_name<B: BlockStore>(blocks: &B, block: u32) -> &'static str
+    ensures state { B.tells → result.now ≡ state_text (B.states blocks.now block) }
     ensures short { length result.now ≤ 2048 }
 {
-    match table.state(block) {
+    match blocks.knowledge(block) {
         Fact::Conflict => " conflict",
         _ => " unknown",
     }
 }
 
 /// The line of a block to read again.
-fn put_reread<W: Sink>(out: &mut Printer, sink: &mut W, table: &BlockTable, block: u32)
-    ensures { Puts (W.stream sink.old) (W.stream sink.new) out.old out.new (reread_line (state_of table.now) block) }
+fn put_reread<B: BlockStore, W: Sink>(out: &mut Printer, sink: &mut W, blocks: &B, block: u32)
+    ensures { B.tells → Puts (W.stream sink.old) (W.stream sink.new) out.old out.new (reread_line (B.states blocks.now) block) }
 {
     put_count(out, sink, "reread ", u64::from(block));
-    out.put(sink, state_name(table, block));
+    out.put(sink, state_name(blocks, block));
     out.put(sink, "\n");
 }
 
 /// The lines of the blocks to read again.
-pub(crate) fn put_rereads<W: Sink>(
+pub(crate) fn put_rereads<B: BlockStore, W: Sink>(
     out: &mut Printer,
     sink: &mut W,
-    table: &BlockTable,
-    blocks: &[u32],
+    blocks: &B,
+    numbers: &[u32],
 )
-    ensures { Puts (W.stream sink.old) (W.stream sink.new) out.old out.new (reread_lines (state_of table.now) blocks.now) }
+    ensures { B.tells → Puts (W.stream sink.old) (W.stream sink.new) out.old out.new (reread_lines (B.states blocks.now) numbers.now) }
 {
-    for block in blocks {
-        put_reread(out, sink, table, *block);
+    for block in numbers {
+        put_reread(out, sink, blocks, *block);
     }
 }
 

@@ -1,7 +1,7 @@
 //! Nodes are printed, and entries that no name leads to.
 
-ghost use Rattle.std.specs.Prelude.{◌++◌, IfOk, map};
-ghost use Rattle.udfs_space.specs.Views.{view_now};
+ghost use Rattle.std.specs.Prelude.{◌++◌, IfOk, IsErrOf, map};
+ghost use Rattle.udfs_space.specs.Views.{view_by};
 ghost use Rattle.udfs_walk.specs.Bare.{full_entry, full_node, lists_at, with_lists};
 ghost use Rattle.udfs_printing.specs.Puts.{Puts};
 ghost use Rattle.udfs_salvage.specs.KeptLists.{AreKeptLists};
@@ -10,12 +10,13 @@ ghost use Rattle.udfs_salvage.specs.NodeTexts.{gap_lines, hole_lines, missing_li
 
 use crate::kept_lists::KeptLists;
 use crate::node_lines::{put_hole, put_missing, put_node_line, put_unnamed_line};
-use std::alloc::{AllocError, Global};
+use std::alloc::Global;
+use udfs_lattice::{BlockStore, GaveUp};
 use udfs_printing::Printer;
 use udfs_reading::Sink;
-use udfs_space::View;
+use udfs_space::StoreView;
 use udfs_tag::LongAd;
-use udfs_walk::{Node, Standing, Unnamed, full_standing};
+use udfs_walk::{Node, Standing, Unnamed, full_standing_by};
 
 /// The lines of missing blocks.
 fn put_missings<W: Sink>(out: &mut Printer, sink: &mut W, blocks: &[u32])
@@ -94,38 +95,40 @@ pub(crate) fn put_all_unnamed<W: Sink>(
 }
 
 /// The lines of what is missing of the body at an address, if anything is. Where the sink has failed, it is not looked for.
-fn put_full_gaps<W: Sink>(
+fn put_full_gaps<B: BlockStore, W: Sink>(
     alloc: Global,
     out: &mut Printer,
     sink: &mut W,
-    view: View<'_>,
+    view: StoreView<'_, B>,
     address: LongAd,
     standing: &Standing,
-) -> Result<(), AllocError>
-    ensures { PutsMost (W.stream sink.old) (W.stream sink.new) out.old out.new (gap_lines (with_lists (lists_at (view_now view.entry) address) standing.now)) result }
+) -> Result<(), GaveUp>
+    ensures text { B.tells → PutsMost (W.stream sink.old) (W.stream sink.new) out.old out.new (gap_lines (with_lists (lists_at (view_by B.states view.entry) address) standing.now)) result }
+    ensures fails { IsErrOf result GaveUp.Unread → B.fails }
 {
     if out.has_failed() {
         return Ok(());
     }
-    let full = full_standing(alloc, view, address, standing)?;
+    let full = full_standing_by(alloc, view, address, standing)?;
     put_gaps(out, sink, &full);
     Ok(())
 }
 
 /// The lines of what is missing of the body at an address, if anything is. It is found once for all names of the body if there is room
 /// to keep it. Where the sink has failed, it is not looked for.
-fn put_kept_gaps<W: Sink>(
+fn put_kept_gaps<B: BlockStore, W: Sink>(
     alloc: Global,
     out: &mut Printer,
     sink: &mut W,
-    view: View<'_>,
+    view: StoreView<'_, B>,
     kept: &mut KeptLists,
     address: LongAd,
     standing: &Standing,
-) -> Result<(), AllocError>
-    requires { AreKeptLists (view_now view) kept.old.lists }
-    ensures text { PutsMost (W.stream sink.old) (W.stream sink.new) out.old out.new (gap_lines (with_lists (lists_at (view_now view.entry) address) standing.now)) result }
-    ensures lists { IfOk result (λ done. AreKeptLists (view_now view.entry) kept.new.lists) }
+) -> Result<(), GaveUp>
+    requires { B.tells → AreKeptLists (view_by B.states view) kept.old.lists }
+    ensures text { B.tells → PutsMost (W.stream sink.old) (W.stream sink.new) out.old out.new (gap_lines (with_lists (lists_at (view_by B.states view.entry) address) standing.now)) result }
+    ensures lists { IfOk result (λ done. B.tells → AreKeptLists (view_by B.states view.entry) kept.new.lists) }
+    ensures fails { IsErrOf result GaveUp.Unread → B.fails }
 {
     if out.has_failed() {
         return Ok(());
@@ -136,32 +139,34 @@ fn put_kept_gaps<W: Sink>(
 }
 
 /// The lines of a node without its blocks and holes, with those.
-fn put_full_node<W: Sink>(
+fn put_full_node<B: BlockStore, W: Sink>(
     alloc: Global,
     out: &mut Printer,
     sink: &mut W,
-    view: View<'_>,
+    view: StoreView<'_, B>,
     kept: &mut KeptLists,
     number: usize,
     node: &Node,
-) -> Result<(), AllocError>
-    requires { AreKeptLists (view_now view) kept.old.lists }
-    ensures text { PutsMost (W.stream sink.old) (W.stream sink.new) out.old out.new (node_text number (full_node (view_now view.entry) node.now)) result }
-    ensures lists { IfOk result (λ done. AreKeptLists (view_now view.entry) kept.new.lists) }
+) -> Result<(), GaveUp>
+    requires { B.tells → AreKeptLists (view_by B.states view) kept.old.lists }
+    ensures text { B.tells → PutsMost (W.stream sink.old) (W.stream sink.new) out.old out.new (node_text number (full_node (view_by B.states view.entry) node.now)) result }
+    ensures lists { IfOk result (λ done. B.tells → AreKeptLists (view_by B.states view.entry) kept.new.lists) }
+    ensures fails { IsErrOf result GaveUp.Unread → B.fails }
 {
     put_node_line(out, sink, number, node);
     put_kept_gaps(alloc, out, sink, view, kept, node.icb, &node.standing)
 }
 
 /// The lines of all nodes, which are without their blocks and holes, with those.
-pub(crate) fn put_full_nodes<W: Sink>(
+pub(crate) fn put_full_nodes<B: BlockStore, W: Sink>(
     alloc: Global,
     out: &mut Printer,
     sink: &mut W,
-    view: View<'_>,
+    view: StoreView<'_, B>,
     nodes: &[Node],
-) -> Result<(), AllocError>
-    ensures { PutsMost (W.stream sink.old) (W.stream sink.new) out.old out.new (nodes_text 0 (map (full_node (view_now view.entry)) nodes.now)) result }
+) -> Result<(), GaveUp>
+    ensures text { B.tells → PutsMost (W.stream sink.old) (W.stream sink.new) out.old out.new (nodes_text 0 (map (full_node (view_by B.states view.entry)) nodes.now)) result }
+    ensures fails { IsErrOf result GaveUp.Unread → B.fails }
 {
     let mut kept = KeptLists::new(alloc);
     for (index, node) in nodes.iter().enumerate() {
@@ -171,15 +176,16 @@ pub(crate) fn put_full_nodes<W: Sink>(
 }
 
 /// The lines of an entry that no name leads to and that is without its blocks and holes, with those.
-fn put_full_unnamed<W: Sink>(
+fn put_full_unnamed<B: BlockStore, W: Sink>(
     alloc: Global,
     out: &mut Printer,
     sink: &mut W,
-    view: View<'_>,
+    view: StoreView<'_, B>,
     two: bool,
     entry: &Unnamed,
-) -> Result<(), AllocError>
-    ensures { PutsMost (W.stream sink.old) (W.stream sink.new) out.old out.new (unnamed_text two (full_entry (view_now view.entry) entry.now)) result }
+) -> Result<(), GaveUp>
+    ensures text { B.tells → PutsMost (W.stream sink.old) (W.stream sink.new) out.old out.new (unnamed_text two (full_entry (view_by B.states view.entry) entry.now)) result }
+    ensures fails { IsErrOf result GaveUp.Unread → B.fails }
 {
     put_unnamed_line(out, sink, two, entry);
     let address = entry.icb();
@@ -187,15 +193,16 @@ fn put_full_unnamed<W: Sink>(
 }
 
 /// The lines of all entries that no name leads to, which are without their blocks and holes, with those.
-pub(crate) fn put_full_entries<W: Sink>(
+pub(crate) fn put_full_entries<B: BlockStore, W: Sink>(
     alloc: Global,
     out: &mut Printer,
     sink: &mut W,
-    view: View<'_>,
+    view: StoreView<'_, B>,
     two: bool,
     entries: &[Unnamed],
-) -> Result<(), AllocError>
-    ensures { PutsMost (W.stream sink.old) (W.stream sink.new) out.old out.new (unnamed_texts two (map (full_entry (view_now view.entry)) entries.now)) result }
+) -> Result<(), GaveUp>
+    ensures text { B.tells → PutsMost (W.stream sink.old) (W.stream sink.new) out.old out.new (unnamed_texts two (map (full_entry (view_by B.states view.entry)) entries.now)) result }
+    ensures fails { IsErrOf result GaveUp.Unread → B.fails }
 {
     for entry in entries {
         put_full_unnamed(alloc, out, sink, view, two, entry)?;

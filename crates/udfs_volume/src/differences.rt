@@ -1,6 +1,6 @@
 //! Known copies that do not say the same, as on a disc of several sessions, or one that was formatted twice.
 
-ghost use Rattle.std.specs.Prelude.{◌≡◌, ◌≢◌, ◌≤◌, ◌+◌, ◌/◌, IsTrue, None, find, option_map};
+ghost use Rattle.std.specs.Prelude.{◌≡◌, ◌≢◌, ◌≤◌, ◌+◌, ◌/◌, IfOk, IsTrue, None, OnErr, find, option_map};
 ghost use Rattle.std.specs.Borrow.{Bor};
 ghost use Rattle.udfs_lattice.specs.States.{fact_now};
 ghost use Rattle.udfs_lattice.specs.Tables.{state_of};
@@ -11,85 +11,123 @@ ghost use Rattle.udfs_volume.specs.Sequence.{anchor, goes_on, position};
 ghost use Rattle.udfs_volume.specs.Sequences.{descriptor_of};
 ghost use Rattle.udfs_volume.specs.Differences.{AgreesWithNoLayoutBy, AnchorsAgreeBy, CopiesAgreeBy, anchors_apart, anchors_differ, apart_from, contents_differ, copies_differ, differ_in, differs_known, has_anchor, known_differ, named_at, say_the_same};
 
-use crate::anchors::{AnchorExtents, anchor, places};
+use crate::anchors::{AnchorExtents, anchor_by, places};
 use crate::descriptors::behind;
 use crate::profiles::Profile;
 use crate::seen::Seen;
 use crate::sequences::{are_extents_by, shared};
 use std::alloc::Global;
-use udfs_lattice::{BlockTable, Fact};
+use udfs_lattice::{BlockStore, BlockTable, Fact, ReadFault};
 use udfs_tag::{Tag, identifiers};
 
 /// The bytes 16 to 31 of the anchor at a place, if it is known and valid there.
-fn named_at(table: &BlockTable, place: u32) -> Option<&[u8]>
-    ensures { option_map (λ bytes. bytes.now) result ≡ named_at (state_of table.now) place }
+fn named_at<'r, B: BlockStore>(
+    blocks: &'r B,
+    place: u32,
+    room: &'r mut [u8; 2048],
+) -> Result<Option<&'r [u8]>, ReadFault>
+    ensures value { IfOk result (λ named. B.tells → option_map (λ bytes. bytes.now) named ≡ named_at (B.states blocks.now) place) }
+    ensures fails { OnErr result B.fails }
 {
-    match table.state(place) {
+    match blocks.lend(place, room)? {
         Fact::Known(block) => {
             if Tag::is_valid(block, place, identifiers::ANCHOR) {
-                Some(&block[16..32])
+                Ok(Some(&block[16..32]))
             } else {
-                None
+                Ok(None)
             }
         }
-        _ => None,
+        _ => Ok(None),
     }
 }
 
 /// Whether there is a known, valid anchor at a place.
-fn has_anchor(table: &BlockTable, place: u32) -> bool
-    ensures { result ≡ has_anchor (state_of table.now) place }
+fn has_anchor<B: BlockStore>(blocks: &B, place: u32) -> Result<bool, ReadFault>
+    ensures value { IfOk result (λ has. B.tells → has ≡ has_anchor (B.states blocks.now) place) }
+    ensures fails { OnErr result B.fails }
 {
-    match named_at(table, place) {
-        Some(_) => true,
-        None => false,
+    let mut room = [0; 2048];
+    match named_at(blocks, place, &mut room)? {
+        Some(_) => Ok(true),
+        None => Ok(false),
     }
 }
 
 /// Whether there are known, valid anchors at two places, and they name different extents.
-fn anchors_differ(table: &BlockTable, one: u32, other: u32) -> bool
-    ensures { result ≡ anchors_differ (state_of table.now) one other }
+fn anchors_differ<B: BlockStore>(blocks: &B, one: u32, other: u32) -> Result<bool, ReadFault>
+    ensures value { IfOk result (λ differ. B.tells → differ ≡ anchors_differ (B.states blocks.now) one other) }
+    ensures fails { OnErr result B.fails }
 {
-    let Some(first) = named_at(table, one) else {
-        return false;
+    let mut first_room = [0; 2048];
+    let mut room = [0; 2048];
+    let Some(first) = named_at(blocks, one, &mut first_room)? else {
+        return Ok(false);
     };
-    match named_at(table, other) {
-        Some(second) => first != second,
-        None => false,
+    match named_at(blocks, other, &mut room)? {
+        Some(second) => Ok(first != second),
+        None => Ok(false),
     }
 }
 
 /// The first of these places that has a known, valid anchor.
-fn first_anchor_place(table: &BlockTable, places: &[u32]) -> Option<u32>
-    ensures { result ≡ find (has_anchor (state_of table.now)) places.now }
+fn first_anchor_place<B: BlockStore>(blocks: &B, places: &[u32]) -> Result<Option<u32>, ReadFault>
+    ensures value { IfOk result (λ place. B.tells → place ≡ find (has_anchor (B.states blocks.now)) places.now) }
+    ensures fails { OnErr result B.fails }
 {
     for place in places {
-        if has_anchor(table, *place) {
-            return Some(*place);
+        if has_anchor(blocks, *place)? {
+            return Ok(Some(*place));
         }
     }
-    None
+    Ok(None)
 }
 
 /// The first of these places whose anchor names other extents than the one at `one`.
-fn first_other(table: &BlockTable, one: u32, places: &[u32]) -> Option<u32>
-    ensures { result ≡ find (anchors_differ (state_of table.now) one) places.now }
+fn first_other<B: BlockStore>(
+    blocks: &B,
+    one: u32,
+    places: &[u32],
+) -> Result<Option<u32>, ReadFault>
+    ensures value { IfOk result (λ place. B.tells → place ≡ find (anchors_differ (B.states blocks.now) one) places.now) }
+    ensures fails { OnErr result B.fails }
 {
     for place in places {
-        if anchors_differ(table, one, *place) {
-            return Some(*place);
+        if anchors_differ(blocks, one, *place)? {
+            return Ok(Some(*place));
         }
     }
-    None
+    Ok(None)
 }
 
 /// The first of these places that has a known, valid anchor, and the first whose anchor names other extents.
-fn apart_in(table: &BlockTable, places: &[u32]) -> Option<(u32, u32)>
-    ensures { result ≡ apart_from (state_of table.now) places.now (find (has_anchor (state_of table.now)) places.now) }
+fn apart_in<B: BlockStore>(blocks: &B, places: &[u32]) -> Result<Option<(u32, u32)>, ReadFault>
+    ensures value { IfOk result (λ apart. B.tells → apart ≡ apart_from (B.states blocks.now) places.now (find (has_anchor (B.states blocks.now)) places.now)) }
+    ensures fails { OnErr result B.fails }
 {
-    let one = first_anchor_place(table, places)?;
-    let other = first_other(table, one, places)?;
-    Some((one, other))
+    let Some(one) = first_anchor_place(blocks, places)? else {
+        return Ok(None);
+    };
+    match first_other(blocks, one, places)? {
+        Some(other) => Ok(Some((one, other))),
+        None => Ok(None),
+    }
+}
+
+/// The same as [`anchors_apart`], by any store of blocks.
+///
+/// # Errors
+///
+/// `ReadFault` where the bytes of a known block could not be read. Nothing is told of the volume then.
+pub fn anchors_apart_by<B: BlockStore>(
+    blocks: &B,
+    last: u32,
+) -> Result<Option<(u32, u32)>, ReadFault>
+    requires from { 513 ≤ last }
+    requires to { last ≤ 4194303 }
+    ensures value { IfOk result (λ apart. B.tells → apart ≡ anchors_apart (B.states blocks.now) last) }
+    ensures fails { OnErr result B.fails }
+{
+    apart_in(blocks, &places(last))
 }
 
 /// Of the places of an anchor, the blocks 256, `last - 256` and `last`, the first that is known and valid there, and the first whose
@@ -102,7 +140,10 @@ pub fn anchors_apart(table: &BlockTable, last: u32) -> Option<(u32, u32)>
     ensures value { result ≡ anchors_apart (state_of table.now) last }
     ensures not_lawful { result ≢ None → (profile : Profile) → AgreesWithNoLayoutBy profile (state_of table.now) last }
 {
-    apart_in(table, &places(last))
+    match anchors_apart_by(table, last) {
+        Ok(apart) => apart,
+        Err(_) => unreachable!(),
+    }
 }
 
 /// Whether the layout is read from descriptors of this kind: partition descriptors and logical volume descriptors (ECMA-167 3/10.5,
@@ -172,50 +213,96 @@ fn goes_on(block: &[u8; 2048], place: u32) -> bool
 
 /// Whether it is known to go on after a position, by the first of its copies that is known.
 #[tactic(auto, unfolding(crate::specs::Sequence::position))]
-fn goes_on_at(table: &BlockTable, main: u32, reserve: u32) -> bool
-    ensures { result ≡ goes_on (position (state_of table.now) main reserve) }
+fn goes_on_at<B: BlockStore>(blocks: &B, main: u32, reserve: u32) -> Result<bool, ReadFault>
+    ensures value { IfOk result (λ on. B.tells → on ≡ goes_on (position (B.states blocks.now) main reserve)) }
+    ensures fails { OnErr result B.fails }
 {
-    if let Fact::Known(block) = table.state(main) {
-        return goes_on(block, main);
+    let mut room = [0; 2048];
+    if let Fact::Known(block) = blocks.lend(main, &mut room)? {
+        return Ok(goes_on(block, main));
     }
-    match table.state(reserve) {
-        Fact::Known(block) => goes_on(block, reserve),
-        _ => false,
+    match blocks.lend(reserve, &mut room)? {
+        Fact::Known(block) => Ok(goes_on(block, reserve)),
+        _ => Ok(false),
     }
 }
 
+/// Whether the copies of a position are both known, and do not say the same.
+fn differ_at<B: BlockStore>(blocks: &B, main: u32, reserve: u32) -> Result<bool, ReadFault>
+    ensures value { IfOk result (λ differ. B.tells → differ ≡ known_differ (B.states blocks.now main) main (B.states blocks.now reserve) reserve) }
+    ensures fails { OnErr result B.fails }
+{
+    let mut main_room = [0; 2048];
+    let mut room = [0; 2048];
+    let one = blocks.lend(main, &mut main_room)?;
+    let other = blocks.lend(reserve, &mut room)?;
+    Ok(known_differ(one, main, other, reserve))
+}
+
 /// Whether the copies of a position that is known to be reached differ.
-fn differ_in(table: &BlockTable, extents: AnchorExtents) -> bool
+fn differ_in<B: BlockStore>(blocks: &B, extents: AnchorExtents) -> Result<bool, ReadFault>
     requires main { extents.main.block + extents.main.length / 2048 ≤ 4194304 }
     requires reserve { extents.reserve.block + extents.main.length / 2048 ≤ 4194304 }
-    ensures { result ≡ differ_in (state_of table.now) extents }
+    ensures value { IfOk result (λ differ. B.tells → differ ≡ differ_in (B.states blocks.now) extents) }
+    ensures fails { OnErr result B.fails }
 {
     for i in 0..extents.main.length / 2048 {
         let main = extents.main.block + i;
         let reserve = extents.reserve.block + i;
-        if known_differ(table.state(main), main, table.state(reserve), reserve) {
-            return true;
+        let differ = differ_at(blocks, main, reserve)?;
+        if differ {
+            return Ok(true);
         }
-        if !goes_on_at(table, main, reserve) {
-            return false;
+        let on = goes_on_at(blocks, main, reserve)?;
+        if !on {
+            return Ok(false);
         }
     }
-    false
+    Ok(false)
 }
 
 /// Whether copies differ in the extents of the anchor, where they are taken.
-fn differ_by(profile: Profile, table: &BlockTable, last: u32, seen: Seen<AnchorExtents>) -> bool
+fn differ_by<B: BlockStore>(
+    profile: Profile,
+    blocks: &B,
+    last: u32,
+    seen: Seen<AnchorExtents>,
+) -> Result<bool, ReadFault>
     requires to { last ≤ 4194303 }
-    requires value { Sees (λ extents. extents) seen (anchor (state_of table.now) last) }
-    requires memory { seen ≡ Seen.OutOfMemory → IsHoles (anchor (state_of table.now) last) }
-    ensures { result ≡ copies_differ profile (state_of table.now) last }
+    requires value { B.tells → Sees (λ extents. extents) seen (anchor (B.states blocks.now) last) }
+    requires memory { B.tells → seen ≡ Seen.OutOfMemory → IsHoles (anchor (B.states blocks.now) last) }
+    ensures value { IfOk result (λ differ. B.tells → differ ≡ copies_differ profile (B.states blocks.now) last) }
+    ensures fails { OnErr result B.fails }
 {
     match seen {
         Seen::Got(extents) => {
-            are_extents_by(profile, last, extents) && differ_in(table, shared(extents))
+            if !are_extents_by(profile, last, extents) {
+                return Ok(false);
+            }
+            differ_in(blocks, shared(extents))
         }
-        _ => false,
+        _ => Ok(false),
     }
+}
+
+/// The same as [`copies_differ`], by any store of blocks.
+///
+/// # Errors
+///
+/// `ReadFault` where the bytes of a known block could not be read. Nothing is told of the volume then.
+pub fn copies_differ_by<B: BlockStore>(
+    alloc: Global,
+    blocks: &B,
+    last: u32,
+    profile: Profile,
+) -> Result<bool, ReadFault>
+    requires from { 513 ≤ last }
+    requires to { last ≤ 4194303 }
+    ensures value { IfOk result (λ differ. B.tells → differ ≡ copies_differ profile (B.states blocks.now) last) }
+    ensures fails { OnErr result B.fails }
+{
+    let seen = anchor_by(alloc, blocks, last)?;
+    differ_by(profile, blocks, last, seen)
 }
 
 /// Whether a block of the main sequence and its copy in the reserve one are both known, and do not say the same, up to the position that
@@ -228,7 +315,10 @@ pub fn copies_differ(alloc: Global, table: &BlockTable, last: u32, profile: Prof
     ensures value { result ≡ copies_differ profile (state_of table.now) last }
     ensures not_lawful { IsTrue result → AgreesWithNoLayoutBy profile (state_of table.now) last }
 {
-    differ_by(profile, table, last, anchor(alloc, table, last))
+    match copies_differ_by(alloc, table, last, profile) {
+        Ok(differ) => differ,
+        Err(_) => unreachable!(),
+    }
 }
 
 /// The known anchors of a volume whose layout is lawful name the same extents.

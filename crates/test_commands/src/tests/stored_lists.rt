@@ -1,4 +1,4 @@
-//! `list` of regular files, of which no block is held: what it prints, what it reads, and what an input does that cannot be read.
+//! `list` and `report` of regular files, of which no block is held: what it prints, what it reads, and what an input does that cannot be read.
 
 use crate::tests::check;
 use std::test::Fail;
@@ -98,6 +98,35 @@ inputs-fail 4152
 $ list -v --last 600 disc.tab
 done 1
 remarked the volume does not open: blocks 32 and 48 are needed\n
+
+= a_device_that_fails_in_the_middle_of_a_report
+# The same reads as for a list; and then those for the remark on the guarantee.
+
+some 0 2104
+inputs-fail «n»
+$ report --last 600 disc.tab
+refused udfsalvage: input 1: fault 8 Io at record 0\n
+
+inputs-fail 2104
+$ report -v --last 600 disc.tab
+done 1 UDFREPORT1 last 600\nknown 1 conflict 0\nvolume holes 32 48\nreread 32 unknown\nreread 48 unknown\nend\n
+remarked no remarks on the volume: an input could not be read again\n
+
+inputs-fail 4152
+$ report -v --last 600 disc.tab
+done 1 UDFREPORT1 last 600\nknown 1 conflict 0\nvolume holes 32 48\nreread 32 unknown\nreread 48 unknown\nend\n
+remarked the volume does not open: blocks 32 and 48 are needed\nwhether the guarantee holds is not known: an input could not be read again\n
+
+= the_same_report_of_files_and_devices
+# What is in `dev/` is a device: then the blocks are held.
+at 32 33 34 256 272 273 274 275 276 277 279
+file dev/none.rd reading
+then status 1
+then out UDFREPORT1 last 600\nknown 11 conflict 0\nvolume ok revision 1.50 map type1\nlabel name TEST\nnode 0 whole directory 120 2001-07-04T09:30:00.000000Z /\nnode 1 torn file 5000 2001-07-04T09:30:00.000000Z /A\nmissing 278\nhole 2048 2048\nnode 2 whole file 2 2001-07-04T09:30:00.000000Z /B\nreread 278 unknown\nend\n
+
+$ report --last 600 disc.tab
+
+$ report --last 600 disc.tab dev/none.rd
 
 = a_file_that_is_no_input
 file x text no reading

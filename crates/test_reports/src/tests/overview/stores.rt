@@ -1,5 +1,6 @@
-//! Lists over a store that copies a block each time it is asked for, as one of files does, and whose reads may fail.
+//! Lists and reports over a store that copies a block each time it is asked for, as one of files does, and whose reads may fail.
 
+ghost use Rattle.std.specs.Prelude.{◌≡◌};
 ghost use Rattle.udfs_lattice.specs.Tables.{state_of};
 
 use super::list::{ALL, UNREAD};
@@ -7,9 +8,12 @@ use crate::tests::{assert_case, assert_text};
 use std::alloc::Global;
 use std::test::Fail;
 use udfs_lattice::{BlockStore, BlockTable, Fact, ReadFault};
-use udfs_overview::{PrintError, write_list_by, write_listing_by};
+use udfs_overview::{write_list_by, write_listing_by};
 use udfs_reading::Writer;
-use udfs_salvage::{Listing, Survey, list_volume_by, survey_volume};
+use udfs_salvage::{
+    Listing, PrintError, ReportStore, Survey, list_volume_by, survey_volume, write_json, write_json_by,
+    write_survey, write_survey_by,
+};
 use udfs_samples::{Disc, LAST};
 use udfs_volume::Profile;
 
@@ -58,6 +62,26 @@ impl<'a> BlockStore for Copied<'a> {
                 Ok(Fact::Known(room))
             }
         }
+    }
+}
+
+impl<'a> ReportStore for Copied<'a> {
+    ghost use Rattle.std.proofs.Common.{ap, sym};
+
+    ghost holds = { λ s t. s.table.now ≡ t };
+
+    ghost held = { λ s t same n. ap (λ z. state_of z n) (sym same) };
+
+    fn known(&self) -> u32 {
+        self.table.known()
+    }
+
+    fn conflicts(&self) -> u32 {
+        self.table.conflicts()
+    }
+
+    fn first_past(&self, last: u32) -> Option<u32> {
+        self.table.first_past(last)
     }
 }
 
@@ -116,6 +140,71 @@ fn a_failed_read_ends_the_list(rt: HostRuntime) -> Result<(), Fail> {
         let (text, outcome) = listed(alloc, &table, broken)?;
         assert_case(&rt, outcome == Ok(()), broken);
         assert_text(&rt, text, expected);
+    }
+    Ok(())
+}
+
+/// The report of a table's survey where one block can not be read any more, as text or as JSON, and what came of it.
+fn reported(
+    alloc: Global,
+    table: &BlockTable,
+    broken: u32,
+    json: bool,
+) -> Result<(String, Result<(), PrintError>), Fail> {
+    let Survey {
+        last,
+        profile,
+        volume,
+        nodes,
+        unnamed,
+        reread,
+        ..
+    } = survey_volume(alloc, table, LAST)?;
+    let blocks = Copied { table, broken };
+    let survey = Survey {
+        table: &blocks,
+        last,
+        profile,
+        volume,
+        nodes,
+        unnamed,
+        reread,
+    };
+    let mut text = Writer::new(Vec::new(alloc));
+    let outcome = if json {
+        write_json_by(alloc, &survey, &mut text)
+    } else {
+        write_survey_by(alloc, &survey, &mut text)
+    };
+    Ok((String::from_utf8(text.into_inner())?, outcome))
+}
+
+/// The report of a table's survey, as text or as JSON.
+fn told(alloc: Global, table: &BlockTable, json: bool) -> Result<String, Fail> {
+    let survey = survey_volume(alloc, table, LAST)?;
+    let mut text = Writer::new(Vec::new(alloc));
+    if json {
+        write_json(alloc, &survey, &mut text)?;
+    } else {
+        write_survey(alloc, &survey, &mut text)?;
+    }
+    Ok(String::from_utf8(text.into_inner())?)
+}
+
+/// A report is printed of blocks that are copied as of blocks that are lent. The entry of the torn file A, block 275, is read for what it lacks: where it can
+/// not be read any more, a beginning of the report is out, and that is told as such.
+#[test]
+fn reports_of_stores_are_printed(rt: HostRuntime) -> Result<(), Fail> {
+    let alloc = rt.alloc();
+    let table = Disc::type1(alloc)?.known_but(alloc, &[278])?;
+    for json in [false, true] {
+        let expected = told(alloc, &table, json)?;
+        let (text, outcome) = reported(alloc, &table, u32::MAX, json)?;
+        assert_case(&rt, outcome == Ok(()), json);
+        assert_text(&rt, text, expected.as_str());
+        let (text, outcome) = reported(alloc, &table, 275, json)?;
+        assert_case(&rt, outcome == Err(PrintError::Unread), json);
+        assert_case(&rt, expected.as_str().starts_with(text.as_str()), json);
     }
     Ok(())
 }

@@ -4,7 +4,7 @@ use Rattle.std.specs.String.{string_bytes}
 use Rattle.udfs_space.specs.Views.{view_by}
 use Rattle.udfs_walk.specs.Bare.{full_node}
 use Rattle.udfs_overview.specs.NodeLists.{listed_in}
-use Rattle.udfs_overview.specs.StorePrinting.{PassesOnBy}
+use Rattle.udfs_salvage.specs.StorePrinting.{PassesOnBy}
 use Rattle.udfs_overview.proofs.Places.{behind_first}
 use Rattle.udfs_overview.proofs.node_list.put_full_all.Goals as goal
 

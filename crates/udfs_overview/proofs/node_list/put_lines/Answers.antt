@@ -1,7 +1,7 @@
 use Rattle.std.proofs.Common.{ap, refl, subst}
 use Rattle.std.specs.String.{string_bytes}
 use Rattle.udfs_salvage.specs.Found.{found_now, volume_now}
-use Rattle.udfs_overview.specs.StorePrinting.{PassesOnBy}
+use Rattle.udfs_salvage.specs.StorePrinting.{PassesOnBy}
 use Rattle.udfs_overview.proofs.SeenNodes.{seen_lines}
 use Rattle.udfs_overview.proofs.node_list.put_lines.Goals as goal
 

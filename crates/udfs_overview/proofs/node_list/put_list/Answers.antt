@@ -5,7 +5,7 @@ use Rattle.udfs_reading.specs.Writing.{Passed}
 use Rattle.udfs_salvage.specs.Found.{volume_now}
 use Rattle.udfs_salvage.specs.Printing.{Stopped}
 use Rattle.udfs_overview.specs.NodeLists.{bare_lines, header_line, list_text}
-use Rattle.udfs_overview.specs.StorePrinting.{leaves_as}
+use Rattle.udfs_salvage.specs.StorePrinting.{leaves_as}
 use Rattle.udfs_overview.proofs.node_list.put_list.Goals as goal
 
 pub returns-in-Ok : goal.returns-in-Ok

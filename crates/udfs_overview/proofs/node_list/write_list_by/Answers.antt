@@ -1,7 +1,7 @@
 use Rattle.std.proofs.Common.{◌++◌, subst}
 use Rattle.udfs_salvage.specs.Found.{volume_now}
 use Rattle.udfs_overview.specs.NodeLists.{bare_lines, header_line, list_text}
-use Rattle.udfs_overview.specs.StorePrinting.{PrintsBy}
+use Rattle.udfs_salvage.specs.StorePrinting.{PrintsBy}
 use Rattle.udfs_overview.proofs.node_list.write_list_by.Goals as goal
 
 pub returns-clause-printed : goal.returns-clause-printed

@@ -2,7 +2,7 @@ use Rattle.std.proofs.Common.{◌++◌, ◌∙◌, ap, drop, subst}
 use Rattle.udfs_salvage.specs.Found.{volume_now}
 use Rattle.udfs_salvage.specs.Surveys.{full_nodes}
 use Rattle.udfs_overview.specs.NodeLists.{header_line, lines_by, list_text}
-use Rattle.udfs_overview.specs.StorePrinting.{PrintsBy}
+use Rattle.udfs_salvage.specs.StorePrinting.{PrintsBy}
 use Rattle.udfs_overview.proofs.SeenNodes.{full_listed}
 use Rattle.udfs_overview.proofs.node_list.write_listing_by.Goals as goal
 

@@ -1,5 +1,4 @@
 use Rattle.std.proofs.Common.{take}
-use Rattle.udfs_lattice.specs.Tables.{state_of}
 use Rattle.udfs_salvage.specs.Texts.{reread_lines}
 use Rattle.udfs_printing.specs.Puts.{Puts}
 use Rattle.udfs_salvage.proofs.lines.put_rereads.Given as goal
@@ -8,5 +7,5 @@ use Rattle.udfs_salvage.proofs.lines.put_rereads.Given as goal
 abbrev pub invariant-loop-block : goal.invariant-loop-block
 invariant-loop-block g l =
     let W = g.W.Sink in
-    Puts (W.stream l.fn.sink) (W.stream l.sink) l.fn.out l.out
-    (reread_lines (state_of l.table) (take l.block-index l.blocks))
+    g.B.BlockStore.tells → Puts (W.stream l.fn.sink) (W.stream l.sink) l.fn.out l.out
+    (reread_lines (g.B.BlockStore.states l.blocks) (take l.block-index l.numbers))

@@ -1,5 +1,5 @@
 use Rattle.std.proofs.Common.{map, take}
-use Rattle.udfs_space.specs.Views.{view_now}
+use Rattle.udfs_space.specs.Views.{view_by}
 use Rattle.udfs_walk.specs.Bare.{full_entry}
 use Rattle.udfs_salvage.specs.NodeTexts.{unnamed_texts}
 use Rattle.udfs_printing.specs.Puts.{Puts}
@@ -9,5 +9,5 @@ use Rattle.udfs_salvage.proofs.node_printing.put_full_entries.Given as goal
 abbrev pub invariant-loop-entry : goal.invariant-loop-entry
 invariant-loop-entry g l =
     let W = g.W.Sink in
-    Puts (W.stream l.fn.sink) (W.stream l.sink) l.fn.out l.out
-    (unnamed_texts l.two (take l.entry-index (map (full_entry (view_now l.view)) l.entries)))
+    g.B.BlockStore.tells → Puts (W.stream l.fn.sink) (W.stream l.sink) l.fn.out l.out
+    (unnamed_texts l.two (take l.entry-index (map (full_entry (view_by g.B.BlockStore.states l.view)) l.entries)))

@@ -1,7 +1,7 @@
 use Rattle.std.proofs.Common.{take}
 use Rattle.std.specs.String.{string_bytes}
 use Rattle.udfs_reading.specs.Writing.{Passed}
-use Rattle.udfs_space.specs.Views.{view_now}
+use Rattle.udfs_space.specs.Views.{view_by}
 use Rattle.udfs_walk.specs.Bare.{full_node}
 use Rattle.udfs_salvage.specs.JsonNodes.{node_in}
 use Rattle.udfs_salvage.specs.JsonPieces.{more_values}
@@ -12,7 +12,7 @@ use Rattle.udfs_salvage.proofs.survey_json.put_more_nodes.Given as goal
 abbrev pub invariant-loop-node : goal.invariant-loop-node
 invariant-loop-node g l =
     let W = g.W.Sink in record {
-      text : Passed (W.stream l.fn.sink) (W.stream l.sink) (string_bytes l.fn.text) (string_bytes l.text)
-          (more_values (λ n. node_in l.profile (view_now l.view) (full_node (view_now l.view) n)) (take l.node-index l.nodes));
-      lists : AreKeptLists (view_now l.view) l.kept.lists;
+      text : g.B.BlockStore.tells → Passed (W.stream l.fn.sink) (W.stream l.sink) (string_bytes l.fn.text) (string_bytes l.text)
+          (more_values (λ n. node_in l.profile (view_by g.B.BlockStore.states l.view) (full_node (view_by g.B.BlockStore.states l.view) n)) (take l.node-index l.nodes));
+      lists : g.B.BlockStore.tells → AreKeptLists (view_by g.B.BlockStore.states l.view) l.kept.lists;
     }

@@ -11,8 +11,8 @@ use Rattle.udfs_reading.specs.Writing.{Passed, Wrote}
 use Rattle.udfs_salvage.specs.Printing.{Stopped}
 use Rattle.udfs_salvage.specs.declared.errors.RunError.{RunError}
 use Rattle.udfs_salvage.specs.declared.errors.RunError.TheVariants as run
-use Rattle.udfs_overview.specs.declared.errors.PrintError.{PrintError}
-use Rattle.udfs_overview.specs.declared.errors.PrintError.TheVariants.{Run, Unread}
+use Rattle.udfs_salvage.specs.declared.errors.PrintError.{PrintError}
+use Rattle.udfs_salvage.specs.declared.errors.PrintError.TheVariants.{Run, Unread}
 
 -- memory ran out, or a read failed
 abbrev pub print_error : GaveUp → PrintError

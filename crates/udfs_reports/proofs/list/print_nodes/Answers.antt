@@ -2,11 +2,11 @@ use Rattle.std.proofs.Common.{subst}
 use Rattle.udfs_lattice.specs.Volumes.{Blocks}
 use Rattle.udfs_reading.specs.Writing.{Wrote}
 use Rattle.udfs_overview.specs.NodeLists.{list_text}
-use Rattle.udfs_overview.specs.StorePrinting.{leaves_as}
+use Rattle.udfs_salvage.specs.StorePrinting.{leaves_as}
 use Rattle.udfs_salvage.specs.Listings.{listing_by}
 use Rattle.udfs_salvage.specs.Printing.{Stopped}
 use Rattle.udfs_reports.proofs.StoreListings.{states_same}
-use Rattle.udfs_reports.proofs.stored_list.print_nodes.Goals as goal
+use Rattle.udfs_reports.proofs.list.print_nodes.Goals as goal
 
 pub returns-in-Ok-clause-lines : goal.returns-in-Ok-clause-lines
 returns-in-Ok-clause-lines g c told t holds =

@@ -3,7 +3,7 @@ use Rattle.udfs_lattice.specs.Volumes.{Blocks}
 use Rattle.udfs_salvage.specs.Headline.{HeadlineBy}
 use Rattle.udfs_salvage.specs.Listings.{listing_by}
 use Rattle.udfs_reports.proofs.StoreListings.{states_same, untold_by}
-use Rattle.udfs_reports.proofs.stored_list.nodes_in.Goals as goal
+use Rattle.udfs_reports.proofs.list.nodes_in.Goals as goal
 
 pub returns-in-Ok-clause-headline : goal.returns-in-Ok-clause-headline
 returns-in-Ok-clause-headline g c told t holds =
