@@ -12,6 +12,7 @@ mod LawLemmas
 mod ShortNameLemmas
 mod ShortNameSizes
 mod PlaceLemmas
+mod LostPlaceLemmas
 mod BarePathLemmas
 mod ListedLemmas
 mod NoNode

@@ -13,6 +13,7 @@ use Rattle.udfs_common.specs.Refusing.{IsUnput}
 use Rattle.udfs_common.specs.declared.refusal.Refusal.{Refusal}
 use Rattle.udfs_common.specs.declared.refusal.Refusal.TheVariants.{Folder, LostFolder, Memory, NoNode, Output, Unkept}
 use Rattle.udfs_extraction.specs.Extracting.{PutsBy}
+use Rattle.udfs_extraction.specs.LostPlaces.{lost_report}
 use Rattle.udfs_extraction.specs.Refused.{LostStops, MakingRefused, StopsAdding, StopsBefore, StopsBehind, StopsBeyond, StopsLine, StopsNodes, TreesStop, Unlisted}
 use Rattle.udfs_extraction.specs.declared.nodes.Fate.{Fate}
 
@@ -47,16 +48,16 @@ lost reach stream r place (Some path) old new before after table report refusal 
     by (inl (kept, made, failed)) = let bad : NoNode i ≡ LostFolder = sym is ∙ made in cc
     by (inr (heard, fates, each, lines, why)) = behind _ _ _ refusal i is why
 
-trees : {F I M S W O : Type 0} (reach : Reach F I M S W) (stream : O → Stream) (r : ExtractRequest) (place : Option (List ℕ)) (folder : Option (Bor (List ℕ))) (old new : F) (before after : O) (table : Table) (report : Report) (refusal : Refusal) (i : ℕ) → refusal ≡ NoNode i
-    → MatchOption folder ⊥ (λ path. StopsBeyond reach stream r place path.now old new before after table report refusal) → ⊥
-trees reach stream r place None old new before after table report refusal i is never = never
-trees reach stream r place (Some path) old new before after table report refusal i is stops = by stops.trees
+trees : {F I M S W O : Type 0} (reach : Reach F I M S W) (stream : O → Stream) (r : ExtractRequest) (place : Option (List ℕ)) (folder : Option (Bor (List ℕ))) (old new : F) (before after : O) (last : ℕ) (table : Table) (report : Report) (refusal : Refusal) (i : ℕ) → refusal ≡ NoNode i
+    → MatchOption folder ⊥ (λ path. StopsBeyond reach stream r place path.now old new before after last table report refusal) → ⊥
+trees reach stream r place None old new before after last table report refusal i is never = never
+trees reach stream r place (Some path) old new before after last table report refusal i is stops = by stops.trees
   where
     behind_all : (heard : Bool) → (refusal ≡ Memory alloc_error) ⊎ ((refusal ≡ Output) × (heard ≡ false)) → ⊥
     behind_all heard (inl memory) = let bad : NoNode i ≡ Memory alloc_error = sym is ∙ memory in cc
     behind_all heard (inr output) = let bad : NoNode i ≡ Output = sym is ∙ output.0 in cc
 
-    by : TreesStop reach.files reach.output r.deleted r.short_names path.now new (stream stops.beyond) (stream after) table report refusal → ⊥
+    by : TreesStop reach.files reach.output r.deleted r.short_names path.now new (stream stops.beyond) (stream after) table (lost_report r.volume.profile table last report) refusal → ⊥
     by (ones, are, inl (kept, made, failed)) = let bad : NoNode i ≡ LostFolder = sym is ∙ made in cc
     by (ones, are, inr at) = behind_all at.heard at.why
 
@@ -67,4 +68,4 @@ no_node reach stream r place old new before after last table refusal i is (inr (
 no_node reach stream r place old new before after last table refusal i is (inr (report, is_report, inr (inl (inl (stops, spares))))) = nodes report.volume report.volume _ _ _ _ report.nodes old new _ _ refusal i is stops
 no_node reach stream r place old new before after last table refusal i is (inr (report, is_report, inr (inl (inr unlisted)))) = absurd (manifest reach r place old new _ _ table report refusal i is unlisted)
 no_node reach stream r place old new before after last table refusal i is (inr (report, is_report, inr (inr (inl stops)))) = absurd (lost reach stream r place r.lost old new before after table report refusal i is stops)
-no_node reach stream r place old new before after last table refusal i is (inr (report, is_report, inr (inr (inr stops)))) = absurd (trees reach stream r place r.trees old new before after table report refusal i is stops)
+no_node reach stream r place old new before after last table refusal i is (inr (report, is_report, inr (inr (inr stops)))) = absurd (trees reach stream r place r.trees old new before after last table report refusal i is stops)

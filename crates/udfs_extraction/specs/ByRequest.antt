@@ -28,6 +28,7 @@ use Rattle.udfs_common.specs.Volumes.{OfVolume}
 use Rattle.udfs_extraction.specs.BarePaths.{bare}
 use Rattle.udfs_extraction.specs.Extracting.{IsElsewhere, IsPutAt, PutsBy, PutsNone, node_line}
 use Rattle.udfs_extraction.specs.LostFiles.{IsLostPutAt, IsNewFolder, PutsLost, SparesLost}
+use Rattle.udfs_extraction.specs.LostPlaces.{lost_report}
 use Rattle.udfs_extraction.specs.LostTrees.{AreLostOf, IsTreePut, PutsTrees, tree_lines}
 use Rattle.udfs_extraction.specs.Manifests.{IsFreeManifest, IsManifest, IsPutLast, PutsListed}
 use Rattle.udfs_extraction.specs.declared.nodes.Fate.{Fate}
@@ -111,8 +112,8 @@ MakesTrees reach stream r three new between after table report good = MatchOptio
     PutsTrees (IsTreePut reach.files reach.output new table report.volume r.short_names folder.now) (tree_lines table report.volume r.short_names) trees (stream between) (stream after) good) ×
     SparesLost reach.files folder.now three new)
 
--- the nodes and their manifest, then the lost files, and then the lost folders; it is good where all are
-pub record Makes {F I M S W O : Type 0} (reach : Reach F I M S W) (stream : O → Stream) (r : ExtractRequest) (place : Option (List ℕ)) (old new : F) (before after : O) (table : Table) (report : Report) (good : Bool) : Type 0 where
+-- the nodes and their manifest, then the lost files, and then the lost folders, of which a volume that does not open may have some too; it is good where all are
+pub record Makes {F I M S W O : Type 0} (reach : Reach F I M S W) (stream : O → Stream) (r : ExtractRequest) (place : Option (List ℕ)) (old new : F) (before after : O) (last : ℕ) (table : Table) (report : Report) (good : Bool) : Type 0 where
   pub one : F
   pub two : F
   pub three : F
@@ -123,7 +124,7 @@ pub record Makes {F I M S W O : Type 0} (reach : Reach F I M S W) (stream : O �
   pub trees_good : Bool
   pub nodes : MakesNodes reach r place old one two (stream before) (stream between) table report nodes_good
   pub lost : MakesLost reach stream r.lost two three between beyond table report lost_good
-  pub trees : MakesTrees reach stream r three new beyond after table report trees_good
+  pub trees : MakesTrees reach stream r three new beyond after table (lost_report r.volume.profile table last report) trees_good
   pub says : good ≡ (nodes_good && (lost_good && trees_good))
 
 -- without times `all` is `good`; with them it is true only where `good` is, and may be false for a time that could not be set
@@ -137,5 +138,5 @@ pub record IsExtracted {F I M S W O : Type 0} (reach : Reach F I M S W) (stream 
   pub place : Option (List ℕ)
   pub is_place : IsPlace reach old r place
   pub good : Bool
-  pub of : OfVolume reach old r.volume (λ last table. (report : Report) × IsReportBy r.volume.profile (state_of table) last report × Makes reach stream r place old new before after table report good)
+  pub of : OfVolume reach old r.volume (λ last table. (report : Report) × IsReportBy r.volume.profile (state_of table) last report × Makes reach stream r place old new before after last table report good)
   pub says : IsGoodWithTimes r.times good all

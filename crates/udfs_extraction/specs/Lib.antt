@@ -7,6 +7,7 @@ pub mod Manifests
 pub mod Runs
 pub mod LostFiles
 pub mod LostTrees
+pub mod LostPlaces
 pub mod Laws
 pub mod ShortNames
 pub mod Sparing

@@ -42,6 +42,7 @@ use Rattle.udfs_extraction.specs.ByRequest.{IsNodePut, IsPlace, MakesLost, Makes
 use Rattle.udfs_salvage.specs.Choosing.{is_node}
 use Rattle.udfs_extraction.specs.Extracting.{IsDone, IsPutAt, Puts, PutsBy, PutsOf, SparesNodes, TellsLines, node_line}
 use Rattle.udfs_extraction.specs.LostFiles.{EachLost, IsLostPutAt, lost_lines}
+use Rattle.udfs_extraction.specs.LostPlaces.{lost_report}
 use Rattle.udfs_extraction.specs.LostTrees.{AreLostOf, IsTreePut, IsUnfoundOf, StopsTrees, tree_lines}
 use Rattle.udfs_extraction.specs.Manifests.{IsSparedManifest}
 use Rattle.udfs_extraction.specs.declared.nodes.Fate.{Fate}
@@ -130,7 +131,7 @@ pub record StopsAdding {F I M S W O : Type 0} (reach : Reach F I M S W) (stream 
   pub lost : LostStops reach.files reach.output folder new (stream between) (stream after) table report refusal
 
 -- at some moment all of that was put and reported, and then putting the lost folders ended with this error
-pub record StopsBeyond {F I M S W O : Type 0} (reach : Reach F I M S W) (stream : O → Stream) (r : ExtractRequest) (place : Option (List ℕ)) (folder : List ℕ) (old new : F) (before after : O) (table : Table) (report : Report) (refusal : Refusal) : Type 0 where
+pub record StopsBeyond {F I M S W O : Type 0} (reach : Reach F I M S W) (stream : O → Stream) (r : ExtractRequest) (place : Option (List ℕ)) (folder : List ℕ) (old new : F) (before after : O) (last : ℕ) (table : Table) (report : Report) (refusal : Refusal) : Type 0 where
   pub one : F
   pub two : F
   pub three : F
@@ -140,13 +141,13 @@ pub record StopsBeyond {F I M S W O : Type 0} (reach : Reach F I M S W) (stream 
   pub lost_good : Bool
   pub nodes : MakesNodes reach r place old one two (stream before) (stream between) table report nodes_good
   pub lost : MakesLost reach stream r.lost two three between beyond table report lost_good
-  pub trees : TreesStop reach.files reach.output r.deleted r.short_names folder new (stream beyond) (stream after) table report refusal
+  pub trees : TreesStop reach.files reach.output r.deleted r.short_names folder new (stream beyond) (stream after) table (lost_report r.volume.profile table last report) refusal
 
 -- the nodes, their manifest, the lost files, or the lost folders were not put and reported, or only in part
-abbrev pub MakingStops : {F I M S W O : Type 0} → Reach F I M S W → (O → Stream) → ExtractRequest → Option (List ℕ) → F → F → O → O → Table → Report → Refusal → Type 0
-MakingStops reach stream r place old new before after table report refusal = ListStops reach r place old new (stream before) (stream after) table report refusal ⊎
+abbrev pub MakingStops : {F I M S W O : Type 0} → Reach F I M S W → (O → Stream) → ExtractRequest → Option (List ℕ) → F → F → O → O → ℕ → Table → Report → Refusal → Type 0
+MakingStops reach stream r place old new before after last table report refusal = ListStops reach r place old new (stream before) (stream after) table report refusal ⊎
     MatchOption r.lost ⊥ (λ folder. StopsAdding reach stream r place folder.now old new before after table report refusal) ⊎
-    MatchOption r.trees ⊥ (λ folder. StopsBeyond reach stream r place folder.now old new before after table report refusal)
+    MatchOption r.trees ⊥ (λ folder. StopsBeyond reach stream r place folder.now old new before after last table report refusal)
 
 -- what is said where what is lost was not found
 abbrev pub lost_refusal_of : NodesError → Refusal
@@ -163,7 +164,7 @@ pub record IsUnsearched (deleted : Bool) (table : Table) (report : Report) (refu
 abbrev pub MakingRefused : {F I M S W O : Type 0} → Reach F I M S W → (O → Stream) → ExtractRequest → Option (List ℕ) → F → F → O → O → ℕ → Table → Refusal → Type 0
 MakingRefused reach stream r place old new before after last table refusal = ((new ≡ old) × (after ≡ before) × IsUntold r.volume.profile last refusal table) ⊎
     ((report : Report) × IsReportBy r.volume.profile (state_of table) last report ×
-    (((new ≡ old) × (after ≡ before) × MatchOption r.trees ⊥ (λ folder. IsUnsearched r.deleted table report refusal)) ⊎ MakingStops reach stream r place old new before after table report refusal))
+    (((new ≡ old) × (after ≡ before) × MatchOption r.trees ⊥ (λ folder. IsUnsearched r.deleted table (lost_report r.volume.profile table last report) refusal)) ⊎ MakingStops reach stream r place old new before after last table report refusal))
 
 module _ {F I M S W : Type 0} (reach : Reach F I M S W) (old : F) (r : ExtractRequest) where
   -- the manifest's place was spared, or what is there could not be seen, or the folder's path leads nowhere

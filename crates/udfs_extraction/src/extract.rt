@@ -7,8 +7,7 @@ ghost use Rattle.udfs_extraction.specs.ByRequest.{IsExtracted, Makes};
 ghost use Rattle.udfs_extraction.specs.Refused.{ExtractRefused, MakingRefused};
 ghost use Rattle.udfs_extraction.specs.Sparing.{LeavesExtract, SparesMaking};
 
-use crate::lost_found::found_trees;
-use crate::lost_trees::add_trees;
+use crate::lost_places::{find_trees, put_lost, standing_in};
 use crate::manifest_put::list_report;
 use crate::nodes::is_all_good;
 use crate::out_places::find_places;
@@ -36,7 +35,7 @@ fn extract_disc<F: Files, O: Sink>(
     out: &mut O,
 ) -> Result<bool, Refusal>
     ensures made { IfOk result (λ good. (report : Report) × IsReportBy request.now.volume.profile (state_of disc.now.table) disc.now.last report ×
-        Makes ⟦<F as Known>⟧.reach O.stream request.now (option_map string_bytes place.now) files.old files.new out.old out.new disc.now.table report good) }
+        Makes ⟦<F as Known>⟧.reach O.stream request.now (option_map string_bytes place.now) files.old files.new out.old out.new disc.now.last disc.now.table report good) }
     ensures why { IfErr result (MakingRefused ⟦<F as Known>⟧.reach O.stream request.now (option_map string_bytes place.now) files.old files.new out.old out.new disc.now.last disc.now.table) }
     ensures spares { (files.new ≡ files.old) ⊎ SparesMaking ⟦<F as Known>⟧.reach request.now (option_map string_bytes place.now) files.old files.new }
 {
@@ -49,7 +48,18 @@ fn extract_disc<F: Files, O: Sink>(
         Ok(entries) => entries,
         Err(refusal) => return Err(refusal),
     };
-    let trees = match found_trees(alloc, &listing, request.trees, request.deleted, &entries) {
+    let standing = match standing_in(alloc, &listing) {
+        Ok(standing) => standing,
+        Err(AllocError) => return Err(Refusal::Memory(AllocError)),
+    };
+    let trees = match find_trees(
+        alloc,
+        &listing,
+        &standing,
+        request.trees,
+        request.deleted,
+        &entries,
+    ) {
         Ok(trees) => trees,
         Err(refusal) => return Err(refusal),
     };
@@ -62,7 +72,7 @@ fn extract_disc<F: Files, O: Sink>(
         Ok(lost_good) => lost_good,
         Err(refusal) => return Err(refusal),
     };
-    match add_trees(alloc, listing, trees, request, times, files, out) {
+    match put_lost(alloc, listing, standing, trees, request, times, files, out) {
         Ok(trees_good) => Ok(is_all_good(good, is_all_good(lost_good, trees_good))),
         Err(refusal) => Err(refusal),
     }
@@ -70,7 +80,8 @@ fn extract_disc<F: Files, O: Sink>(
 
 /// Does what is asked for, one stage after another: the places of the manifest and of the folders for what is lost are judged, the inputs are joined, the files of the
 /// volume are written into a new folder, and then the manifest, the lost files and the lost folders, where they are asked for. It returns whether all nodes that are asked for
-/// are whole, nothing failed and, where times are asked for, each could be set. All inputs are opened in order before one is read.
+/// are whole, nothing failed and, where times are asked for, each could be set. All inputs are opened in order before one is read. Where the volume does not open, but its
+/// layout and the places of its blocks are found, lost folders and lost files are looked for by these alone, and the root is a lost folder too.
 ///
 /// # Errors
 ///

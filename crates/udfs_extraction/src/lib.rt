@@ -9,6 +9,7 @@ pub mod extract;
 mod fate_remarks;
 pub mod laws;
 mod lost_found;
+mod lost_places;
 mod lost_trees;
 mod manifest;
 mod manifest_place;

@@ -40,3 +40,4 @@ pub mod PortionCells
 pub mod KnownCells
 mod StorePieces
 mod StoreSteps
+pub mod FoundLemmas

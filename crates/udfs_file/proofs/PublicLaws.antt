@@ -1,10 +1,12 @@
 -- The laws of this crate that proofs above it use. Each has the statement that the function of its name in src/laws.rt ensures.
 use Rattle.udfs_file.specs.Complete.{BodyLaw, DescriptorsAreShort, DirectoryLaw, FileSetLaw, NeverStops, StandardBodies, StandardDirectories}
+use Rattle.udfs_file.specs.FoundNames.{FoundNamesAreThere}
 use Rattle.udfs_file.specs.Laws.{BodyLength, NamesAreParts, PartialBodies, PartialDescriptors, PartialFileSet, TailKeepsBodies, WideTakesTags}
 use Rattle.udfs_file.specs.Sample.{HaveSampleFiles, SampleFileSet}
 use Rattle.udfs_file.proofs.BodyLengths as lengths
 use Rattle.udfs_file.proofs.EntryNames as names
 use Rattle.udfs_file.proofs.FileSets as sets
+use Rattle.udfs_file.proofs.FoundLemmas as found
 use Rattle.udfs_file.proofs.PartFronts as fronts
 use Rattle.udfs_file.proofs.PartialBodies as parts
 use Rattle.udfs_file.proofs.Readings as readings
@@ -62,3 +64,6 @@ standard_directories_are_read = listed.standard_directories
 
 pub descriptors_are_short : DescriptorsAreShort
 descriptors_are_short = listed.descriptors_are_short
+
+pub found_names_are_there : FoundNamesAreThere
+found_names_are_there = found.found_names_are_there

@@ -122,7 +122,7 @@ module _ (rules : Profile) where
     pub size_is : identifier_size (map value (take 38 cs)) ≡ id.size
     pub clean : first_missing (take id.size cs) ≡ None
 
-  step_one : (cs : List Cell) (id : Identifier) → step_by rules cs ≡ One id → OneIs cs id
+  pub step_one : (cs : List Cell) (id : Identifier) → step_by rules cs ≡ One id → OneIs cs id
   unfolding step_by
   step_one [] id e = absurd (let x : ⊥ = cc in x)
   step_one (c ∷ cs) id e = record { size_is = size_is; clean = subst (λ n. first_missing (take n all) ≡ None) size_is fourth.0 }
@@ -191,7 +191,7 @@ module _ (rules : Profile) where
       short false s = begins (first_missing (take 38 all)) refl s
 
   -- a descriptor of the whole whose cells are all there is read in the part too
-  step_clear : (xs ys : List Cell) → AllZip IsCellOf xs ys → (id : Identifier) → step_by rules ys ≡ One id → IsClearTo xs id.size → step_by rules xs ≡ One id
+  pub step_clear : (xs ys : List Cell) → AllZip IsCellOf xs ys → (id : Identifier) → step_by rules ys ≡ One id → IsClearTo xs id.size → step_by rules xs ≡ One id
   step_clear xs ys h id e clear = go (step_is rules xs ys h)
     where
       o : OneIs ys id

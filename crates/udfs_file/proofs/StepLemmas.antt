@@ -7,7 +7,9 @@ use Rattle.udfs_osta.specs.declared.names.NameFault.{NameFault}
 use Rattle.std.proofs.lemmas.List.{length-take-le, length-map}
 use Rattle.udfs_volume.specs.declared.profiles.Profile.{Profile}
 use Rattle.udfs_file.specs.Pieces.{ShowsBytes}
-use Rattle.udfs_file.specs.Steps.{IsDescriptor, bytes_of}
+use Rattle.udfs_file.specs.Steps.{HasBytes, HasFirstBytes, IsDescriptor, bytes_of}
+use Rattle.udfs_file.specs.declared.cursors.Step as cursor
+use Rattle.udfs_file.specs.declared.cursors.Step.TheVariants.{Id, Stop, Fault, End}
 use Rattle.udfs_file.specs.declared.cells.Cell.{Cell}
 use Rattle.udfs_file.specs.declared.cells.Cell.TheVariants.{Byte, Gap}
 use Rattle.udfs_file.specs.declared.pieces.Pieces.{Pieces}
@@ -59,6 +61,13 @@ bytes_length cells n view h b = sym (ap length b.values) ∙ length-map (take n 
 
 pub head_length : (cells : List Cell) (n : ℕ) (view : Pieces) → nat_le n (length cells) ≡ true → ShowsBytes view (take n cells) → n ≤ length (bytes_of view)
 head_length cells n view h b = let e : length (bytes_of view) ≡ n = bytes_length cells n view (le_of n (length cells) h) b in omega (arith, e)
+
+-- a descriptor that has the bytes of pieces at the beginning of some cells
+pub first_bytes : (cells : List Cell) (n : ℕ) (view : Pieces) (told : cursor.Step) → nat_le n (length cells) ≡ true → ShowsBytes view (take n cells) → HasBytes (bytes_of view) told → HasFirstBytes cells told
+first_bytes cells n view (Id own) h b same = same ∙ sym b.values ∙ ap (λ k. map value (take k cells)) (sym (ap length same ∙ bytes_length cells n view (le_of n (length cells) h) b))
+first_bytes cells n view (Stop m) h b same = tt
+first_bytes cells n view (Fault f) h b same = tt
+first_bytes cells n view End h b same = tt
 
 -- ---- a descriptor of a size
 holder_front : (size : ℕ) (cells : List Cell) → 0 < size → holder_of (take size cells) ≡ holder_of cells

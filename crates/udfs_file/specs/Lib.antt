@@ -7,6 +7,7 @@ pub mod Pieces
 pub mod CellsLeft
 pub mod Identifiers
 pub mod Fronts
+pub mod FoundNames
 pub mod Steps
 pub mod Laws
 pub mod TailBodies

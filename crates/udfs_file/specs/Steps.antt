@@ -1,13 +1,14 @@
 -- Steps of a cursor through a directory.
 --     bytes_of view            the bytes of both pieces
 --     StepIs told step         the step of the code is this step of the definition
+--     HasFirstBytes cells told     a descriptor that was told has the bytes of the first cells
 --     IsNext profile before told after     what was next by these rules, and what is left after it
 --     IsStep before told after             the same by the strict ones
 --     StepsTo before told after   the same of the list of all descriptors and what ends it
-use Rattle.std.specs.Prelude.{◌≡◌, ◌≤◌, ℕ, Bool, true, false, List, [], ◌∷◌, ◌++◌, length, drop, Option, ⊤}
+use Rattle.std.specs.Prelude.{◌≡◌, ◌≤◌, ℕ, Bool, true, false, List, [], ◌∷◌, ◌++◌, length, drop, map, take, Option, ⊤}
 use Rattle.udfs_volume.specs.declared.profiles.Profile.{Profile}
 use Rattle.udfs_volume.specs.declared.profiles.Profile.TheVariants.{Strict}
-use Rattle.udfs_file.specs.Fronts.{DirectoryText, identifier_in, step_by}
+use Rattle.udfs_file.specs.Fronts.{DirectoryText, identifier_in, step_by, value}
 use Rattle.udfs_file.specs.Identifiers.{Identifier, Rest, Nothing, Stopped, Wrong, AtRest, One}
 use Rattle.udfs_file.specs.Identifiers as identifiers
 use Rattle.udfs_file.specs.declared.cells.Cell.{Cell}
@@ -47,6 +48,13 @@ HasBytes bytes (Id view) = bytes_of view ≡ bytes
 HasBytes bytes (Stop n) = ⊤
 HasBytes bytes (Fault fault) = ⊤
 HasBytes bytes End = ⊤
+
+-- a descriptor that was told has the bytes of the first cells
+abbrev pub HasFirstBytes : List Cell → Step → Type 0
+HasFirstBytes cells (Id view) = bytes_of view ≡ map value (take (length (bytes_of view)) cells)
+HasFirstBytes cells (Stop n) = ⊤
+HasFirstBytes cells (Fault fault) = ⊤
+HasFirstBytes cells End = ⊤
 
 -- the cells left after a step: those after the descriptor, or all of them where the directory ends
 abbrev pub left_behind : Step → List Cell → List Cell

@@ -1,6 +1,6 @@
 //! Directories descriptor by descriptor, where they lie (ECMA-167 4/14.4).
 
-ghost use Rattle.std.specs.Prelude.{◌≡◌, ◌≤◌, ◌<◌, ◌+◌, drop, is_some, length, take};
+ghost use Rattle.std.specs.Prelude.{◌≡◌, ◌≤◌, ◌<◌, ◌+◌, drop, is_some, length, nat_le, take};
 ghost use Rattle.udfs_space.specs.Views.{view_now};
 ghost use Rattle.udfs_tag.specs.Fields.{part, uint8_at, uint16_at, uint32_at};
 ghost use Rattle.udfs_tag.specs.Tags.{is_valid};
@@ -8,7 +8,7 @@ ghost use Rattle.udfs_osta.specs.Names.{fault_of, units_of};
 ghost use Rattle.udfs_file.specs.CellsLeft.{cells_left};
 ghost use Rattle.udfs_file.specs.Fronts.{checked_by, directory, identifier_in, identifier_size, is_listed, place_asked, sized_identifier, step};
 ghost use Rattle.udfs_file.specs.Stretches.{LieInBlocks, cells_of};
-ghost use Rattle.udfs_file.specs.Steps.{HasBytes, StepsTo, IsStep, StepIs, bytes_of, is_id};
+ghost use Rattle.udfs_file.specs.Steps.{HasBytes, HasFirstBytes, StepsTo, IsStep, StepIs, bytes_of, is_id};
 
 use crate::bodies::Body;
 use crate::cells::Cells;
@@ -127,6 +127,14 @@ impl<'a> Pieces<'a> {
         4 * ((self.uint8(19) as usize + self.uint16(36) as usize + 41) / 4)
     }
 
+    /// How many bytes of a descriptor the CRC of its tag covers (ECMA-167 3/7.2.6).
+    pub(crate) fn crc_length(&self) -> u16
+        requires { 38 ≤ length (bytes_of self.now) }
+        ensures { result ≡ uint16_at (bytes_of self.now) 10 }
+    {
+        self.uint16(10)
+    }
+
     /// Whether a descriptor is neither deleted nor the parent's.
     pub fn is_listed(&self) -> bool
         requires { 38 ≤ length (bytes_of self.now) }
@@ -211,7 +219,8 @@ pub(crate) fn checked<'a>(profile: Profile, view: Pieces<'a>) -> Step<'a>
 fn sized<'a>(cells: &Cells<'a>, size: usize) -> Step<'a>
     requires lies { LieInBlocks cells.now.stretches.now }
     requires least { 38 ≤ size }
-    ensures { StepIs result (sized_identifier (cells_left cells.now) size) }
+    ensures value { StepIs result (sized_identifier (cells_left cells.now) size) }
+    ensures bytes { HasFirstBytes (cells_left cells.now) result }
 {
     if size > 2048 || !cells.holds(size as u64) {
         return Step::Fault(NodeFault::Cut);
@@ -225,7 +234,8 @@ fn sized<'a>(cells: &Cells<'a>, size: usize) -> Step<'a>
 /// The descriptor at the beginning of some cells, or what ends the directory there.
 fn ahead<'a>(cells: &Cells<'a>) -> Step<'a>
     requires { LieInBlocks cells.now.stretches.now }
-    ensures { StepIs result (step (cells_left cells.now)) }
+    ensures value { StepIs result (step (cells_left cells.now)) }
+    ensures bytes { HasFirstBytes (cells_left cells.now) result }
 {
     if !cells.holds(1) {
         return Step::End;
@@ -270,5 +280,27 @@ impl<'a> Cursor<'a> {
             self.cells = self.cells.behind(view.len());
         }
         step
+    }
+
+    /// The next descriptor, or what ends the directory there, without moving.
+    pub(crate) fn ahead(&self) -> Step<'a>
+        ensures value { StepIs result (step self.now) }
+        ensures bytes { HasFirstBytes self.now result }
+    {
+        ahead(&self.cells)
+    }
+
+    /// Whether a byte is left.
+    pub(crate) fn has_left(&self) -> bool
+        ensures { result ≡ nat_le 1 (length self.now) }
+    {
+        self.cells.holds(1)
+    }
+
+    /// Moves past so many bytes, or to the end where fewer are left.
+    pub(crate) fn pass(&mut self, count: usize)
+        ensures { self.new ≡ drop count self.old }
+    {
+        self.cells = self.cells.behind(count);
     }
 }

@@ -126,7 +126,7 @@ fn listed_entry(alloc: Global, bytes: &[u8]) -> Result<Option<DirEntry>, AllocEr
 /// The entry in a descriptor, if it is neither deleted nor the parent's. It is compiled into the walk that asks it, as a directory may
 /// have many descriptors of deleted entries, which cost no more than a look at their marks then.
 #[inline(always)]
-fn listed(alloc: Global, view: &Pieces<'_>) -> Result<Option<DirEntry>, AllocError>
+pub(crate) fn listed(alloc: Global, view: &Pieces<'_>) -> Result<Option<DirEntry>, AllocError>
     requires { 38 ≤ length (bytes_of view.now) }
     ensures entry { IfOk result (IsListedIn (bytes_of view.now)) }
     ensures memory { IfErr result (λ e. is_listed (bytes_of view.now) ≡ true) }

@@ -1,4 +1,5 @@
 //! Laws of bodies and directories, each the contract of a function that does nothing.
+ghost use Rattle.udfs_file.specs.FoundNames.{FoundNamesAreThere};
 ghost use Rattle.udfs_file.specs.Laws.{BodyLength, NamesAreParts, PartialBodies, PartialDescriptors, PartialFileSet, TailKeepsBodies, WideTakesTags};
 ghost use Rattle.udfs_file.specs.Complete.{BodyLaw, DescriptorsAreShort, DirectoryLaw, FileSetLaw, NeverStops, ReadsLaw, StandardBodies, StandardDirectories};
 ghost use Rattle.udfs_file.specs.Sample.{HaveSampleFiles, SampleFileSet};
@@ -74,6 +75,12 @@ pub fn the_tail_keeps_bodies()
 /// A directory without a fault by the strict rules is the same by the wide ones, and of any these read at least what those read.
 pub fn wide_takes_tags()
     ensures { WideTakesTags }
+{}
+
+/// What is found at a place of a directory of which a part is known is in the whole at that place, and an entry of the whole is found
+/// there if no byte of its descriptor is missing.
+pub fn found_names_are_there()
+    ensures { FoundNamesAreThere }
 {}
 
 /// A body without a fault has as many cells as the information length says.

@@ -5,6 +5,7 @@
 //! [`Body::read`] follows its allocation descriptors, and [`Dir::front`] lists what a directory's body holds. An
 //! address is a partition reference and a logical block. Where a block that is needed is not known, the result names
 //! it, and says as much as is known without it; nothing is guessed. The laws in [`laws`] say what that means.
+//! [`FoundNames`] looks for names behind a missing block, which are evidence and no proof.
 #![tactic(auto)]
 
 mod areas;
@@ -16,6 +17,7 @@ pub mod entries;
 mod extents;
 pub mod faults;
 pub mod file_sets;
+pub mod found_names;
 pub mod knowledge;
 pub mod laws;
 pub mod marks;
@@ -31,6 +33,7 @@ pub use directories::{Dir, DirEnd, DirEntry, DirFront};
 pub use entries::Entry;
 pub use faults::{FrontError, Kind, NodeFault, WalkError};
 pub use file_sets::file_set;
+pub use found_names::FoundNames;
 pub use knowledge::{Knowledge, StoreKnowledge};
 pub use marks::Marks;
 pub use pieces::Pieces;

@@ -18,7 +18,7 @@ or_none true = refl
 or_none false = refl
 
 -- one more was met
-any_with : (met : List Icb) (a x : Icb) → list_any (is_icb x) (with_icb met a) ≡ (list_any (is_icb x) met || is_icb x a)
+pub any_with : (met : List Icb) (a x : Icb) → list_any (is_icb x) (with_icb met a) ≡ (list_any (is_icb x) met || is_icb x a)
 any_with met a x = go (list_any (is_icb a) met) refl
   where
     known : list_any (is_icb a) met ≡ true → (b : Bool) → is_icb x a ≡ b → list_any (is_icb x) met ≡ (list_any (is_icb x) met || b)

@@ -40,7 +40,7 @@ one_number x y h k e =
     let b : x.block ≡ y.block = omega (arith, e, h, k) in
     (λ i. record { block = b i; reference = r i })
 
-same_number : (x y : Icb) → is_near x ≡ true → is_near y ≡ true → is_eq (nat_cmp (number_of y) (number_of x)) ≡ is_icb x y
+pub same_number : (x y : Icb) → is_near x ≡ true → is_near y ≡ true → is_eq (nat_cmp (number_of y) (number_of x)) ≡ is_icb x y
 same_number x y h k = go (is_icb x y) refl (is_eq (nat_cmp (number_of y) (number_of x))) refl
   where
     number : (b : Bool) → is_eq (nat_cmp (number_of y) (number_of x)) ≡ b → nat_eq (number_of y) (number_of x) ≡ b

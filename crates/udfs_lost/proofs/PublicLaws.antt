@@ -19,7 +19,9 @@ use Rattle.udfs_tree.proofs.Wanted.{met_is_whole}
 use Rattle.udfs_walk.specs.Bare.{full_entry}
 use Rattle.udfs_lost.specs.Folders.{icb_of_entry, is_lost_folder}
 use Rattle.udfs_lost.specs.LostFiles.{BareEntriesWillDo, is_lost_file}
+use Rattle.udfs_lost.specs.FoundNames.{BareNamesWillDo}
 use Rattle.udfs_lost.proofs.Kept.{kept_alike, passes_alike}
+use Rattle.udfs_lost.proofs.FoundLemmas.{folders_alike, names_alike}
 use Rattle.udfs_lost.specs.Subtrees.{IsFolderAt, IsNodeBelow, IsWholeBelow, LostTreesFit, LostTreesReach, LostTreesTell, NeededBelow, SubtreeIsBelow, SubtreeIsLawful}
 use Rattle.udfs_lost.proofs.ReachLemmas.{reached}
 use Rattle.udfs_lost.proofs.FolderTrees.{folder_is_sound, in_part, in_whole, needed}
@@ -73,4 +75,10 @@ pub bare_entries_will_do : BareEntriesWillDo
 bare_entries_will_do view deleted trees entries = record {
   folders = kept_alike icb_of_entry (is_lost_folder view deleted) (full_entry view) (λ u. refl) (λ u. refl) entries;
   files = passes_alike (is_lost_file view deleted trees) (full_entry view) (λ u. refl) entries;
+}
+
+pub bare_names_will_do : BareNamesWillDo
+bare_names_will_do view deleted trees entries nodes = record {
+  folders = folders_alike view nodes;
+  names = names_alike view deleted trees entries;
 }

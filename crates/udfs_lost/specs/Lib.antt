@@ -9,3 +9,5 @@ pub mod LostFiles
 pub mod Parents
 pub mod Subtrees
 pub mod PlacedVolumes
+pub mod FoundNames
+pub mod Unplaced

@@ -13,7 +13,7 @@ use udfs_tag::LbAddr;
 use udfs_walk::{NodesError, Unnamed};
 
 /// Whether it is a directory.
-fn is_directory(kind: Kind) -> bool
+pub(crate) fn is_directory(kind: Kind) -> bool
     ensures { result ≡ is_directory kind }
 {
     match kind {

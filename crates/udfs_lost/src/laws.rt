@@ -1,4 +1,5 @@
 //! Laws of lost trees, each the contract of a function that does nothing.
+ghost use Rattle.udfs_lost.specs.FoundNames.{BareNamesWillDo};
 ghost use Rattle.udfs_lost.specs.LostFiles.{BareEntriesWillDo};
 ghost use Rattle.udfs_lost.specs.Subtrees.{LostTreesFit, LostTreesReach, LostTreesTell, NeededBelow, SubtreeIsBelow, SubtreeIsLawful};
 
@@ -40,4 +41,9 @@ pub fn lost_trees_reach()
 /// lost files.
 pub fn bare_entries_will_do()
     ensures { BareEntriesWillDo }
+{}
+
+/// Of nodes and entries without their blocks and holes the same names are found behind holes.
+pub fn bare_names_will_do()
+    ensures { BareNamesWillDo }
 {}

@@ -3,7 +3,8 @@
 //!
 //! [`lost_roots`] finds the folders from which to walk, [`lost_trees`] their nodes, [`lost_files`] the files that no such tree
 //! names, and [`parent`] the directory in which a folder says that it is. [`placed_volume`] finds what a lost folder needs of a
-//! volume whose root is not known. The laws in [`laws`] say what a lost tree tells of the tree of its volume.
+//! volume whose root is not known. [`found_names`] has the names that a torn directory still tells behind a hole: evidence, and no
+//! proof. The laws in [`laws`] say what a lost tree tells of the tree of its volume.
 #![tactic(auto)]
 
 mod entries;
@@ -12,14 +13,18 @@ pub mod folders;
 pub mod laws;
 pub mod links;
 mod met;
+pub mod names_behind;
 pub mod parents;
 pub mod placed;
 mod search;
 pub mod trees;
+pub mod unplaced_entries;
 
 pub use files::lost_files;
 pub use folders::lost_roots;
 pub use links::link_count;
+pub use names_behind::{FoundName, found_names, torn_folders};
 pub use parents::parent;
 pub use placed::{PlacedVolume, placed_volume};
 pub use trees::{LostTree, lost_trees};
+pub use unplaced_entries::{Unplaced, unplaced_in};

@@ -4,6 +4,7 @@ mod Commas
 mod CopyLoops
 mod Counting
 mod DiscCounting
+mod FoundPieces
 mod FullFolders
 mod Headed
 mod LostPieces

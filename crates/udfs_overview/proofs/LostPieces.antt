@@ -1,5 +1,5 @@
 -- What is lost of a volume, seen by what its table knows, is what its report says.
-use Rattle.std.proofs.Common.{◌≡◌, ◌∙◌, refl, sym, ap, subst, ℕ, Bool, true, false, List, [], ◌∷◌, ◌++◌, map, Option, Some, None, option_map, cond}
+use Rattle.std.proofs.Common.{◌≡◌, ◌∙◌, refl, sym, ap, subst, ℕ, Bool, true, false, List, [], ◌∷◌, ◌++◌, map, Option, Some, None, option_map, cond, append_assoc}
 use Rattle.std.specs.Prelude.{find, flat_map}
 use Rattle.std.specs.Borrow.{Bor}
 use Rattle.udfs_lattice.specs.Tables.{Table, state_of}
@@ -24,7 +24,10 @@ use Rattle.udfs_salvage.specs.Found.{Found, volume_now}
 use Rattle.udfs_salvage.specs.Surveys.{full_entries, full_nodes}
 use Rattle.udfs_salvage.specs.Texts.{has_two as told_two}
 use Rattle.udfs_salvage.specs.declared.surveys.Survey as code_survey
-use Rattle.udfs_overview.specs.LostLists.{file_line, folder_at, is_folder_at, lost_lines, lost_text, lost_word, node_line, place_column, tree_lines}
+use Rattle.udfs_overview.specs.FoundLists.{found_lines}
+use Rattle.udfs_overview.specs.FullLists.{lost_and_found, lost_text}
+use Rattle.udfs_overview.specs.LostLists.{file_line, folder_at, is_folder_at, lost_lines, lost_word, node_line, place_column, tree_lines}
+use Rattle.udfs_overview.proofs.FoundPieces.{found_full}
 use Rattle.udfs_overview.specs.LostTrees.{AreLost, AreLostBy, IsLostOf, IsUnfound, IsUnfoundBy}
 use Rattle.udfs_overview.specs.Searched.{Searched, rootless_now, searched_by, searched_of, without_root}
 use Rattle.udfs_overview.specs.declared.lost_found.Lost.{Lost}
@@ -68,7 +71,7 @@ files_full : (v : View) (deleted : Bool) (trees : List LostTree) (es : List Unna
 files_full v deleted trees es files are = borrowed v files ∙ ap (map (full_entry v)) are ∙ sym (bare_entries_will_do v deleted trees es).files
 
 -- the lines of trees, and then those of files, are all; `ns`, `es` and `files` are as the code lends them
-pub lost_pieces : (form : ListForm) (deleted : Bool) (v : View) (two : Bool) (ns : List NodeFields) (es : List Unnamed) (trees : List LostTree) (files lent : List (Bor Unnamed)) → lent ≡ files
+lost_pieces : (form : ListForm) (deleted : Bool) (v : View) (two : Bool) (ns : List NodeFields) (es : List Unnamed) (trees : List LostTree) (files lent : List (Bor Unnamed)) → lent ≡ files
     → map (λ (file : Bor Unnamed). file.now) files ≡ lost_files v deleted trees es
     → flat_map (tree_lines form v two ns) trees ++ flat_map (file_line form v two) (map (λ (file : Bor Unnamed). full_entry v file.now) lent)
     ≡ lost_lines form deleted v two ns (map (full_entry v) es) trees
@@ -76,14 +79,23 @@ lost_pieces form deleted v two ns es trees files lent lent_is are =
     (λ i. flat_map (tree_lines form v two ns) trees ++ flat_map (file_line form v two) (map (λ (file : Bor Unnamed). full_entry v file.now) (lent_is i)))
     ∙ (λ i. flat_map (tree_lines form v two ns) trees ++ flat_map (file_line form v two) (files_full v deleted trees es files are i))
 
+-- and the names that are found behind these
+pub lost_and_found_pieces : (form : ListForm) (deleted : Bool) (v : View) (two : Bool) (ns : List NodeFields) (es : List Unnamed) (trees : List LostTree) (files lent : List (Bor Unnamed)) → lent ≡ files
+    → map (λ (file : Bor Unnamed). file.now) files ≡ lost_files v deleted trees es
+    → flat_map (tree_lines form v two ns) trees ++ (flat_map (file_line form v two) (map (λ (file : Bor Unnamed). full_entry v file.now) lent) ++ found_lines form deleted v two ns (map (full_entry v) es) trees)
+    ≡ lost_and_found form deleted v two ns (map (full_entry v) es) trees
+lost_and_found_pieces form deleted v two ns es trees files lent lent_is are =
+    sym (append_assoc (flat_map (tree_lines form v two ns) trees) (flat_map (file_line form v two) (map (λ (file : Bor Unnamed). full_entry v file.now) lent)) (found_lines form deleted v two ns (map (full_entry v) es) trees))
+    ∙ ap (λ l. l ++ found_lines form deleted v two ns (map (full_entry v) es) trees) (lost_pieces form deleted v two ns es trees files lent lent_is are)
+
 -- where the volume opens, seen by the table
 pub lost_seen : (form : ListForm) (deleted : Bool) (M : Blocks) (answer : Answer Found) (f : Found) (v : View) (two : Bool) (ns nodes : List NodeFields) (es entries : List Unnamed) (ts trees : List LostTree) (closed : Option Searched)
     → answer ≡ found f → v ≡ view M f.space → two ≡ told_two answer → ns ≡ nodes → es ≡ entries → ts ≡ trees
-    → lost_lines form deleted v two ns (map (full_entry v) es) ts ≡ lost_text form deleted (searched_by closed M answer (full_entries M answer entries)) (full_nodes M answer nodes) trees
+    → lost_and_found form deleted v two ns (map (full_entry v) es) ts ≡ lost_text form deleted (searched_by closed M answer (full_entries M answer entries)) (full_nodes M answer nodes) trees
 unfolding lost_text
 lost_seen form deleted M answer f v two ns nodes es entries ts trees closed opened seen is nodes_are entries_are trees_are =
-    (λ i. trees_full form v two ns ts i ++ flat_map (file_line form v two) (lost_files v deleted ts (map (full_entry v) es)))
-    ∙ (λ i. lost_lines form deleted (seen i) (same i) (map (full_node (seen i)) (nodes_are i)) (map (full_entry (seen i)) (entries_are i)) (trees_are i))
+    (λ i. (trees_full form v two ns ts i ++ flat_map (file_line form v two) (lost_files v deleted ts (map (full_entry v) es))) ++ found_full form deleted v two ns (map (full_entry v) es) ts i)
+    ∙ (λ i. lost_and_found form deleted (seen i) (same i) (map (full_node (seen i)) (nodes_are i)) (map (full_entry (seen i)) (entries_are i)) (trees_are i))
     ∙ (λ i. lost_text form deleted (searched_by closed M (sym opened i) (full_entries M (sym opened i) entries)) (full_nodes M (sym opened i) nodes) trees)
   where
     same : two ≡ has_two f.layout
@@ -92,10 +104,10 @@ lost_seen form deleted M answer f v two ns nodes es entries ts trees closed open
 -- where it does not, in what is known of it without its file set
 pub rootless_seen : (form : ListForm) (deleted : Bool) (M : Blocks) (known : Option Rootless) (r : Rootless) (v : View) (two : Bool) (ns nodes : List NodeFields) (es : List Unnamed) (ts trees : List LostTree)
     → known ≡ Some r → v ≡ view M r.volume.space → two ≡ has_two (parts_now r.volume.parts) → ns ≡ nodes → es ≡ r.entries.items → ts ≡ trees
-    → lost_lines form deleted v two ns (map (full_entry v) es) ts ≡ lost_text form deleted (option_map (rootless_now M) known) nodes trees
+    → lost_and_found form deleted v two ns (map (full_entry v) es) ts ≡ lost_text form deleted (option_map (rootless_now M) known) nodes trees
 unfolding lost_text
 rootless_seen form deleted M known r v two ns nodes es ts trees at seen is nodes_are entries_are trees_are =
-    (λ i. lost_lines form deleted (seen i) (is i) (nodes_are i) (map (full_entry (seen i)) (entries_are i)) (trees_are i))
+    (λ i. lost_and_found form deleted (seen i) (is i) (nodes_are i) (map (full_entry (seen i)) (entries_are i)) (trees_are i))
     ∙ (λ i. lost_text form deleted (option_map (rootless_now M) (sym at i)) nodes trees)
 
 pub holes_seen : (form : ListForm) (deleted : Bool) (M : Blocks) (answer : Answer Found) (listed : List ℕ) (closed : Option Searched) (nodes : List NodeFields) (entries : List Unnamed) (trees : List LostTree) → answer ≡ holes listed

@@ -21,6 +21,8 @@ pub mod Disagreements
 pub mod Searched
 pub mod LostTrees
 pub mod LostLists
+pub mod FoundLists
+pub mod FullLists
 pub mod LostVolumes
 pub mod Repeating
 pub mod NextCommands

@@ -3,13 +3,11 @@
 --     place_of view nodes folder         the path of the directory in which a folder is, as it says itself
 --     tree_lines form view two nodes t   the lines of a lost tree
 --     file_line form view two u          the line of a lost file
---     lost_text form deleted searched nodes trees    the lines of all lost trees, and of the lost files that they do not name
---     full_list form deleted blocks searched report trees    the lines of a report's nodes, and these
+--     lost_lines form deleted view two nodes entries trees    the lines of all lost trees, and of the lost files that they do not name
 use Rattle.std.specs.Prelude.{ℕ, ◌&&◌, Bool, List, [], ◌∷◌, ◌++◌, flat_map, map, Option, Some, None, option_map, codes, decimal, if◌then◌else◌}
 use Rattle.std.specs.List.{find}
 use Rattle.serde_json.specs.Data.{string}
 use Rattle.serde_json.specs.Written.{compact_text}
-use Rattle.udfs_lattice.specs.Volumes.{Blocks}
 use Rattle.udfs_tag.specs.declared.layouts.LongAd.{LongAd}
 use Rattle.udfs_osta.specs.declared.stamps.Stamp.{Stamp}
 use Rattle.udfs_space.specs.Places.{View}
@@ -26,9 +24,7 @@ use Rattle.udfs_lost.specs.Folders.{icb_of_entry, is_directory}
 use Rattle.udfs_lost.specs.LostFiles.{lost_files}
 use Rattle.udfs_lost.specs.Parents.{parent_at}
 use Rattle.udfs_lost.specs.declared.trees.LostTree.{LostTree}
-use Rattle.udfs_salvage.specs.Reports.{Report}
-use Rattle.udfs_overview.specs.Searched.{Searched}
-use Rattle.udfs_overview.specs.NodeLists.{line_end, list_text, safe_path, tail_column, tail_json, told_columns, told_json}
+use Rattle.udfs_overview.specs.NodeLists.{line_end, safe_path, tail_column, tail_json, told_columns, told_json}
 use Rattle.udfs_overview.specs.TornLists.{shown_path}
 use Rattle.udfs_overview.specs.declared.node_list.ListForm.{ListForm}
 
@@ -117,12 +113,3 @@ file_line form view two u = if form.torn && is_whole u.standing then []
 -- all lines in a view, of lost trees and then of lost files
 abbrev pub lost_lines : ListForm → Bool → View → Bool → List NodeFields → List Unnamed → List LostTree → List ℕ
 lost_lines form deleted view two nodes entries trees = flat_map (tree_lines form view two nodes) trees ++ flat_map (file_line form view two) (lost_files view deleted trees entries)
-
--- all lines where what is lost is looked for, of a volume that has these nodes; and else none
-unfoldable pub lost_text : ListForm → Bool → Option Searched → List NodeFields → List LostTree → List ℕ
-lost_text form deleted None nodes trees = []
-lost_text form deleted (Some s) nodes trees = lost_lines form deleted s.view s.two nodes s.entries trees
-
--- the lines of a report's nodes, and of what is lost
-abbrev pub full_list : ListForm → Bool → Blocks → Option Searched → Report → List LostTree → List ℕ
-full_list form deleted blocks searched report trees = list_text form blocks report ++ lost_text form deleted searched report.nodes trees

@@ -82,7 +82,7 @@ fn push_copies(text: &mut String, differ: bool) -> Result<(), OutOfMemory>
 }
 
 /// Whether a disc with this last block has room for a volume.
-pub(crate) fn has_room(last: u32) -> bool
+pub fn has_room(last: u32) -> bool
     ensures value { result ≡ has_room last }
     ensures from { IsTrue result → 513 ≤ last }
     ensures to { IsTrue result → last ≤ 4194303 }

@@ -5,6 +5,8 @@
 mod disagreements;
 mod disc_tallies;
 mod figures;
+mod found_lines;
+mod found_list;
 mod guarantees;
 mod left_out;
 mod lost_found;
@@ -33,7 +35,7 @@ mod unread_lines;
 mod volume_lines;
 mod widenings;
 
-pub use disagreements::{push_anchors_text, push_apart};
+pub use disagreements::{has_room, push_anchors_text, push_apart};
 pub use disc_tallies::{DiscTally, UnnamedTally, count_disc, count_unnamed};
 pub use figures::{push_grouped, push_percent, push_size};
 pub use guarantees::{push_guarantee, push_guarantee_line, push_why_place, push_why_words};

@@ -248,7 +248,7 @@ fn push_lost_row(
 
 /// The line of what is lost.
 #[tactic(auto, unfolding(crate::specs::LostLists::lost_line))]
-fn push_lost_line(
+pub(crate) fn push_lost_line(
     text: &mut String,
     form: ListForm,
     tail: bool,

@@ -7,9 +7,11 @@ ghost use Rattle.udfs_space.specs.Views.{view_now};
 ghost use Rattle.udfs_walk.specs.Bare.{full_entry, full_node};
 ghost use Rattle.udfs_salvage.specs.Printing.{PassesOn, Prints};
 ghost use Rattle.udfs_salvage.specs.Surveys.{survey_now};
-ghost use Rattle.udfs_overview.specs.LostLists.{file_line, full_list, lost_lines, lost_text, node_line, tree_lines};
+ghost use Rattle.udfs_overview.specs.FullLists.{full_list, lost_and_found, lost_text};
+ghost use Rattle.udfs_overview.specs.LostLists.{file_line, node_line, tree_lines};
 ghost use Rattle.udfs_overview.specs.Searched.{rootless_now, searched_now};
 
+use crate::found_list::put_found;
 use crate::lost_found::Lost;
 use crate::lost_lines::{place_column, push_file_line, push_lost_word, push_node_line};
 use crate::node_list::{ListForm, put_list};
@@ -135,7 +137,7 @@ fn put_files<W: Sink>(
     Ok(())
 }
 
-/// All lines of lost trees and lost files in a view, of a volume that has these nodes.
+/// All lines of lost trees and lost files in a view, of a volume that has these nodes, and of names that are found behind holes.
 fn put_lost_in<W: Sink>(
     alloc: Global,
     text: &mut String,
@@ -149,15 +151,18 @@ fn put_lost_in<W: Sink>(
     trees: &[LostTree],
 ) -> Result<(), RunError>
     ensures { PassesOn (W.stream sink.old) (W.stream sink.new) (string_bytes text.old) (string_bytes text.new)
-        (lost_lines form deleted (view_now view.entry) two nodes.now (map (full_entry (view_now view.entry)) entries.now) trees.now) result }
+        (lost_and_found form deleted (view_now view.entry) two nodes.now (map (full_entry (view_now view.entry)) entries.now) trees.now) result }
 {
     let files = lost_files(alloc, view, deleted, trees, entries)?;
     put_trees(alloc, text, sink, form, view, two, nodes, trees)?;
-    put_files(alloc, text, sink, form, view, two, &files)
+    put_files(alloc, text, sink, form, view, two, &files)?;
+    put_found(
+        alloc, text, sink, form, deleted, view, two, nodes, entries, trees,
+    )
 }
 
 /// All lines of lost trees and lost files of a volume that does not open.
-#[tactic(auto, unfolding(crate::specs::LostLists::lost_text))]
+#[tactic(auto, unfolding(crate::specs::FullLists::lost_text))]
 fn put_rootless<W: Sink>(
     alloc: Global,
     text: &mut String,
@@ -240,6 +245,11 @@ fn put_both<W: Sink>(
 /// in them. With `deleted` those of link count 0 are files too. Paths begin with `lost:` and the logical block of the folder's or the
 /// file's entry, with the partition reference and a `-` before it where there are two partitions. The folder's own path ends with `/`;
 /// a last column `in PATH` is behind it where its parent's identifier (ECMA-167 4/14.4.3) names a directory that is a node.
+///
+/// Behind these, unless only paths are asked for, come the names that are found behind holes of torn folders, as `found_names` of
+/// `udfs_lost` finds them, of lost files and of folders from which a lost tree is walked: of those folders that are nodes, by their
+/// paths, and of those in lost trees. Before the last column, `found`, is what the entry is called in the lines before. Such a name is
+/// evidence and no proof.
 ///
 /// # Errors
 ///

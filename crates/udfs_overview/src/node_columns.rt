@@ -160,7 +160,7 @@ pub(crate) fn push_told(
 }
 
 /// A `/` and a name.
-fn push_part(text: &mut String, name: &Name) -> Result<(), OutOfMemory>
+pub(crate) fn push_part(text: &mut String, name: &Name) -> Result<(), OutOfMemory>
     ensures { OnOk result (string_bytes text.new ≡ string_bytes text.old ++ safe_path (name.now ∷ [])) }
 {
     text.push('/')?;

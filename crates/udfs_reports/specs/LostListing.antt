@@ -15,7 +15,7 @@ use Rattle.udfs_salvage.specs.Headline.{HeadlineBy}
 use Rattle.udfs_salvage.specs.Printing.{Stopped}
 use Rattle.udfs_salvage.specs.Reports.{Report, IsReportBy, all_whole}
 use Rattle.udfs_salvage.specs.declared.errors.RunError.{RunError}
-use Rattle.udfs_overview.specs.LostLists.{full_list}
+use Rattle.udfs_overview.specs.FullLists.{full_list}
 use Rattle.udfs_overview.specs.LostTrees.{AreLostBy, IsUnfoundBy}
 use Rattle.udfs_overview.specs.Searched.{Searched, searched}
 use Rattle.udfs_overview.specs.declared.node_list.ListForm.{ListForm}

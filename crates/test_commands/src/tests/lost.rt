@@ -185,6 +185,32 @@ error udfsalvage: cannot make the folder\n
 $ extract -v --last 600 --to out --lost absent/found disc.tab
 error udfsalvage: cannot make the folder\n  absent/found: the system does not say why; the files that have a name are written\n
 
+= the_file_set_is_not_known_or_has_a_fault
+# The layout and the places are found, so the root is a lost folder: its link count, at byte 48 of its entry at logical block 1, is 1.
+write 273 48 \x01
+
+but 272
+$ extract --last 600 --to out --lost found disc.tab
+done 1 volume holes 272\nwritten lost:1/A\nwritten lost:1/B\n
+no-folder out
+has-folder found/1
+survives found/1/A text «2048*a»«2048*b»«904*c»
+survives found/1/B text Hi
+files 3
+
+but 272
+$ extract --last 600 --to out disc.tab
+done 1 volume holes 272\n
+no-folder out
+files 1
+
+write 272 0 \x01
+but
+$ extract --last 600 --to out --lost found disc.tab
+done 1 volume fault 16 FileSet\nwritten lost:1/A\nwritten lost:1/B\n
+survives found/1/B text Hi
+files 3
+
 = a_volume_that_does_not_open
 but 33 49
 

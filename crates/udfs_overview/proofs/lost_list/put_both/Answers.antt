@@ -3,7 +3,7 @@ use Rattle.std.specs.String.{string_bytes}
 use Rattle.std.proofs.lemmas.Result.{err_from_is_err_and}
 use Rattle.udfs_lattice.specs.Tables.{state_of}
 use Rattle.udfs_salvage.specs.Surveys.{survey_now}
-use Rattle.udfs_overview.specs.LostLists.{lost_text}
+use Rattle.udfs_overview.specs.FullLists.{lost_text}
 use Rattle.udfs_overview.specs.NodeLists.{list_text}
 use Rattle.udfs_overview.specs.Searched.{searched_now}
 use Rattle.udfs_salvage.proofs.Printed.{passes_two, stopped_first_of}
