@@ -174,18 +174,12 @@ fn tell_put<F: Files, O: Sink>(
 {
     let fate = end_of(put, named, files);
     let digest = put.done.digest;
-    let node = node_at(listing, index);
     note(&mut told.manifest, Done { fate, digest }, index)?;
+    let node = node_at(listing, index);
+    let own = &put.place.own;
+    let heard = tell(alloc, told.heard, fate, word, &node.path, own, out)?;
+    told.heard = heard;
     told.good = still_good(told.good, fate);
-    told.heard = tell(
-        alloc,
-        told.heard,
-        fate,
-        word,
-        &node.path,
-        &put.place.own,
-        out,
-    )?;
     remark_on_fate(alloc, listing, word, node, fate, &mut told.totals, files);
     let place = put.place.text.as_str();
     note_time(
