@@ -283,21 +283,11 @@ pub fn put_run<F: Files, O: Sink>(
     let put = put_each(
         alloc, listing, first, only, fill, short, digest, folder, way, &mut puts, files,
     );
-    let named = name_files(puts.as_slice(), files);
+    let made = puts.as_slice();
+    let named = name_files(made, files);
     tell_each(
-        alloc,
-        listing,
-        first,
-        puts.as_slice(),
-        named,
-        word,
-        only,
-        folder,
-        times,
-        told,
-        files,
-        out,
+        alloc, listing, first, made, named, word, only, folder, times, told, files, out,
     )?;
     put?;
-    Ok(first + puts.len())
+    Ok(first + made.len())
 }

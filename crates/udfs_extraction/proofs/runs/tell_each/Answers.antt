@@ -113,4 +113,4 @@ pub returns-clause-put : goal.returns-clause-put
 returns-clause-put g c fill short digest held =
     let before = c.loop-k.invariant.told fill short digest held in
     let end : c.loop-k.k ≡ length c.args.puts.now = search rules in
-    (before.0, before.1, before.2 ∙ end, before.3, before.4)
+    (before.0, before.1, (before.2 ∙ end, before.3, before.4))

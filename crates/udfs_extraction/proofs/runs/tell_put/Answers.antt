@@ -26,29 +26,29 @@ returns-clause-told g c =
 pub returns-in_err-note-clause-others : goal.returns-in_err-note-clause-others
 returns-in_err-note-clause-others g c =
     let F = g.F.Files in
-    put_others F.holds c.args.files.now c.end_of.new.files c.args.put.now c.end_of-fate.ensures.unwritten c.end_of-fate.ensures.others
+    put_others F.holds c.args.files.now c.end_of-fate.new.files c.args.put.now c.end_of-fate.ensures.unwritten c.end_of-fate.ensures.others
 
 pub returns-in_err-note-clause-crash : goal.returns-in_err-note-clause-crash
 returns-in_err-note-clause-crash g c =
     let F = g.F.Files in
-    put_goes F.moment F.may_leave F.left_since c.args.files.now c.end_of.new.files c.args.put.now c.end_of-fate.ensures.unwritten c.end_of-fate.ensures.crash
+    put_goes F.moment F.may_leave F.left_since c.args.files.now c.end_of-fate.new.files c.args.put.now c.end_of-fate.ensures.unwritten c.end_of-fate.ensures.crash
 
 pub returns-in_err-heard-clause-others : goal.returns-in_err-heard-clause-others
 returns-in_err-heard-clause-others g c =
     let F = g.F.Files in
-    put_others F.holds c.args.files.now c.end_of.new.files c.args.put.now c.end_of-fate.ensures.unwritten c.end_of-fate.ensures.others
+    put_others F.holds c.args.files.now c.end_of-fate.new.files c.args.put.now c.end_of-fate.ensures.unwritten c.end_of-fate.ensures.others
 
 pub returns-in_err-heard-clause-crash : goal.returns-in_err-heard-clause-crash
 returns-in_err-heard-clause-crash g c =
     let F = g.F.Files in
-    put_goes F.moment F.may_leave F.left_since c.args.files.now c.end_of.new.files c.args.put.now c.end_of-fate.ensures.unwritten c.end_of-fate.ensures.crash
+    put_goes F.moment F.may_leave F.left_since c.args.files.now c.end_of-fate.new.files c.args.put.now c.end_of-fate.ensures.unwritten c.end_of-fate.ensures.crash
 
 pub returns-clause-others : goal.returns-clause-others
 returns-clause-others g c =
     let F = g.F.Files in
-    put_others F.holds c.args.files.now c.end_of.new.files c.args.put.now c.end_of-fate.ensures.unwritten c.end_of-fate.ensures.others
+    put_others F.holds c.args.files.now c.end_of-fate.new.files c.args.put.now c.end_of-fate.ensures.unwritten c.end_of-fate.ensures.others
 
 pub returns-clause-crash : goal.returns-clause-crash
 returns-clause-crash g c =
     let F = g.F.Files in
-    put_goes F.moment F.may_leave F.left_since c.args.files.now c.end_of.new.files c.args.put.now c.end_of-fate.ensures.unwritten c.end_of-fate.ensures.crash
+    put_goes F.moment F.may_leave F.left_since c.args.files.now c.end_of-fate.new.files c.args.put.now c.end_of-fate.ensures.unwritten c.end_of-fate.ensures.crash
