@@ -1,4 +1,5 @@
 use Rattle.std.proofs.Common.{inl, inr, refl, ⊎_elim}
+use Rattle.udfs_index.specs.Copying.{AreAllTold}
 use Rattle.udfs_common.proofs.StoredLemmas.{of_held}
 use Rattle.udfs_tables.specs.Imaging.{ImageUnput, IsImageOf}
 use Rattle.udfs_tables.proofs.PairingLemmas.{no_input, of_held_disc, unbegun, wider}
@@ -7,12 +8,12 @@ use Rattle.udfs_tables.proofs.image.image_held.Goals as goal
 pub returns-in-Ok-put_imaged-clause-puts : goal.returns-in-Ok-put_imaged-clause-puts
 returns-in-Ok-put_imaged-clause-puts g c =
     let r = c.args.request.now in
-    wider _ _ (λ bytes text is. of_held_disc _ _ r c.args.last c.in-Ok.table (λ last t. IsImageOf g.F.Files.tells last bytes text t) c.requires c.in-Ok.ensures.joined is) (c.in-Ok-put_imaged.ensures.puts c.in-Ok.table (λ tells. refl))
+    wider _ _ (λ bytes text is. of_held_disc _ _ r c.args.last c.in-Ok.table (λ last t. IsImageOf (AreAllTold g.F.Stored.Stored.content) last bytes text t) c.requires c.in-Ok.ensures.joined is) (c.in-Ok-put_imaged.ensures.puts c.in-Ok.table (λ tells. refl))
 
 pub returns-clause-puts : goal.returns-clause-puts
 returns-clause-puts g c =
     let r = c.args.request.now in
-    wider _ _ (λ bytes text is. of_held_disc _ _ r c.args.last c.in-Ok.table (λ last t. IsImageOf g.F.Files.tells last bytes text t) c.requires c.in-Ok.ensures.joined is) (c.in-Err-put_imaged.ensures.puts c.in-Ok.table (λ tells. refl))
+    wider _ _ (λ bytes text is. of_held_disc _ _ r c.args.last c.in-Ok.table (λ last t. IsImageOf (AreAllTold g.F.Stored.Stored.content) last bytes text t) c.requires c.in-Ok.ensures.joined is) (c.in-Err-put_imaged.ensures.puts c.in-Ok.table (λ tells. refl))
 
 pub returns-in-Err-clause-puts : goal.returns-in-Err-clause-puts
 returns-in-Err-clause-puts g c = unbegun _ _ _ _ _ _ g.met.F.Files.only_now
