@@ -34,7 +34,7 @@ returns-clause-puts g c t shows =
     let are : IsImageOf (AreAllTold g.F.Stored.Stored.content) last (image_bytes t last) (map_text (table_status t) last) t = record { in_range = c.in-Ok.ensures.in_range; nothing_past = λ told. c.in-Ok.ensures.nothing_past t (shows told); image = refl; mapfile = refl } in
     record {
       put = tt;
-      left = left_made _ _ _ _ _ _ _ (not_made _ _ c.in-Err-put_at.ensures.why);
+      left = inr (left_made _ _ (not_made _ _ c.in-Err-put_at.ensures.why));
       spares = spares_there _ _ _ _ _ _ _ _ _ _ c.in-Ok-find_places.ensures.image c.in-Ok-find_places.ensures.mapfile are g.met.F.Files.only_now (goes_told g.F.Files _ _ (image_bytes t last) _ _ _ _ (λ tells. same_map (g.T.Statuses.statuses of) t last (told tells)) (c.put_at.ensures.goes t (λ tells. shows (g.met.F.Files.stored_told tells))));
     }
 
