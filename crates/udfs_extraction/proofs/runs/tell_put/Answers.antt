@@ -19,7 +19,7 @@ returns-clause-told g c =
       λ n at.
           let same : full_in (state_of l.table.now) (volume_now l.volume) m ≡ n = let e = sym c.node_at-node.ensures ∙ at in cc in
           subst (λ (p : List (List ℕ)). TellsOn c.args.told.now.heard c.in_ok-heard.heard (S.stream c.args.out.now) (S.stream c.tell.new.out) (fate_line c.args.word.now fate p c.args.put.now.place.own)) (seen ∙ ap (λ (x : NodeFields). x.path) same) c.in_ok-heard.ensures.lines,
-      c.still_good.ensures,
+      c.still_good-told.ensures,
       c.in_ok-note.ensures,
     )
 
