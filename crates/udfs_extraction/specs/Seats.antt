@@ -68,19 +68,27 @@ abbrev pub lead_part : Bool → Option Icb → List ℕ
 lead_part two None = []
 lead_part two (Some icb) = codes "/" ++ icb_number two icb.reference icb.block
 
+-- `found:`, and the path of a name that is found
+abbrev pub found_word : Bool → FoundAt → List ℕ
+found_word two p = codes "found:" ++ lead_word two p.tree ++ p.folder ++ p.name
+
+-- the folder in which it is, below `by-name`
+abbrev pub found_way : Bool → FoundAt → List ℕ
+found_way two p = codes "by-name" ++ lead_part two p.tree ++ p.folder
+
+-- and the name
+abbrev pub found_part : Bool → FoundAt → List ℕ
+found_part two p = found_way two p ++ p.name
+
 -- what stands before the paths of a tree in what is printed
 abbrev pub seat_word : Bool → Icb → Option FoundAt → List ℕ
 seat_word two icb None = tree_word two icb
-seat_word two icb (Some p) = codes "found:" ++ lead_word two p.tree ++ p.folder ++ p.name
-
--- the folder of a name that is found, and where that is
-abbrev pub found_way : Bool → FoundAt → List ℕ
-found_way two p = codes "by-name" ++ lead_part two p.tree ++ p.folder
+seat_word two icb (Some p) = found_word two p
 
 -- where a tree is written in the folder for what is lost
 abbrev pub seat_part : Bool → Icb → Option FoundAt → List ℕ
 seat_part two icb None = icb_number two icb.reference icb.block
-seat_part two icb (Some p) = found_way two p ++ p.name
+seat_part two icb (Some p) = found_part two p
 
 -- the path of the tree's first node
 abbrev pub seat_path : List ℕ → Bool → Icb → Option FoundAt → List ℕ

@@ -61,7 +61,7 @@ fn as_opened<'a>(
     profile: Profile,
     placed: PlacedVolume,
 ) -> Listing<'a>
-    ensures of { (listing_now result ≡ nodes_report table.now (found (stand_in (placed_now placed))) []) × (result.table ≡ table) }
+    ensures of { (listing_now result ≡ nodes_report table.now (found (stand_in (placed_now placed))) []) × (result.table.now ≡ table.now) }
 {
     let PlacedVolume { parts, space } = placed;
     Listing {

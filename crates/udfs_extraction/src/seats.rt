@@ -1,8 +1,8 @@
 //! Where what is lost is written: by its number, or by a name that was found for it.
 
-ghost use Rattle.std.specs.Prelude.{◌≡◌, ◌++◌, ℕ, List, None, Option, Some, IfOk, OnOk, codes, string_bytes};
+ghost use Rattle.std.specs.Prelude.{◌≡◌, ◌++◌, ℕ, List, None, Option, IfOk, IfSome, OnOk, codes, string_bytes};
 ghost use Rattle.udfs_files.specs.Disk.{Goes, Same};
-ghost use Rattle.udfs_extraction.specs.Seats.{FoundAt, IsSeat, found_way, lead_part, lead_word, seat_path, seat_word, tree_word};
+ghost use Rattle.udfs_extraction.specs.Seats.{FoundAt, IsSeat, found_part, found_way, found_word, lead_part, lead_word, seat_path, seat_word, tree_word};
 
 use crate::found_places::{FoundPlace, FoundPlaces};
 use crate::node_files::{path_in, put_folder};
@@ -82,7 +82,7 @@ fn found_way(alloc: Global, two: bool, name: &FoundPlace) -> Result<String, Allo
 
 /// What stands before the paths of a tree that is written by a name.
 fn found_word(alloc: Global, two: bool, name: &FoundPlace) -> Result<String, AllocError>
-    ensures { IfOk result (λ word. (icb : LbAddr) → string_bytes word ≡ seat_word two icb (Some name.now)) }
+    ensures { IfOk result (λ word. string_bytes word ≡ found_word two name.now) }
 {
     let mut word = String::from_str(alloc, "found:")?;
     push_lead_word(&mut word, two, name.tree)?;
@@ -100,8 +100,8 @@ fn named_seat(
     way: &str,
 ) -> Result<Seat, AllocError>
     requires { way.now ≡ found_way two name.now }
-    ensures word { IfOk result (λ seat. (icb : LbAddr) → string_bytes seat.word ≡ seat_word two icb (Some name.now)) }
-    ensures path { IfOk result (λ seat. (icb : LbAddr) → string_bytes seat.path ≡ seat_path folder.now two icb (Some name.now)) }
+    ensures word { IfOk result (λ seat. string_bytes seat.word ≡ found_word two name.now) }
+    ensures path { IfOk result (λ seat. string_bytes seat.path ≡ folder.now ++ codes "/" ++ found_part two name.now) }
 {
     let word = found_word(alloc, two, name)?;
     let mut path = String::from_str(alloc, folder)?;
@@ -146,7 +146,8 @@ fn open_seat<F: Files>(
     folder: &str,
     files: &mut F,
 ) -> Result<Option<Seat>, AllocError>
-    ensures seat { IfOk result (λ found. (seat : Seat) → found ≡ Some seat → (icb : LbAddr) → (string_bytes seat.word ≡ seat_word two icb (Some name.now)) × (string_bytes seat.path ≡ seat_path folder.now two icb (Some name.now))) }
+    ensures word { IfOk result (λ found. IfSome found (λ seat. string_bytes seat.word ≡ found_word two name.now)) }
+    ensures path { IfOk result (λ found. IfSome found (λ seat. string_bytes seat.path ≡ folder.now ++ codes "/" ++ found_part two name.now)) }
     ensures others { (q : List ℕ) → F.holds files.new q ≡ F.holds files.old q }
     ensures crash { Goes F.moment F.may_leave F.left_since files.old files.new Same }
 {

@@ -1,10 +1,7 @@
-use Rattle.std.proofs.Common.{◌≡◌, ◌⊎◌, ◌∙◌, inr, ap, subst, ⊤, alloc_error}
-use Rattle.std.specs.Prelude.{IfOk, MatchOption}
+use Rattle.std.proofs.Common.{inr, subst}
+use Rattle.std.specs.Prelude.{⊤, IfOk, MatchOption}
 use Rattle.udfs_lattice.specs.Tables.{state_of}
 use Rattle.udfs_salvage.specs.Listings.{listing_now}
-use Rattle.udfs_common.specs.declared.refusal.Refusal.{Refusal}
-use Rattle.udfs_common.specs.declared.refusal.Refusal.TheVariants.{Memory}
-use Rattle.udfs_extraction.specs.LostPlaces.{lost_report}
 use Rattle.udfs_extraction.specs.LostTrees.{AreFoundOf}
 use Rattle.udfs_extraction.specs.Refused.{IsUnsearched}
 use Rattle.udfs_extraction.proofs.LostPlaceLemmas.{if_err}

@@ -17,8 +17,8 @@ returns-in-Ok-clause-made g c = rw c.in-Some.is (
 pub returns-in-Ok-clause-spares : goal.returns-in-Ok-clause-spares
 returns-in-Ok-clause-spares g c = rw c.in-Some.is (lost_on _ _ _ _ _ (lost_same _ _ _ _ c.make_if_open.ensures.others c.make_if_open.ensures.crash) c.put_trees.ensures.spares)
 
-pub returns-in-Err-clause-why : goal.returns-in-Err-clause-why
-returns-in-Err-clause-why g c = rw c.in-Some.is (c.args.lost.trees.items, c.args.lost.names, rw c.in-Some.is at c.requires, inr c.in-Err.ensures.why)
+pub returns-clause-why : goal.returns-clause-why
+returns-clause-why g c = rw c.in-Some.is (c.args.lost.trees.items, c.args.lost.names, rw c.in-Some.is at c.requires, inr c.in-Err.ensures.why)
 
-pub returns-in-Err-clause-spares : goal.returns-in-Err-clause-spares
-returns-in-Err-clause-spares g c = rw c.in-Some.is (lost_on _ _ _ _ _ (lost_same _ _ _ _ c.make_if_open.ensures.others c.make_if_open.ensures.crash) c.put_trees.ensures.spares)
+pub returns-clause-spares : goal.returns-clause-spares
+returns-clause-spares g c = rw c.in-Some.is (lost_on _ _ _ _ _ (lost_same _ _ _ _ c.make_if_open.ensures.others c.make_if_open.ensures.crash) c.put_trees.ensures.spares)
