@@ -23,7 +23,7 @@ pub returns-in-Err-standing_in-clause-spares : goal.returns-in-Err-standing_in-c
 returns-in-Err-standing_in-clause-spares g c = inl refl
 
 pub returns-in-Err-find_trees-clause-why : goal.returns-in-Err-find_trees-clause-why
-returns-in-Err-find_trees-clause-why g c = unfound_trees _ _ c.args.request.now _ _ _ _ _ _ _ _ _ c.in-Ok.ensures.report c.in-Ok.ensures.of.0
+returns-in-Err-find_trees-clause-why g c = unfound_trees _ _ c.args.request.now _ _ _ _ c.in-Ok.listing.table.now _ (listing_now c.in-Ok.listing) _ _ c.in-Ok.ensures.report c.in-Ok.ensures.of.0
     (same_place _ _ _ _ _ _ c.in-Ok.ensures.rules c.in-Ok.ensures.of.1) c.in-Err-find_trees.ensures.refused
 
 pub returns-in-Err-find_trees-clause-spares : goal.returns-in-Err-find_trees-clause-spares
