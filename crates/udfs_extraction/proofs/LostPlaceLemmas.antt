@@ -1,14 +1,15 @@
 -- Where what is lost is looked for.
-use Rattle.std.proofs.Common.{◌≡◌, ◌∙◌, ap, refl, subst, sym, Bool, true, Bor, List, ℕ, Option, Some, None}
+use Rattle.std.proofs.Common.{◌≡◌, ◌∙◌, ap, refl, subst, sym, Bool, Bor, List, ℕ, Option, Some, None}
 use Rattle.std.specs.Prelude.{⊤, Result, Ok, Err, IfErr, IfOk, MatchOption}
 use Rattle.udfs_files.specs.declared.files.Files.{Ghosts}
 use Rattle.udfs_reading.specs.Device.{Stream}
 use Rattle.udfs_lost.specs.declared.trees.LostTree.{LostTree}
 use Rattle.udfs_salvage.specs.Reports.{Report}
 use Rattle.udfs_words.specs.declared.request.ExtractRequest.{ExtractRequest}
+use Rattle.udfs_common.specs.Reach.{Reach}
 use Rattle.udfs_common.specs.declared.refusal.Refusal.{Refusal}
-use Rattle.udfs_extraction.specs.LostFiles.{SparesLost}
-use Rattle.udfs_extraction.specs.LostTrees.{AreFoundOf, IsTreePut, PutsTrees, tree_lines}
+use Rattle.udfs_extraction.specs.ByRequest.{MakesTrees}
+use Rattle.udfs_extraction.specs.LostTrees.{AreFoundOf}
 use Rattle.udfs_extraction.specs.Refused.{TreesStop}
 use Rattle.udfs_extraction.specs.Seats.{FoundAt}
 use Rattle.udfs_lattice.specs.Tables.{Table, state_of}
@@ -46,17 +47,11 @@ pub if_err : {A E : Type 0} (P Q : E → Type 0) (r : Result A E) → ((e : E) �
 if_err P Q (Ok x) follows h = tt
 if_err P Q (Err e) follows h = follows e h
 
--- what `MakesTrees` says of files and their output
-abbrev pub MakesBy : {F I M S W O : Type 0} → Ghosts F I M S W → (W → Stream) → (O → Stream) → ExtractRequest → F → F → O → O → Table → Report → Bool → Type 0
-MakesBy files output stream r three new between after table report good = MatchOption r.trees ((new ≡ three) × (after ≡ between) × (good ≡ true))
-    (λ folder. ((trees : List LostTree) × (names : List FoundAt) × AreFoundOf r.deleted (state_of table) report trees names ×
-    PutsTrees (IsTreePut files output new table report.volume r.short_names folder.now names) (tree_lines table report.volume r.short_names) trees (stream between) (stream after) good) × SparesLost files folder.now three new)
-
 -- what is put of a place is put of what it stands in for
-pub moved_made : {F I M S W O : Type 0} (files : Ghosts F I M S W) (output : W → Stream) (stream : O → Stream) (r : ExtractRequest) (three new : F) (between after : O) (table of : Table) (report told : Report) (result : Result Bool Refusal) → table ≡ of → report ≡ told
-    → IfOk result (MakesBy files output stream r three new between after table report) → IfOk result (MakesBy files output stream r three new between after of told)
-moved_made files output stream r three new between after table of report told result same is h =
-    subst (λ (t : Table). IfOk result (MakesBy files output stream r three new between after t told)) same (subst (λ (m : Report). IfOk result (MakesBy files output stream r three new between after table m)) is h)
+pub moved_made : {F I M S W O : Type 0} (reach : Reach F I M S W) (stream : O → Stream) (r : ExtractRequest) (three new : F) (between after : O) (table of : Table) (report told : Report) (result : Result Bool Refusal) → table ≡ of → report ≡ told
+    → IfOk result (MakesTrees reach stream r three new between after table report) → IfOk result (MakesTrees reach stream r three new between after of told)
+moved_made reach stream r three new between after table of report told result same is h =
+    subst (λ (t : Table). IfOk result (MakesTrees reach stream r three new between after t told)) same (subst (λ (m : Report). IfOk result (MakesTrees reach stream r three new between after table m)) is h)
 
 pub moved_stop : {F I M S W : Type 0} (files : Ghosts F I M S W) (output : W → Stream) (deleted short : Bool) (new : F) (between after : Stream) (table of : Table) (report told : Report) (trees : Option (Bor (List ℕ))) (result : Result Bool Refusal) → table ≡ of → report ≡ told
     → IfErr result (λ refusal. MatchOption trees ⊥ (λ folder. TreesStop files output deleted short folder.now new between after table report refusal))
