@@ -85,7 +85,8 @@ impl<'a, C: Calls, R: std::rt::Files + Env + Clock + AllocGlobal, N: Watch> Mach
     }
 }
 
-impl<'a, C: Calls, R: std::rt::Files + Env + Clock + AllocGlobal, N: Watch> Files for Machine<'a, C, R, N> {
+impl<'a, C: Calls, R: std::rt::Files + Env + Clock + AllocGlobal, N: Watch> Files
+    for Machine<'a, C, R, N> {
     type Input = MachineInput<'a, C::File, N>;
 
     type Image = MachineImage<'a, C::File, N>;

@@ -280,8 +280,11 @@ nothing_there (Some u) s = absurd (let z : ⊥ = cc in z)
 
 pub numbers_more : (old new : BTreeMap ℕ Lent) (us : List Unnamed) (e : Lent) (icb : Icb) → icb ≡ icb_of_entry e.now → icb.block < 4294967296 → is_some (get nat_cmp old (number_of icb)) ≡ false
     → Updates nat_cmp old new (number_of icb) (Some e) → AgreeAt old us → AgreeAt new (us ++ e.now ∷ [])
-numbers_more old new us e icb is h absent u a = (all_near us e.now icb is h a.0, λ x k. ap (option_map now) (u.0 (number_of x) ∙ (λ i. cond (same_number x icb k (near icb h) i) (Some e) (get nat_cmp old (number_of x))))
-    ∙ go x k (is_icb x icb) refl ∙ sym (find_behind x us e.now))
+numbers_more old new us e icb is h absent u a = (
+  all_near us e.now icb is h a.0,
+  λ x k. ap (option_map now) (u.0 (number_of x) ∙ (λ i. cond (same_number x icb k (near icb h) i) (Some e) (get nat_cmp old (number_of x))))
+      ∙ go x k (is_icb x icb) refl ∙ sym (find_behind x us e.now),
+)
   where
     go : (x : Icb) → is_near x ≡ true → (b : Bool) → is_icb x icb ≡ b → option_map now (cond b (Some e) (get nat_cmp old (number_of x))) ≡ or_one (entry_of_icb us x) (cond (is_icb x (icb_of_entry e.now)) (Some e.now) None)
     go x k true p = sym (ap (λ z. or_one z (cond (is_icb x (icb_of_entry e.now)) (Some e.now) None)) (sym (a.1 x k) ∙ ap (λ z. option_map now (get nat_cmp old (number_of z))) (same_icb x icb p) ∙ nothing_there (get nat_cmp old (number_of icb)) absent)

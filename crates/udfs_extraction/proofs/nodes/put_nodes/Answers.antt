@@ -65,7 +65,7 @@ loop-next-preserved g c =
             let still = lines_still (placed c.args.short report) c.args.folder.now (F.holds c.loop-next.files) (F.holds c.put_run.new.files) (spares.stays told) 1 (drop 1 report.nodes) fates (notes_text c.args.short report c.loop-next.told.manifest.items) (inv.put.4 wanted told) in
             let text = step.put.2.2 wanted told in
             subst (IsManifest (F.holds c.put_run.new.files) c.args.folder.now c.args.short report (fates ++ more)) (sym text.2)
-                (texts_behind c.args.short report (F.holds c.put_run.new.files) c.args.folder.now first fates more (notes_text c.args.short report c.loop-next.told.manifest.items) text.0 count still text.1),
+            (texts_behind c.args.short report (F.holds c.put_run.new.files) c.args.folder.now first fates more (notes_text c.args.short report c.loop-next.told.manifest.items) text.0 count still text.1),
       );
       after = (let next = step.next.0 in omega (arith, next));
       way = step.way;
