@@ -51,8 +51,8 @@ count_files() {
             else if (whole == all) print "All " all " files are whole (" human(size) ")."
             else print whole + 0 " of " all " files are whole (" human(size) ")."
             if (torn) print torn " damaged: " human(lost) " of " (torn == 1 ? "it is" : "them are") " missing."
-            if (unread) print unread " unread: files or whole folders, of which nothing is known but the name."
-            if (folders) print folders (folders == 1 ? " folder lacks" : " folders lack") " names: there may be more files."
+            if (unread) print unread " unread: files or whole folders of which only the name is known."
+            if (folders) print "Names are missing in " folders (folders == 1 ? " folder" : " folders") ": there may be more files."
             if (odd) print odd " not understood: read, but not as a file should be."
         }' files.tsv
     # the worst: most of it missing
@@ -163,7 +163,7 @@ ways() {
         tell "  Go on:"
         tell "    $(again "$words_given" "$device")"
     elif [ -s work/needed ]; then
-        tell "  Clean the disc and start again, or take another drive than $(sed -n 's/^drive \([^ ]*\) is .*/\1/p' state | sort -u | paste -s -d ,):"
+        tell "  Clean the disc and start again, or take another drive than $(sed -n 's/^drive \([^ ]*\) is .*/\1/p' state | sort -u | paste -s -d , | sed 's/,/, /g'):"
         tell "    $(again "$only" "$(other_drive)")"
     fi
     if [ "$files" != 0 ] && [ -z "$to" ]; then
