@@ -195,6 +195,7 @@ remarked /A: the system does not say why\n1 written, 1 failed\n
 = names_that_do_not_come_to_the_disk
 # The folder of both files is synced once. If that fails, neither is told as written, and both are removed, if they can be.
 but
+
 calls-fail 6 6
 $ extract --last 600 --to out disc.tab
 done 1 failed /A\nfailed /B\n

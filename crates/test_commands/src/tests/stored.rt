@@ -71,13 +71,13 @@ $ merge --v1 --out t.tab two.rd
 inputs-fail 8219
 $ merge --v1 --out t.tab two.rd
 
-inputs-fail 4121
+inputs-fail 6000
 $ forget --conflicts --out t.tab two.rd
 
 inputs-fail 8219
 $ forget --conflicts --out t.tab two.rd
 
-inputs-fail 4121
+inputs-fail 6000
 $ image --last 513 --out d.img --mapfile d.map two.rd
 
 inputs-fail 8219
@@ -91,7 +91,7 @@ $ merge --v1 --out t.tab two.rd
 silent
 has t.tab table 300:61 301:62
 
-inputs-fail 8220
+inputs-fail 9000
 $ image --last 513 --out d.img --mapfile d.map two.rd
 silent
 has d.img text «614400*\0»«2048*a»«2048*b»«434176*\0»

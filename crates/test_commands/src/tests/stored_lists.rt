@@ -101,6 +101,7 @@ remarked the volume does not open: blocks 32 and 48 are needed\n
 
 = a_device_that_fails_in_the_middle_of_a_report
 # The same reads as for a list; and then those for the remark on the guarantee.
+at 256
 
 some 0 2104
 inputs-fail «n»
