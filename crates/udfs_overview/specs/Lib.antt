@@ -28,6 +28,7 @@ pub mod Repeating
 pub mod NextCommands
 pub mod Widenings
 pub mod NodeWidenings
+pub mod SummaryFigures
 pub mod Summaries
 pub mod SummaryJson
 pub mod SummaryPieces

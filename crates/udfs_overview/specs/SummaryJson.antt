@@ -1,11 +1,10 @@
 -- The figures of a summary as a JSON object. Keys are in byte order.
---     figures_of rules table last report      all that a summary counts, by the definitions of its lines
 --     guarantee_data answer                   whether the guarantee holds
 --     summary_json rules table last report answer    the object of a report, and a line feed
 use Rattle.std.specs.Prelude.{ℕ, ◌+◌, ◌*◌, ◌==◌, ◌&&◌, Bool, not, List, ◌++◌, codes, length}
 use Rattle.serde_json.specs.Data.{Data, null, boolean, string, object, Members, member, no_members}
 use Rattle.serde_json.specs.Written.{compact_text}
-use Rattle.udfs_lattice.specs.Tables.{Table, state_of}
+use Rattle.udfs_lattice.specs.Tables.{Table}
 use Rattle.udfs_osta.specs.declared.labels.Label.{Label}
 use Rattle.udfs_osta.specs.declared.labels.Label.TheVariants as label
 use Rattle.udfs_volume.specs.Answers.{Answer, found, holes, faulty}
@@ -19,32 +18,13 @@ use Rattle.udfs_salvage.specs.Reports.{Report}
 use Rattle.udfs_salvage.specs.Texts.{revision_text}
 use Rattle.udfs_lawfulness.specs.declared.answers.Lawfulness.{Lawfulness}
 use Rattle.udfs_lawfulness.specs.declared.answers.Lawfulness.TheVariants as answer
-use Rattle.udfs_overview.specs.DiscTallies.{disc_of, unnamed_of}
 use Rattle.udfs_overview.specs.Guarantees.{guarantee_text}
-use Rattle.udfs_overview.specs.MovedTags.{moved_count}
 use Rattle.udfs_overview.specs.SafeNames.{safe_name}
-use Rattle.udfs_overview.specs.Spares.{spares_disagree}
-use Rattle.udfs_overview.specs.Streams.{stream_count}
-use Rattle.udfs_overview.specs.Summaries.{is_all_whole}
-use Rattle.udfs_overview.specs.Tallies.{tally_of}
+use Rattle.udfs_overview.specs.SummaryFigures.{figures_of}
 use Rattle.udfs_overview.specs.declared.disc_tallies.DiscTally.{DiscTally}
 use Rattle.udfs_overview.specs.declared.disc_tallies.UnnamedTally.{UnnamedTally}
 use Rattle.udfs_overview.specs.declared.summary_figures.Figures.{Figures}
 use Rattle.udfs_overview.specs.declared.tallies.Tally.{Tally}
-
--- all that a summary counts
-unfoldable pub figures_of : Profile → Table → ℕ → Report → Figures
-figures_of rules table last r = record {
-  profile = rules;
-  last = last;
-  all_whole = is_all_whole r;
-  tally = tally_of (state_of table) r.nodes;
-  disc = disc_of table last r.reread;
-  unnamed = unnamed_of r.unnamed;
-  moved = moved_count (state_of table) r;
-  streams = stream_count (state_of table) r;
-  spares_disagree = spares_disagree (state_of table) r.volume;
-}
 
 -- what is not read may be a whole folder, and a torn folder may lack names: the figures of files and folders are the least that they can be
 abbrev pub is_at_least : Tally → Bool
@@ -172,6 +152,10 @@ summary_data (found o) f a = open_data f o.layout a
 summary_data (holes blocks) f a = holes_data f a
 summary_data (faulty fault) f a = fault_data f (volume_fault_name fault) a
 
--- the object of a report, where this answers whether it is lawful, and a line feed
+-- the object of a volume with these figures, where this answers whether it is lawful, and a line feed
+unfoldable pub figures_json : Answer Found → Figures → Lawfulness → List ℕ
+figures_json volume f a = compact_text (summary_data volume f a) ++ codes "\n"
+
+-- the object of a report by the rules of a profile
 unfoldable pub summary_json : Profile → Table → ℕ → Report → Lawfulness → List ℕ
-summary_json rules table last r a = compact_text (summary_data r.volume (figures_of rules table last r) a) ++ codes "\n"
+summary_json rules table last r a = figures_json r.volume (figures_of rules table last r) a

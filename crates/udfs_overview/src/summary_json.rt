@@ -1,31 +1,33 @@
 //! The figures of a summary as a JSON object. Each function appends to a text; if memory runs out, a part may be appended.
 
-ghost use Rattle.std.specs.Prelude.{◌≡◌, ◌++◌, OnOk, codes, decimal};
+ghost use Rattle.std.specs.Prelude.{◌≡◌, ◌++◌, IsErrOf, OnOk, codes, decimal};
 ghost use Rattle.std.specs.String.{string_bytes};
 ghost use Rattle.serde_json.specs.Data.{boolean, string};
 ghost use Rattle.serde_json.specs.Written.{compact_text};
+ghost use Rattle.udfs_lattice.specs.Tables.{Table};
 ghost use Rattle.udfs_volume.specs.FaultNames.{volume_fault_name};
 ghost use Rattle.udfs_volume.specs.LayoutParts.{parts_now};
 ghost use Rattle.udfs_salvage.specs.Found.{volume_now};
 ghost use Rattle.udfs_salvage.specs.Printing.{Prints};
-ghost use Rattle.udfs_salvage.specs.Surveys.{survey_now};
+ghost use Rattle.udfs_salvage.specs.StorePrinting.{PrintsBy};
+ghost use Rattle.udfs_salvage.specs.Surveys.{survey_by, survey_now};
 ghost use Rattle.udfs_salvage.specs.Texts.{revision_text};
 ghost use Rattle.udfs_overview.specs.Guarantees.{guarantee_text};
-ghost use Rattle.udfs_overview.specs.SummaryJson.{disc_data, fault_data, files_data, folders_data, guarantee_data, guarantee_state, holes_data, is_at_least, label_data, open_count, open_data, others_data, profile_name, remarks_data, summary_data, summary_json, unnamed_data};
+ghost use Rattle.udfs_overview.specs.SummaryJson.{disc_data, fault_data, figures_json, files_data, folders_data, guarantee_data, guarantee_state, holes_data, is_at_least, label_data, open_count, open_data, others_data, profile_name, remarks_data, summary_data, summary_json, unnamed_data};
 ghost use Rattle.udfs_overview.specs.SummaryPieces.{ends_piece, nodes_piece, whole_piece};
 
 use crate::disc_tallies::{DiscTally, UnnamedTally};
 use crate::guarantees::push_guarantee;
 use crate::node_objects::push_quoted;
 use crate::safe_names::push_safe_name;
-use crate::summary_figures::Figures;
+use crate::summary_figures::{Counts, Figures};
 use crate::tallies::Tally;
 use std::alloc::Global;
 use std::fmt::Write;
 use udfs_lawfulness::Lawfulness;
 use udfs_osta::{Label, OutOfMemory};
 use udfs_reading::Sink;
-use udfs_salvage::{RunError, Survey, Volume, flush, revision_name};
+use udfs_salvage::{PrintError, ReportStore, RunError, Survey, Volume, flush, revision_name};
 use udfs_volume::{Profile, VolumeFault, VolumeParts};
 
 /// A number behind other text.
@@ -405,18 +407,18 @@ fn push_volume(
     }
 }
 
-/// The object of the report that a survey represents, and a line feed.
-#[tactic(auto, unfolding(crate::specs::SummaryJson::summary_json))]
+/// The object of a volume, and a line feed.
+#[tactic(auto, unfolding(crate::specs::SummaryJson::figures_json))]
 fn push_summary(
     alloc: Global,
     text: &mut String,
-    survey: &Survey<'_>,
+    figures: &Figures,
+    volume: &Volume,
     answer: &Lawfulness,
 ) -> Result<(), OutOfMemory>
-    ensures { OnOk result (string_bytes text.new ≡ string_bytes text.old ++ summary_json survey.now.profile survey.now.table.now survey.now.last (survey_now survey.now) answer.now) }
+    ensures { OnOk result (string_bytes text.new ≡ string_bytes text.old ++ figures_json (volume_now volume.now) figures.now answer.now) }
 {
-    let figures = Figures::of(alloc, survey)?;
-    push_volume(alloc, text, &figures, &survey.volume, answer)?;
+    push_volume(alloc, text, figures, volume, answer)?;
     text.push_str("\n")
 }
 
@@ -435,7 +437,31 @@ pub fn write_summary_json<W: Sink>(
     ensures { Prints (W.stream sink.old) (W.stream sink.new)
         (summary_json survey.now.profile survey.now.table.now survey.now.last (survey_now survey.now) answer.now) result }
 {
+    match write_summary_json_by(alloc, survey, answer, sink) {
+        Ok(()) => Ok(()),
+        Err(PrintError::Run(error)) => Err(error),
+        Err(PrintError::Unread) => unreachable!(),
+    }
+}
+
+/// The same as [`write_summary_json`], by any store of blocks. All that is read is read before anything is written.
+///
+/// # Errors
+///
+/// `Run` with the error of [`write_summary_json`], and `Unread` where the bytes of a known block could not be read: what could not be read is never told as unknown.
+pub fn write_summary_json_by<B: ReportStore, W: Sink>(
+    alloc: Global,
+    survey: &Survey<'_, B>,
+    answer: &Lawfulness,
+    sink: &mut W,
+) -> Result<(), PrintError>
+    ensures printed { B.tells → (t : Table) → B.holds survey.now.table.now t → PrintsBy (W.stream sink.old) (W.stream sink.new)
+        (summary_json survey.now.profile t survey.now.last (survey_by B.states survey.now) answer.now) result }
+    ensures fails { IsErrOf result PrintError.Unread → B.fails }
+{
+    let counts = Counts::of(alloc, survey)?;
     let mut text = String::new(alloc);
-    push_summary(alloc, &mut text, survey, answer)?;
-    flush(&mut text, sink)
+    push_summary(alloc, &mut text, &counts.figures, &survey.volume, answer)?;
+    flush(&mut text, sink)?;
+    Ok(())
 }
