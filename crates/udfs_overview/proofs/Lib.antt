@@ -20,6 +20,7 @@ mod SeenNodes
 mod ShortTimes
 mod SpareCopies
 mod SpareLaws
+mod StoreSummaries
 mod Streaming
 mod TornOrder
 mod TornSorted

@@ -169,10 +169,7 @@ fn copies_disagree<B: BlockStore>(blocks: &B, map: &SparableMap) -> Result<bool,
 }
 
 /// Whether the copies of the sparing table of a partition disagree.
-fn partition_disagrees<B: BlockStore>(
-    blocks: &B,
-    partition: &Partition,
-) -> Result<bool, ReadFault>
+fn partition_disagrees<B: BlockStore>(blocks: &B, partition: &Partition) -> Result<bool, ReadFault>
     requires small { B.tells → IsNothingPast (B.states blocks.now) 4294967295 }
     ensures value { IfOk result (λ disagree. B.tells → disagree ≡ partition_disagrees (B.states blocks.now) (partition_now partition.now)) }
     ensures fails { OnErr result B.fails }

@@ -322,7 +322,13 @@ fn push_no_need(
 {
     match volume {
         Volume::Open(_) => {
-            push_extract_lines(text, given, figures.profile, figures.last, figures.all_whole)
+            push_extract_lines(
+                text,
+                given,
+                figures.profile,
+                figures.last,
+                figures.all_whole,
+            )
         }
         Volume::Holes(_) => Ok(()),
         Volume::Fault(_) => push_fault_lines(text, given, figures.last, figures.widening),

@@ -54,10 +54,7 @@ pub struct Figures {
 }
 
 /// Whether there are nodes, all are whole, and none is a file of a type that is not written.
-fn is_all_whole<B: BlockStore>(
-    alloc: Global,
-    survey: &Survey<'_, B>,
-) -> Result<bool, OutOfMemory>
+fn is_all_whole<B: BlockStore>(alloc: Global, survey: &Survey<'_, B>) -> Result<bool, OutOfMemory>
     ensures { IfOk result (λ whole. whole ≡ is_all_whole (survey_by B.states survey.now)) }
 {
     let types = left_out_types(alloc, survey)?;

@@ -229,11 +229,7 @@ fn is_disputed<B: BlockStore>(blocks: &B, standing: &Standing) -> bool
 }
 
 /// What a node with this standing lacks.
-fn torn_part<'a, B: BlockStore>(
-    blocks: &B,
-    node: &'a Node,
-    standing: &Standing,
-) -> TornFile<'a>
+fn torn_part<'a, B: BlockStore>(blocks: &B, node: &'a Node, standing: &Standing) -> TornFile<'a>
     ensures { B.tells → torn_now result ≡ torn_part (B.states blocks.now) (node_with node.now standing.now) }
 {
     TornFile {

@@ -4,7 +4,9 @@ use Rattle.std.proofs.KnownBytes.{Appends-nil}
 use Rattle.std.specs.Prelude.{Result, Ok, Err}
 use Rattle.udfs_reading.specs.Device.{Stream}
 use Rattle.udfs_reading.specs.Writing.{Passed}
-use Rattle.udfs_salvage.specs.Printing.{PassesOn, Stopped}
+use Rattle.udfs_salvage.specs.Printing.{Stopped}
+use Rattle.udfs_salvage.specs.StorePrinting.{PassesOnBy, leaves_as}
+use Rattle.udfs_salvage.specs.declared.errors.PrintError.{PrintError}
 use Rattle.udfs_salvage.specs.declared.errors.RunError.{RunError}
 use Rattle.udfs_salvage.specs.declared.errors.RunError.TheVariants.{OutOfMemory}
 
@@ -25,9 +27,9 @@ pub pushed_passed : (a c : Stream) (p q s x y : List ℕ) → q ≡ p ++ x → P
 pushed_passed a c p q s x y e h = record { out = h.out; given = h.given; whole = held_then p q x y e ∙ h.whole; kept = h.kept }
 
 -- text was appended, and then more was passed on, or not
-pub pushed_then : {X : Type 0} (a c : Stream) (p q s x y : List ℕ) (r : Result X RunError) → q ≡ p ++ x → PassesOn a c q s y r → PassesOn a c p s (x ++ y) r
-pushed_then a c p q s x y (Ok u) e h = pushed_passed a c p q s x y e h
-pushed_then a c p q s x y (Err z) e h = pushed_stopped a c p q x y z e h
+pub pushed_then_by : {X : Type 0} (a c : Stream) (p q s x y : List ℕ) (r : Result X PrintError) → q ≡ p ++ x → PassesOnBy a c q s y r → PassesOnBy a c p s (x ++ y) r
+pushed_then_by a c p q s x y (Ok u) e h = pushed_passed a c p q s x y e h
+pushed_then_by a c p q s x y (Err z) e h = pushed_stopped a c p q x y (leaves_as z) e h
 
 -- what was passed on, and what is held behind it
 out_then : (p q x y out : List ℕ) → p ++ x ≡ out ++ q → p ++ (x ++ y) ≡ out ++ (q ++ y)
