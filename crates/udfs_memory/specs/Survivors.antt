@@ -176,16 +176,16 @@ known_kept (Written q bytes ∷ es) p h c is kept = elim (decide p q.items) [
 known_kept (Renamed from to ∷ es) p h c is kept = elim (decide p to.items) [
   | inl hit ↦ ⊎_elim (λ k. known_kept es from.items h c (sym (ap (λ b. if b then held es from.items else if bytes_eq p from.items then Some None else held es p) hit.0) ∙ is) k.1)
       (λ more. ⊎_elim (λ k. absurd (k.1 hit.1)) (λ k. absurd (k.1 hit.1)) more) kept
-  | inr miss ↦ further (decide p from.items) miss.1 (sym (ap (λ b. if b then held es from.items else if bytes_eq p from.items then Some None else held es p) miss.0) ∙ is)
+  | inr miss ↦ further (λ at k. known_kept es p h c at k) (decide p from.items) miss.1 (sym (ap (λ b. if b then held es from.items else if bytes_eq p from.items then Some None else held es p) miss.0) ∙ is)
 ]
   where
-    further : ((bytes_eq p from.items ≡ true) × (p ≡ from.items)) ⊎ ((bytes_eq p from.items ≡ false) × (p ≢ from.items)) → p ≢ to.items → (if bytes_eq p from.items then Some None else held es p) ≡ Some h → c ≡ h
-    further (inl hit) far at =
+    further : (held es p ≡ Some h → may_be_kept es p c → c ≡ h) → ((bytes_eq p from.items ≡ true) × (p ≡ from.items)) ⊎ ((bytes_eq p from.items ≡ false) × (p ≢ from.items)) → p ≢ to.items → (if bytes_eq p from.items then Some None else held es p) ≡ Some h → c ≡ h
+    further before (inl hit) far at =
         let e : Some None ≡ Some h = sym (ap (λ b. if b then Some None else held es p) hit.0) ∙ at in
         let same : None ≡ h = cc in
         ⊎_elim (λ k. absurd (far k.0)) (λ more. ⊎_elim (λ k. k.2 ∙ same) (λ k. absurd (k.0 hit.1)) more) kept
-    further (inr miss) far at =
-        ⊎_elim (λ k. absurd (far k.0)) (λ more. ⊎_elim (λ k. absurd (miss.1 k.0)) (λ k. known_kept es p h c (sym (ap (λ b. if b then Some None else held es p) miss.0) ∙ at) k.2) more) kept
+    further before (inr miss) far at =
+        ⊎_elim (λ k. absurd (far k.0)) (λ more. ⊎_elim (λ k. absurd (miss.1 k.0)) (λ k. before (sym (ap (λ b. if b then Some None else held es p) miss.0) ∙ at) k.2) more) kept
 known_kept (Removed q ∷ es) p h c is kept = elim (decide p q.items) [
   | inl hit ↦
       let e : Some None ≡ Some h = sym (ap (λ b. if b then Some None else held es p) hit.0) ∙ is in

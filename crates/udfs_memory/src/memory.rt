@@ -552,6 +552,10 @@ impl Files for Memory {
         self.faults = self.faults.wrapping_add(1);
     }
 
+    fn seconds(&self) -> u64 {
+        0
+    }
+
     fn reason(&self) -> Option<Error> {
         None
     }
