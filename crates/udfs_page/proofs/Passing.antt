@@ -2,10 +2,12 @@
 use Rattle.std.proofs.Common.{◌≡◌, ◌∙◌, sym, ap, refl, ℕ, List, [], ◌++◌, append_assoc}
 use Rattle.std.proofs.KnownBytes.{Appends-nil}
 use Rattle.std.specs.Prelude.{Result, Ok, Err}
+use Rattle.udfs_lattice.specs.declared.blocks.GaveUp.{GaveUp}
+use Rattle.udfs_lattice.specs.declared.blocks.GaveUp.TheVariants as gave_up
 use Rattle.udfs_reading.specs.Device.{Stream}
 use Rattle.udfs_reading.specs.Writing.{Passed}
 use Rattle.udfs_salvage.specs.Printing.{Stopped}
-use Rattle.udfs_salvage.specs.StorePrinting.{PassesOnBy, leaves_as}
+use Rattle.udfs_salvage.specs.StorePrinting.{PassesOnBy, leaves_as, print_error}
 use Rattle.udfs_salvage.specs.declared.errors.PrintError.{PrintError}
 use Rattle.udfs_salvage.specs.declared.errors.RunError.{RunError}
 use Rattle.udfs_salvage.specs.declared.errors.RunError.TheVariants.{OutOfMemory}
@@ -13,6 +15,11 @@ use Rattle.udfs_salvage.specs.declared.errors.RunError.TheVariants.{OutOfMemory}
 -- there was no memory for any of it
 pub refused_first : (a : Stream) (p text : List ℕ) → Stopped a a (p ++ text) OutOfMemory
 refused_first a p text = record { out = []; rest = p ++ text; given = Appends-nil a.contents; whole = refl; count = refl }
+
+-- or a read failed before it
+pub gave_up_first : (a : Stream) (p text : List ℕ) (why : GaveUp) → Stopped a a (p ++ text) (leaves_as (print_error why))
+gave_up_first a p text gave_up.OutOfMemory = refused_first a p text
+gave_up_first a p text gave_up.Unread = refused_first a p text
 
 -- what was held, with more behind it
 held_then : (p q x y : List ℕ) → q ≡ p ++ x → p ++ (x ++ y) ≡ q ++ y
