@@ -1,6 +1,6 @@
 -- Where what is lost is looked for.
 use Rattle.std.proofs.Common.{◌≡◌, ◌∙◌, ap, refl, sym, List, ℕ, Option, Some, None}
-use Rattle.std.specs.Prelude.{Result, Ok, Err, IfOk}
+use Rattle.std.specs.Prelude.{Result, Ok, Err, IfErr, IfOk}
 use Rattle.udfs_lattice.specs.Tables.{Table, state_of}
 use Rattle.udfs_volume.specs.Answers.{found, holes, faulty}
 use Rattle.udfs_volume.specs.declared.faults.VolumeFault.{VolumeFault}
@@ -31,3 +31,7 @@ faulty_place l s fault is stands = closed_place l s (ap (λ v. report_unless v (
 pub if_ok : {A E : Type 0} (P Q : A → Type 0) (r : Result A E) → ((x : A) → P x → Q x) → IfOk r P → IfOk r Q
 if_ok P Q (Ok x) follows h = follows x h
 if_ok P Q (Err e) follows h = tt
+
+pub if_err : {A E : Type 0} (P Q : E → Type 0) (r : Result A E) → ((e : E) → P e → Q e) → IfErr r P → IfErr r Q
+if_err P Q (Ok x) follows h = tt
+if_err P Q (Err e) follows h = follows e h

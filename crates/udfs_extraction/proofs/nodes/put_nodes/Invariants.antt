@@ -23,4 +23,4 @@ invariant-loop-next g l =
     }
 
 abbrev pub decreases-loop-next : goal.decreases-loop-next
-decreases-loop-next l = length l.listing.nodes.items - l.next
+decreases-loop-next g l = length l.listing.nodes.items - l.next
