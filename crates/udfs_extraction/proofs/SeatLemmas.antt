@@ -1,10 +1,10 @@
 -- How names that are found are gathered, and the way to one is made.
-use Rattle.std.proofs.Common.{◌≡◌, ◌⊎◌, ◌∙◌, inl, inr, refl, sym, ap, subst, ⊎_elim, ℕ, Bool, List, [], ◌∷◌, ◌++◌, Option, Some, None, map}
+use Rattle.std.proofs.Common.{◌≡◌, ◌⊎◌, ◌∙◌, ◌<◌, inl, inr, refl, sym, ap, subst, ⊎_elim, ℕ, Bool, Bor, List, [], ◌∷◌, ◌++◌, Option, Some, None, get_or, length, map}
 use Rattle.std.specs.Prelude.{Contains}
 use Rattle.std.proofs.lemmas.List.Elements.{Contains-push_cases}
 use Rattle.udfs_files.specs.Disk.{Disk, Goes, Same}
 use Rattle.udfs_lattice.specs.Volumes.{Blocks}
-use Rattle.udfs_lattice.proofs.Inclusion.{Includes, contained, included}
+use Rattle.udfs_lattice.proofs.Inclusion.{contained, in_nothing, included}
 use Rattle.udfs_volume.specs.Answers.{Answer, found}
 use Rattle.udfs_space.specs.Places.{View, view}
 use Rattle.udfs_walk.specs.Bare.{full_entry, full_node}
@@ -14,12 +14,13 @@ use Rattle.udfs_walk.specs.declared.answers.Unnamed.{Unnamed}
 use Rattle.udfs_lost.specs.Folders.{AreLostRoots}
 use Rattle.udfs_lost.specs.FoundNames.{found_names, full_found, torn_folders, unplaced}
 use Rattle.udfs_lost.specs.declared.trees.LostTree.{LostTree}
+use Rattle.udfs_lost.proofs.Members.{item_in}
 use Rattle.udfs_lost.proofs.PublicLaws.{bare_entries_will_do, bare_names_will_do}
 use Rattle.udfs_salvage.specs.Found.{Found}
 use Rattle.udfs_salvage.specs.Listings.{full_entry_in, full_in}
 use Rattle.udfs_extraction.specs.Adding.{Adds}
 use Rattle.udfs_extraction.specs.LostTrees.{AreNamesBy, AreNamesIn}
-use Rattle.udfs_extraction.specs.Seats.{FoundAt, IsFoundAmong, IsFoundAt, IsFoundIn}
+use Rattle.udfs_extraction.specs.Seats.{FoundAt, IsFoundAmong, IsFoundAt, IsFoundBelow, IsFoundIn}
 use Rattle.udfs_extraction.proofs.FoundLemmas.{in_map}
 use Rattle.udfs_extraction.proofs.PutNodes.{goes_on}
 
@@ -35,6 +36,19 @@ adds_on P old mid new one two x is = ⊎_elim (λ before. one x before) (λ hold
 
 pub adds_wider : {A : Type 0} (P Q : A → Type 0) (old new : List A) → ((x : A) → P x → Q x) → Adds P old new → Adds Q old new
 adds_wider P Q old new to adds x is = ⊎_elim (λ before. inl before) (λ holds. inr (to x holds)) (adds x is)
+
+-- an item of a list
+pub item_at : {A : Type 0} (xs : List A) (k : ℕ) (x : A) → k < length xs → x ≡ get_or xs k x → Contains xs x
+item_at xs k x below at = subst (λ y. Contains xs y) (sym at) (item_in xs k x below)
+
+-- what one that is lent leads to
+pub lent_at : {A : Type 0} (xs : List (Bor A)) (ys : List A) (k : ℕ) (x : Bor A) → map (λ (b : Bor A). b.now) xs ≡ ys → k < length xs → x ≡ get_or xs k x → Contains ys x.now
+lent_at {A} xs ys k x are below at = subst (λ l. Contains l x.now) are (contained _ _ (in_map (λ (b : Bor A). b.now) xs x (included xs x (item_at xs k x below at))))
+
+-- all that was found in nodes, and then in trees
+pub found_all : (v : View) (us told : List Unnamed) (nodes : List NodeFields) (trees : List LostTree) (none some all : List FoundAt) → us ≡ told → none ≡ [] → Adds (IsFoundAmong v us None nodes) none some → Adds (IsFoundBelow v us trees) some all
+    → (p : FoundAt) → Contains all p → IsFoundIn v told nodes trees p
+found_all v us told nodes trees none some all same empty first second p is = subst (λ l. IsFoundIn v l nodes trees p) same (⊎_elim (λ before. ⊎_elim (λ never. in_nothing p (subst (λ l. Contains l p) empty never)) (λ among. inl among) (first p before)) (λ below. inr below) (second p is))
 
 -- ---- names of nodes and entries with what they lack
 module _ (v : View) (deleted : Bool) (folders : List LostTree) (es : List Unnamed) where

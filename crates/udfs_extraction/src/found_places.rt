@@ -91,7 +91,7 @@ impl FoundPlaces {
 
     /// Adds a name, unless one for the same entry is there, or there are as many as may be.
     fn add(&mut self, place: FoundPlace) -> Result<(), AllocError>
-        ensures { OnOk result (Adds (λ p. p ≡ place.now) self.old self.new) }
+        ensures { OnOk result (Adds (λ p. p ≡ place) self.old self.new) }
     {
         let number = place.icb.number();
         let bytes = self
