@@ -26,10 +26,14 @@ abbrev pub number_in : List StoredFile → List ℕ → Option ℕ
 number_in [] p = None
 number_in (file ∷ rest) p = if bytes_eq p file.path.now then Some (length rest) else number_in rest p
 
+-- the bytes of a file; not known of a folder or a device
+abbrev pub known_bytes : StoredFile → Option (List ℕ)
+known_bytes file = if file.is_file then Some file.bytes.now else None
+
 -- the bytes of the file of a number
 abbrev pub bytes_in : List StoredFile → ℕ → Option (List ℕ)
 bytes_in [] number = None
-bytes_in (file ∷ rest) number = if nat_eq number (length rest) then Some file.bytes.now else bytes_in rest number
+bytes_in (file ∷ rest) number = if nat_eq number (length rest) then known_bytes file else bytes_in rest number
 
 -- the disk when the run began
 abbrev pub start_of : List StoredFile → Start

@@ -1,9 +1,9 @@
 -- What the calls on files in memory tell.
 --     log_of stored calls             the log of the calls
---     IsInPlace log path              it is a device by its path, or leads to a new folder
+--     IsInPlace log path              it is a device by its path, or leads to a new folder, or to what was there and is no regular file
 --     IsShut stored log path          it is not spelled in full, or leads to no file that was there when the run began
 use Rattle.std.specs.Prelude.{◌≡◌, ◌≢◌, ◌⊎◌, ℕ, List, Option, Some, None, true}
-use Rattle.udfs_calls.specs.Log.{Call, Log, Names, names_folder}
+use Rattle.udfs_calls.specs.Log.{Call, Log, Names, names_folder, node_at}
 use Rattle.udfs_calls.specs.Log.Node.{there}
 use Rattle.udfs_calls.specs.Paths.{IsDevice}
 use Rattle.udfs_memory.specs.Keeping.{bytes_in, start_of}
@@ -14,9 +14,14 @@ use Rattle.udfs_memory.specs.declared.kept.StoredFile.{StoredFile}
 abbrev pub log_of : List StoredFile → List Call → Option Log
 log_of stored calls = Some (record { start = start_of stored; calls = calls })
 
--- it is a device by its path, or leads to a new folder
+-- what this path names was there when the run began, and its bytes are not known: it is no regular file
+abbrev pub IsNoFile : Option Log → List ℕ → Type 0
+IsNoFile None path = ⊥
+IsNoFile (Some log) path = (number : ℕ) × (node_at log.start log.calls path ≡ Some (there number)) × (log.start.content number ≡ None)
+
+-- it is a device by its path, or leads to a new folder, or to what was there and is no regular file
 abbrev pub IsInPlace : Option Log → List ℕ → Type 0
-IsInPlace log path = IsDevice path ⊎ (names_folder log (spelled path) ≡ true)
+IsInPlace log path = IsDevice path ⊎ (names_folder log (spelled path) ≡ true) ⊎ IsNoFile log (spelled path)
 
 -- it is not spelled in full, or leads to no file that was there when the run began
 abbrev pub IsShut : List StoredFile → Option Log → List ℕ → Type 0

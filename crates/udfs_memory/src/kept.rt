@@ -7,13 +7,17 @@ ghost use Rattle.udfs_memory.specs.Noted.{call_of};
 use crate::deeds::Deed;
 use std::alloc::{AllocError, Global};
 
-/// A file that is there when the run begins.
+/// A file, a folder or a device that is there when the run begins.
 #[derive(Clone, Copy)]
 pub struct StoredFile<'a> {
     /// Its path, spelled in full: from the root, or from `./` on.
     pub path: &'a str,
-    /// All its bytes.
+    /// All its bytes, or what is read from the device.
     pub bytes: &'a [u8],
+    /// Whether it is a regular file.
+    pub is_file: bool,
+    /// Whether it is a folder.
+    pub is_folder: bool,
 }
 
 /// What a call did.
@@ -123,11 +127,22 @@ pub(crate) fn stored_bytes<'a>(stored: &'a [StoredFile<'a>], number: usize) -> O
         [] => None,
         [file, rest @ ..] => {
             if number == rest.len() {
-                return Some(file.bytes);
+                if file.is_file {
+                    return Some(file.bytes);
+                }
+                return None;
             }
             stored_bytes(rest, number)
         }
     }
+}
+
+/// The file of this number among those that were there when the run began.
+pub(crate) fn stored_file<'a>(
+    stored: &'a [StoredFile<'a>],
+    number: usize,
+) -> Option<&'a StoredFile<'a>> {
+    stored.iter().rev().nth(number)
 }
 
 /// The bytes of the new file of this number, once it was synced.
@@ -163,4 +178,28 @@ pub(crate) fn copied(alloc: Global, deed: &Deed<'_>) -> Result<What, AllocError>
         Deed::FolderMade(path) => What::FolderMade(path.as_bytes().to_vec(alloc)?),
         Deed::FolderSynced(path) => What::FolderSynced(path.as_bytes().to_vec(alloc)?),
     })
+}
+
+/// The path of the folder that a path is in.
+pub(crate) fn parent(path: &[u8]) -> &[u8] {
+    match path.iter().rposition(|byte| *byte == b'/') {
+        Some(0) => b"/",
+        Some(at) => path.get(..at).unwrap_or(&[]),
+        None => b".",
+    }
+}
+
+/// Whether the name of a folder is on the disk: it was there when the run began, or its own folder was synced since it was made, when the name of that one
+/// was on the disk.
+pub(crate) fn is_named(kept: &[Kept], folder: &[u8]) -> bool {
+    match kept {
+        [] => true,
+        [kept, earlier @ ..] => match &kept.what {
+            What::FolderMade(made) if is_same(made, folder) => false,
+            What::FolderSynced(above) if is_same(parent(folder), above) => {
+                is_named(earlier, above) || is_named(earlier, folder)
+            }
+            _ => is_named(earlier, folder),
+        },
+    }
 }
