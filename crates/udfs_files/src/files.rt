@@ -310,6 +310,9 @@ pub trait Files {
         ensures may_leave { (c : Disk) → may_leave self.new c → may_leave self.old c }
         ensures left_since { (t : ℕ) (c : Disk) → left_since self.new t c → left_since self.old t c };
 
+    /// How many whole seconds have passed since some moment, by the machine's clock, or 0 where it has none. Nothing is promised of it.
+    fn seconds(&self) -> u64;
+
     /// Why the last of the calls that failed did so, where the system said it. It is for a person to read, and nothing is promised of it.
     fn reason(&self) -> Option<Error>;
 

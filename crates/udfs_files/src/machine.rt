@@ -18,16 +18,16 @@ use crate::resolving::resolve;
 use crate::watch::{Stage, Watch, heeded};
 use std::alloc::{AllocError, Global};
 use std::io::{Error, ErrorKind};
-use std::rt::Env;
+use std::rt::{Clock, Env};
 use std::time::{Duration, SystemTime};
 use udfs_calls::Calls;
 use udfs_reading::DeviceFault;
 use udfs_times::{Times, Zone};
 
 /// The machine's files, over its system calls: they tell what the calls tell. A link is neither moved nor replaced, and a folder is not opened. The name
-/// of a new folder comes to the disk before a second folder is made, or the names in it. The runtime gives memory and the zone of its clock alone.
+/// of a new folder comes to the disk before a second folder is made, or the names in it. The runtime gives memory, the time and the zone of its clock alone.
 #[derive(Drop)]
-pub struct Machine<'a, C: Calls, R: std::rt::Files + Env + AllocGlobal, N: Watch> {
+pub struct Machine<'a, C: Calls, R: std::rt::Files + Env + Clock + AllocGlobal, N: Watch> {
     calls: C,
     rt: &'a R,
     watch: &'a N,
@@ -38,7 +38,7 @@ pub struct Machine<'a, C: Calls, R: std::rt::Files + Env + AllocGlobal, N: Watch
     ghost named: { AreNamed (C.log calls) (path_of unnamed) } by { AreNamed-prop (C.log calls) (path_of unnamed) },
 }
 
-impl<'a, C: Calls, R: std::rt::Files + Env + AllocGlobal, N: Watch> Machine<'a, C, R, N> {
+impl<'a, C: Calls, R: std::rt::Files + Env + Clock + AllocGlobal, N: Watch> Machine<'a, C, R, N> {
     /// The files that these calls reach, of which none was made yet, and who watches what is done with them. `room` is a text with room for the path of a folder
     /// (4,096 bytes on Linux): where it has that, no memory is taken while folders are made.
     pub fn new(calls: C, rt: &'a R, watch: &'a N, room: String) -> Machine<'a, C, R, N>
@@ -66,7 +66,7 @@ fn changed<C: Calls>(calls: &C, path: &str, micros: u64) -> Result<(), Error> {
     calls.set_modified(path, time)
 }
 
-impl<'a, C: Calls, R: std::rt::Files + Env + AllocGlobal, N: Watch> Machine<'a, C, R, N> {
+impl<'a, C: Calls, R: std::rt::Files + Env + Clock + AllocGlobal, N: Watch> Machine<'a, C, R, N> {
     /// The outcome of a call that changes files, counted. Why it failed is kept.
     fn heeded<T: Drop>(&mut self, outcome: Result<T, Error>) -> Result<T, DeviceFault>
         ensures value { IfOk result (λ value. outcome ≡ Ok value) }
@@ -85,7 +85,7 @@ impl<'a, C: Calls, R: std::rt::Files + Env + AllocGlobal, N: Watch> Machine<'a, 
     }
 }
 
-impl<'a, C: Calls, R: std::rt::Files + Env + AllocGlobal, N: Watch> Files for Machine<'a, C, R, N> {
+impl<'a, C: Calls, R: std::rt::Files + Env + Clock + AllocGlobal, N: Watch> Files for Machine<'a, C, R, N> {
     type Input = MachineInput<'a, C::File, N>;
 
     type Image = MachineImage<'a, C::File, N>;
@@ -224,6 +224,13 @@ impl<'a, C: Calls, R: std::rt::Files + Env + AllocGlobal, N: Watch> Files for Ma
 
     fn count_fault(&mut self) {
         self.faults = self.faults.wrapping_add(1);
+    }
+
+    fn seconds(&self) -> u64 {
+        match self.rt.monotonic() {
+            Ok(since) => since.as_secs(),
+            Err(_) => 0,
+        }
     }
 
     fn reason(&self) -> Option<Error> {

@@ -4,7 +4,8 @@ use std::alloc::Allocator;
 use std::env::FillError;
 use std::fs::{Metadata, OpenFile, OpenOptions};
 use std::io::{Error, ErrorKind, Read, Seek, SeekFrom, Write};
-use std::rt::{Env, Files};
+use std::rt::{Clock, Env, Files};
+use std::time::Duration;
 
 /// What it says of all but the zone.
 fn unsupported() -> Error {
@@ -80,6 +81,16 @@ impl Env for Clockwork {
 
     fn var_at(&self, _i: usize, _buf: &mut [u8]) -> Result<usize, FillError> {
         Err(FillError::NotPresent)
+    }
+}
+
+impl Clock for Clockwork {
+    fn monotonic(&self) -> Result<Duration, Error> {
+        Err(unsupported())
+    }
+
+    fn since_1970(&self) -> Result<Duration, Error> {
+        Err(unsupported())
     }
 }
 

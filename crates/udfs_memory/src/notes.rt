@@ -75,7 +75,10 @@ impl Notes {
 
     /// What was done since this was last asked, the newest first.
     pub(crate) fn take(&self) -> Vec<Kept> {
-        self.done.replace(Vec::new(self.alloc))
+        match self.done.try_replace(Vec::new(self.alloc)) {
+            Ok(done) => done,
+            Err(none) => none,
+        }
     }
 
     /// How many calls there were that change the disk.

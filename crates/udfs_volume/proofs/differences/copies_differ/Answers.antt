@@ -5,8 +5,8 @@ use Rattle.udfs_volume.proofs.ApartCopies.{copies_agree}
 use Rattle.udfs_volume.proofs.Known.{true_false}
 use Rattle.udfs_volume.proofs.differences.copies_differ.Goals as goal
 
-pub returns-in-Ok-clause-not_lawful : goal.returns-in-Ok-clause-not_lawful
-returns-in-Ok-clause-not_lawful c =
+pub returns-clause-not_lawful : goal.returns-clause-not_lawful
+returns-clause-not_lawful c =
     let t = state_of c.args.table.now in
     λ yes volume is_volume lawful agrees. true_false (copies_differ c.args.profile t c.args.last) (sym (c.in-Ok.ensures.value tt) ∙ yes)
     (copies_agree c.args.profile t volume c.args.last is_volume lawful agrees)
