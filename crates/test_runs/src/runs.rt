@@ -102,6 +102,7 @@ pub fn ran<P: Program>(
     }
     let out = Rc::new(alloc, RefCell::new(Vec::with_capacity(alloc, 4096)?))?;
     let err = Rc::new(alloc, RefCell::new(Vec::with_capacity(alloc, 4096)?))?;
+    memory.begin()?;
     let status = run_on(alloc, program, memory, list.as_slice(), &out, &err)?;
     memory.settle()?;
     Ok(Outcome {
@@ -120,8 +121,7 @@ fn run_on<P: Program>(
     out: &Shared,
     err: &Shared,
 ) -> Result<u8, AllocError> {
-    let stored = memory.stored()?;
-    let calls = MemoryCalls::new(alloc, &stored, memory.setting, memory.notes());
+    let calls = MemoryCalls::new(alloc, memory.stored(), memory.setting, memory.notes());
     let clockwork = memory.clockwork();
     let room = String::with_capacity(alloc, PATH_ROOM)?;
     let mut files = Machine::new(calls, &clockwork, memory.witness(), room);

@@ -20,11 +20,11 @@ pub fn make_calls<W: Sink>(
     if place == "host" {
         return make_all(alloc, &mut Host::new(rt), script, out);
     }
-    let memory = Memory::new(alloc);
-    let Ok(stored) = memory.stored() else {
+    let mut memory = Memory::new(alloc);
+    if memory.begin().is_err() {
         return Ending::Refused;
-    };
-    let mut calls = MemoryCalls::new(alloc, &stored, memory.setting, memory.notes());
+    }
+    let mut calls = MemoryCalls::new(alloc, memory.stored(), memory.setting, memory.notes());
     make_all(alloc, &mut calls, script, out)
 }
 

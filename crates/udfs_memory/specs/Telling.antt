@@ -1,13 +1,17 @@
 -- What the calls on files in memory tell.
 --     log_of stored calls             the log of the calls
 --     IsInPlace log path              it is a device by its path, or leads to a new folder, or to what was there and is no regular file
+--     IsOther stored found            what was found is no regular file, as far as is known
 --     IsShut stored log path          it is not spelled in full, or leads to no file that was there when the run began
-use Rattle.std.specs.Prelude.{◌≡◌, ◌≢◌, ◌⊎◌, ℕ, List, Option, Some, None, true}
-use Rattle.udfs_calls.specs.Log.{Call, Log, Names, names_folder, node_at}
+use Rattle.std.specs.Prelude.{◌≡◌, ◌≢◌, ◌⊎◌, ℕ, List, Option, Some, None, true, ⊤}
+use Rattle.std.proofs.Common.{ap, inl, inr, refl, sym}
+use Rattle.udfs_calls.specs.Log.{Call, Log, Names, is_folder, names_folder, node_at}
 use Rattle.udfs_calls.specs.Log.Node.{there}
 use Rattle.udfs_calls.specs.Paths.{IsDevice}
-use Rattle.udfs_memory.specs.Keeping.{bytes_in, start_of}
+use Rattle.udfs_memory.specs.Keeping.{bytes_in, node_of, start_of}
 use Rattle.udfs_memory.specs.Spelling.{is_plain, spelled}
+use Rattle.udfs_memory.specs.declared.kept.Found.{Found}
+use Rattle.udfs_memory.specs.declared.kept.Found.TheVariants.{Nothing, There, Made, Folder}
 use Rattle.udfs_memory.specs.declared.kept.StoredFile.{StoredFile}
 
 -- the log of the calls
@@ -22,6 +26,20 @@ IsNoFile (Some log) path = (number : ℕ) × (node_at log.start log.calls path �
 -- it is a device by its path, or leads to a new folder, or to what was there and is no regular file
 abbrev pub IsInPlace : Option Log → List ℕ → Type 0
 IsInPlace log path = IsDevice path ⊎ (names_folder log (spelled path) ≡ true) ⊎ IsNoFile log (spelled path)
+
+-- what was found is no regular file, as far as is known
+abbrev pub IsOther : List StoredFile → Found → Type 0
+IsOther stored Nothing = ⊤
+IsOther stored (There number) = bytes_in stored number ≡ None
+IsOther stored (Made number) = ⊥
+IsOther stored (Folder number) = ⊤
+
+-- then it may be in place, where something was found
+pub other_in_place : (stored : List StoredFile) (calls : List Call) (path : List ℕ) (found : Found) → node_of found ≡ node_at (start_of stored) calls (spelled path) → node_of found ≢ None → IsOther stored found → IsInPlace (log_of stored calls) path
+other_in_place stored calls path Nothing is some other = absurd (some refl)
+other_in_place stored calls path (There number) is some other = inr (inr (number, sym is, other))
+other_in_place stored calls path (Made number) is some other = absurd other
+other_in_place stored calls path (Folder number) is some other = inr (inl (sym (ap is_folder is)))
 
 -- it is not spelled in full, or leads to no file that was there when the run began
 abbrev pub IsShut : List StoredFile → Option Log → List ℕ → Type 0

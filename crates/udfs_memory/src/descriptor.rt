@@ -56,11 +56,7 @@ pub(crate) fn stored<'a>(bytes: &'a [u8]) -> Body<'a>
 
 impl<'a> MemoryDescriptor<'a> {
     /// One to read these bytes from their front.
-    pub(crate) fn reading(
-        alloc: Global,
-        body: Body<'a>,
-        device: Device,
-    ) -> MemoryDescriptor<'a>
+    pub(crate) fn reading(alloc: Global, body: Body<'a>, device: Device) -> MemoryDescriptor<'a>
         requires { All (λ byte. byte < 256) (bytes_of body) }
         ensures bytes { bytes_of result.body ≡ bytes_of body.entry }
         ensures front { result.at ≡ 0 }

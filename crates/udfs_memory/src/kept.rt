@@ -8,16 +8,20 @@ use crate::deeds::Deed;
 use std::alloc::{AllocError, Global};
 
 /// A file, a folder or a device that is there when the run begins.
-#[derive(Clone, Copy)]
-pub struct StoredFile<'a> {
+#[derive(Drop)]
+pub struct StoredFile {
     /// Its path, spelled in full: from the root, or from `./` on.
-    pub path: &'a str,
+    pub path: String,
     /// All its bytes, or what is read from the device.
-    pub bytes: &'a [u8],
+    pub bytes: Vec<u8>,
     /// Whether it is a regular file.
     pub is_file: bool,
     /// Whether it is a folder.
     pub is_folder: bool,
+    /// Whether it is a file that was not synced.
+    pub is_open: bool,
+    /// What a crash leaves there that takes all that was not synced with its folder.
+    pub left: Option<Vec<u8>>,
 }
 
 /// What a call did.
@@ -66,7 +70,7 @@ fn is_same(a: &[u8], b: &[u8]) -> bool
 }
 
 /// The file of this path among those that were there when the run began.
-fn stored_at(stored: &[StoredFile<'_>], path: &[u8]) -> Found
+fn stored_at(stored: &[StoredFile], path: &[u8]) -> Found
     ensures { node_of result ≡ found (start_of stored.now) [] path.now }
 {
     match stored {
@@ -81,7 +85,7 @@ fn stored_at(stored: &[StoredFile<'_>], path: &[u8]) -> Found
 }
 
 /// What a path names.
-pub(crate) fn find(stored: &[StoredFile<'_>], kept: &[Kept], path: &[u8]) -> Found
+pub(crate) fn find(stored: &[StoredFile], kept: &[Kept], path: &[u8]) -> Found
     ensures { node_of result ≡ found (start_of stored.now) kept.now path.now }
 {
     match kept {
@@ -120,7 +124,7 @@ pub(crate) fn find(stored: &[StoredFile<'_>], kept: &[Kept], path: &[u8]) -> Fou
 }
 
 /// The bytes of the file of this number among those that were there when the run began.
-pub(crate) fn stored_bytes<'a>(stored: &'a [StoredFile<'a>], number: usize) -> Option<&'a [u8]>
+pub(crate) fn stored_bytes<'a>(stored: &'a [StoredFile], number: usize) -> Option<&'a [u8]>
     ensures { option_now result ≡ bytes_in stored.now number }
 {
     match stored {
@@ -128,7 +132,7 @@ pub(crate) fn stored_bytes<'a>(stored: &'a [StoredFile<'a>], number: usize) -> O
         [file, rest @ ..] => {
             if number == rest.len() {
                 if file.is_file {
-                    return Some(file.bytes);
+                    return Some(&file.bytes);
                 }
                 return None;
             }
@@ -138,10 +142,7 @@ pub(crate) fn stored_bytes<'a>(stored: &'a [StoredFile<'a>], number: usize) -> O
 }
 
 /// The file of this number among those that were there when the run began.
-pub(crate) fn stored_file<'a>(
-    stored: &'a [StoredFile<'a>],
-    number: usize,
-) -> Option<&'a StoredFile<'a>> {
+pub(crate) fn stored_file<'a>(stored: &'a [StoredFile], number: usize) -> Option<&'a StoredFile> {
     stored.iter().rev().nth(number)
 }
 

@@ -12,7 +12,7 @@ use udfs_calls::Calls;
 /// The premise of every clause is met: the calls on files in memory tell. What they hold at first is what was stored.
 pub fn files_in_memory_tell<'a>(
     alloc: Global,
-    stored: &'a [StoredFile<'a>],
+    stored: &'a [StoredFile],
     setting: Setting,
     notes: &'a Notes,
 ) -> MemoryCalls<'a>

@@ -9,24 +9,11 @@ use crate::notes::{Notes, Setting};
 use crate::witness::Witness;
 use std::alloc::{AllocError, Global};
 
-/// What is at a path.
-#[derive(Drop)]
-struct Entry {
-    /// From the root, or from `./` on.
-    path: String,
-    /// All its bytes, or what is read from the device; none of a file that was not synced.
-    bytes: Option<Vec<u8>>,
-    is_file: bool,
-    is_folder: bool,
-    /// What a crash leaves that takes all that was not synced with its folder.
-    left: Option<Vec<u8>>,
-}
-
 /// A disk, and what the last run left of it.
 #[derive(Drop)]
 pub struct Memory {
     alloc: Global,
-    entries: Vec<Entry>,
+    entries: Vec<StoredFile>,
     notes: Notes,
     witness: Witness,
     /// How calls come out.
@@ -51,7 +38,7 @@ fn copy_of(alloc: Global, bytes: Option<&[u8]>) -> Result<Option<Vec<u8>>, Alloc
 }
 
 /// The bytes of what was found, where they are known.
-fn bytes_of<'a>(stored: &'a [StoredFile<'a>], kept: &'a [Kept], found: Found) -> Option<&'a [u8]> {
+fn bytes_of<'a>(stored: &'a [StoredFile], kept: &'a [Kept], found: Found) -> Option<&'a [u8]> {
     match found {
         Found::There(number) => stored_bytes(stored, number),
         Found::Made(number) => content(kept, number),
@@ -60,11 +47,7 @@ fn bytes_of<'a>(stored: &'a [StoredFile<'a>], kept: &'a [Kept], found: Found) ->
 }
 
 /// What a crash leaves at a path that takes all that was not synced with its folder.
-fn survivor<'a>(
-    stored: &'a [StoredFile<'a>],
-    kept: &'a [Kept],
-    path: &[u8],
-) -> Option<&'a [u8]> {
+fn survivor<'a>(stored: &'a [StoredFile], kept: &'a [Kept], path: &[u8]) -> Option<&'a [u8]> {
     for (index, done) in kept.iter().enumerate() {
         let earlier = kept.get(index.saturating_add(1)..).unwrap_or(&[]);
         if let What::FolderSynced(folder) = &done.what {
@@ -99,18 +82,19 @@ impl Memory {
         is_folder: bool,
     ) -> Result<(), AllocError> {
         let mut whole = String::new(self.alloc);
-        if !path.starts_with('/') && !path.starts_with("./") {
+        if path != "." && !path.starts_with('/') && !path.starts_with("./") {
             whole.push_str("./")?;
         }
         whole.push_str(path)?;
-        let entry = Entry {
+        let file = StoredFile {
             path: whole,
-            bytes: Some(bytes.to_vec(self.alloc)?),
+            bytes: bytes.to_vec(self.alloc)?,
             is_file,
             is_folder,
+            is_open: false,
             left: Some(bytes.to_vec(self.alloc)?),
         };
-        Ok(self.entries.insert(0, entry)?)
+        Ok(self.entries.insert(0, file)?)
     }
 
     /// Stores a file, which is on the disk with its name. Below `dev/` or `/dev/` it is a device, which can be read.
@@ -124,27 +108,17 @@ impl Memory {
         self.put(path, &[], false, true)
     }
 
-    /// All that is there, as the calls of a run take it, with the run's own folder.
-    pub fn stored(&self) -> Result<Vec<StoredFile<'_>>, AllocError> {
-        let mut stored = Vec::new(self.alloc);
-        stored.push(StoredFile {
-            path: ".",
-            bytes: &[],
-            is_file: false,
-            is_folder: true,
-        })?;
-        for entry in &self.entries {
-            stored.push(StoredFile {
-                path: entry.path.as_str(),
-                bytes: match &entry.bytes {
-                    Some(bytes) => bytes,
-                    None => &[],
-                },
-                is_file: entry.is_file,
-                is_folder: entry.is_folder,
-            })?;
+    /// A run begins: its own folder is there.
+    pub fn begin(&mut self) -> Result<(), AllocError> {
+        if at(&self.entries, ".").is_some() {
+            return Ok(());
         }
-        Ok(stored)
+        self.put(".", &[], false, true)
+    }
+
+    /// All that is there.
+    pub fn stored(&self) -> &[StoredFile] {
+        &self.entries
     }
 
     /// What is noted of the calls of a run.
@@ -166,20 +140,18 @@ impl Memory {
     pub fn settle(&mut self) -> Result<(), AllocError> {
         let kept = self.notes.take();
         let mut entries = Vec::new(self.alloc);
-        let stored = self.stored()?;
         for done in &kept {
             if let What::Created(path)
             | What::Opened(path)
             | What::Renamed(_, path)
             | What::FolderMade(path) = &done.what
             {
-                self.push_entry(&mut entries, &stored, &kept, path)?;
+                self.push_entry(&mut entries, &kept, path)?;
             }
         }
-        for file in &stored {
-            self.push_entry(&mut entries, &stored, &kept, file.path.as_bytes())?;
+        for file in &self.entries {
+            self.push_entry(&mut entries, &kept, file.path.as_bytes())?;
         }
-        drop(stored);
         self.entries = entries;
         Ok(())
     }
@@ -187,40 +159,66 @@ impl Memory {
     /// Adds what a path names after a run, where it names something that is not there yet.
     fn push_entry(
         &self,
-        entries: &mut Vec<Entry>,
-        stored: &[StoredFile<'_>],
+        entries: &mut Vec<StoredFile>,
         kept: &[Kept],
         path: &[u8],
     ) -> Result<(), AllocError> {
-        let found = find(stored, kept, path);
         let path = std::str::from_utf8(path).unwrap_or("no text");
-        if matches!(found, Found::Nothing) || path == "." || at(entries, path).is_some() {
-            return Ok(());
+        if at(entries, path).is_none() {
+            if let Some(file) = self.after(kept, path)? {
+                entries.push(file)?;
+            }
         }
-        let (is_file, is_folder, raw) = match found {
-            Found::There(number) => match stored_file(stored, number) {
-                Some(file) => (file.is_file, file.is_folder, Some(file.bytes)),
-                None => return Ok(()),
-            },
-            Found::Made(number) => (true, false, content(kept, number)),
-            Found::Nothing | Found::Folder(_) => (false, true, None),
-        };
-        entries.push(Entry {
-            path: String::from_str(self.alloc, path)?,
-            bytes: copy_of(self.alloc, raw)?,
-            is_file,
-            is_folder,
-            left: copy_of(self.alloc, survivor(stored, kept, path.as_bytes()))?,
-        })?;
         Ok(())
+    }
+
+    /// What a path names after a run.
+    fn after(&self, kept: &[Kept], path: &str) -> Result<Option<StoredFile>, AllocError> {
+        let found = find(&self.entries, kept, path.as_bytes());
+        if matches!(found, Found::Nothing) {
+            return Ok(None);
+        }
+        let known = bytes_of(&self.entries, kept, found);
+        let was = was(&self.entries, found);
+        let bytes: &[u8] = match (known, was) {
+            (Some(bytes), _) => bytes,
+            (None, Some(file)) => &file.bytes,
+            (None, None) => &[],
+        };
+        let left = survivor(&self.entries, kept, path.as_bytes());
+        Ok(Some(StoredFile {
+            path: String::from_str(self.alloc, path)?,
+            bytes: bytes.to_vec(self.alloc)?,
+            is_file: match was {
+                Some(file) => file.is_file,
+                None => matches!(found, Found::Made(_)),
+            },
+            is_folder: match was {
+                Some(file) => file.is_folder,
+                None => matches!(found, Found::Folder(_)),
+            },
+            is_open: was.is_none() && matches!(found, Found::Made(_)) && known.is_none(),
+            left: copy_of(self.alloc, left)?,
+        }))
+    }
+}
+
+/// What was there when the run began, where that was found.
+fn was(stored: &[StoredFile], found: Found) -> Option<&StoredFile> {
+    match found {
+        Found::There(number) => stored_file(stored, number),
+        Found::Nothing | Found::Made(_) | Found::Folder(_) => None,
     }
 }
 
 /// What is at a path.
-fn at<'a>(entries: &'a [Entry], path: &str) -> Option<&'a Entry> {
-    entries
-        .iter()
-        .find(|entry| short(entry.path.as_str()) == short(path))
+fn at<'a>(entries: &'a [StoredFile], path: &str) -> Option<&'a StoredFile> {
+    for file in entries {
+        if short(file.path.as_str()) == short(path) {
+            return Some(file);
+        }
+    }
+    None
 }
 
 /// What tests ask.
@@ -228,10 +226,7 @@ impl Memory {
     /// What is at a path, or nothing where it is only being written, or is a folder.
     pub fn bytes<'a>(&'a self, path: &'a str) -> Option<&'a [u8]> {
         match at(&self.entries, path) {
-            Some(entry) if !entry.is_folder => match &entry.bytes {
-                Some(bytes) => Some(bytes),
-                None => None,
-            },
+            Some(file) if !file.is_folder && !file.is_open => Some(&file.bytes),
             _ => None,
         }
     }
@@ -239,7 +234,7 @@ impl Memory {
     /// Whether no file has this path, finished or not.
     pub fn is_absent(&self, path: &str) -> bool {
         match at(&self.entries, path) {
-            Some(entry) => entry.is_folder,
+            Some(file) => file.is_folder,
             None => true,
         }
     }
@@ -247,7 +242,7 @@ impl Memory {
     /// Whether the folder is there.
     pub fn has_folder(&self, path: &str) -> bool {
         match at(&self.entries, path) {
-            Some(entry) => entry.is_folder,
+            Some(file) => file.is_folder,
             None => false,
         }
     }
@@ -255,7 +250,7 @@ impl Memory {
     /// Whether a crash that takes all that was not synced with its folder leaves these bytes at the path.
     pub fn survives(&self, path: &str, bytes: &[u8]) -> bool {
         match at(&self.entries, path) {
-            Some(entry) => match &entry.left {
+            Some(file) => match &file.left {
                 Some(left) => left.as_slice() == bytes,
                 None => false,
             },
@@ -265,7 +260,7 @@ impl Memory {
 
     /// How many files are there.
     pub fn count(&self) -> usize {
-        self.entries.iter().filter(|entry| !entry.is_folder).count()
+        self.entries.iter().filter(|file| !file.is_folder).count()
     }
 
     /// How many calls there were that change the disk.

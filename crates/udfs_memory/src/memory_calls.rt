@@ -2,21 +2,23 @@
 
 ghost use Rattle.std.proofs.Common.{inl, refl};
 ghost use Rattle.std.specs.IoError.{error_kind};
-ghost use Rattle.std.specs.Prelude.{◌≡◌, ◌≢◌, ℕ, Err, IfErr, IfOk, IfSome, None, OnErr, OnOk, Some, [], ◌∷◌, length, string_bytes, true};
+ghost use Rattle.std.specs.Prelude.{◌≡◌, ◌≢◌, ℕ, Err, IfErr, IfOk, IfSome, None, OnErr, OnOk, Some, [], ◌∷◌, false, length, string_bytes, true};
 ghost use Rattle.udfs_calls.specs.Lawful.{can_follow};
-ghost use Rattle.udfs_calls.specs.Log.{Node, content, held_by, node_at};
+ghost use Rattle.udfs_calls.specs.Log.{Node, content, held_by, is_folder, node_at};
 ghost use Rattle.udfs_calls.specs.Log.Call.{failed};
 ghost use Rattle.udfs_memory.specs.Keeping.{node_of, start_of};
 ghost use Rattle.udfs_memory.specs.Noted.{call_of};
 ghost use Rattle.udfs_memory.specs.Spelling.{device_leads, is_plain, name_leads, spelled};
 ghost use Rattle.udfs_memory.specs.Standing.{AreContents, AreContents-prop, AreNodes, AreNodes-prop, IsCount, IsCount-prop, apart, is_lawful, numbers, was_lawful};
 ghost use Rattle.udfs_memory.specs.Bodies.{bytes_of};
-ghost use Rattle.udfs_memory.specs.Telling.{IsInPlace, IsShut, log_of, no_link};
+ghost use Rattle.udfs_memory.specs.Telling.{IsInPlace, IsOther, IsShut, log_of, no_link};
 
 use crate::deeds::{Deed, Outcome};
 use crate::descriptor::{MemoryDescriptor, own, stored};
 use crate::history::History;
-use crate::kept::{Found, Kept, StoredFile, content, copied, find, parent, stored_bytes, stored_file};
+use crate::kept::{
+    Found, Kept, StoredFile, content, copied, find, parent, stored_bytes, stored_file,
+};
 use crate::notes::{Notes, Setting};
 use crate::spelling::{is_device, is_plain, spelled};
 use std::alloc::{AllocError, Global};
@@ -31,7 +33,7 @@ use udfs_calls::{About, Calls};
 #[derive(Drop)]
 pub struct MemoryCalls<'a> {
     alloc: Global,
-    stored: &'a [StoredFile<'a>],
+    stored: &'a [StoredFile],
     setting: Setting,
     notes: &'a Notes,
     kept: Vec<Kept>,
@@ -47,7 +49,7 @@ impl<'a> MemoryCalls<'a> {
     /// The calls on these files, of which none was made yet. What they do is noted too.
     pub fn new(
         alloc: Global,
-        stored: &'a [StoredFile<'a>],
+        stored: &'a [StoredFile],
         setting: Setting,
         notes: &'a Notes,
     ) -> MemoryCalls<'a>
@@ -83,6 +85,19 @@ impl<'a> MemoryCalls<'a> {
         Err(error)
     }
 
+    /// Notes that it is done, unless it is to fail.
+    fn note(&self, deed: &Deed<'_>) -> Result<(), Error>
+        ensures { IfErr result (λ error. error_kind error ≢ ErrorKind.InvalidInput) }
+    {
+        if self.notes.fails(&self.setting) {
+            return Err(Error::from(ErrorKind::Other));
+        }
+        match self.notes.note(self.count, deed) {
+            Ok(()) => Ok(()),
+            Err(AllocError) => Err(self.want()),
+        }
+    }
+
     /// Does it, and keeps it.
     ///
     /// # Errors
@@ -99,13 +114,10 @@ impl<'a> MemoryCalls<'a> {
         if self.count >= u64::MAX {
             return Err(Error::from(ErrorKind::StorageFull));
         }
-        if self.notes.fails(&self.setting) {
-            return Err(Error::from(ErrorKind::Other));
+        if let Err(error) = self.note(deed) {
+            return Err(error);
         }
         let number = self.count;
-        let Ok(()) = self.notes.note(number, deed) else {
-            return Err(self.want());
-        };
         let Ok(what) = copied(self.alloc, deed) else {
             return Err(self.want());
         };
@@ -200,7 +212,7 @@ impl<'a> MemoryCalls<'a> {
 
     /// Whether it is a folder.
     fn is_folder(&self, found: &Found) -> bool
-        ensures { (number : ℕ) → found.now ≡ Found.Folder number → result ≡ true }
+        ensures { is_folder (node_of found.now) ≡ true → result ≡ true }
     {
         match found {
             Found::There(number) => match stored_file(self.stored, *number) {
@@ -213,7 +225,10 @@ impl<'a> MemoryCalls<'a> {
     }
 
     /// Whether it is a regular file, as far as that is known.
-    fn is_file(&self, found: &Found) -> bool {
+    fn is_file(&self, found: &Found) -> bool
+        ensures other { result ≢ true → IsOther self.now.stored.now found.now }
+        ensures folder { is_folder (node_of found.now) ≡ true → result ≡ false }
+    {
         match found {
             Found::There(number) => stored_bytes(self.stored, *number).is_some(),
             Found::Made(_) => true,
@@ -233,11 +248,13 @@ impl<'a> MemoryCalls<'a> {
     }
 
     /// Opens to be read what was there when the run began: a file or a device.
-    fn read_stored(&self, number: usize) -> Result<MemoryDescriptor<'a>, Error> {
+    fn read_stored(&self, number: usize) -> Result<MemoryDescriptor<'a>, Error>
+        ensures front { IfOk result (λ file. file.at ≡ 0) }
+    {
         match stored_file(self.stored, number) {
             Some(file) if !file.is_folder => Ok(MemoryDescriptor::reading(
                 self.alloc,
-                stored(file.bytes),
+                stored(&file.bytes),
                 self.setting.inputs,
             )),
             _ => Err(Error::from(ErrorKind::IsADirectory)),
@@ -369,6 +386,7 @@ impl<'a> Calls for MemoryCalls<'a> {
         }
     }
 
+    #[tactic(auto, using(crate::specs::Telling::other_in_place))]
     fn about(&self, path: &str) -> Result<About, Error> {
         let found = match self.led(path) {
             Ok(Found::Nothing) => return Err(Error::from(ErrorKind::NotFound)),
