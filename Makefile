@@ -16,8 +16,8 @@
 #   make deb        a Debian package of the built program in out/, looked at, installed, run and removed in a scratch root
 #   make bench      measures merge against cp, and of an image against its reading, extract against cp -r of the same files, report against reading its input in,
 #                   the CRC against the plain byte table in Rust, the table of blocks against an ordered map and plain copying,
-#                   places a second, report of volumes that are made to take time or memory, and the same work by ddrescue and 7-Zip. What it prints
-#                   is kept in bench/results, from which bench/speed --write writes the tables of docs/SPEED.md
+#                   places a second, report of volumes that are made to take time or memory, the rounds of a rescue in simulated drives, and the same work
+#                   by ddrescue and 7-Zip. What it prints is kept in bench/results, and docs/SPEED.md is written from it
 #   make examples   writes the example readings anew
 
 RT ?= rt

@@ -69,8 +69,8 @@ beyond_stops reach stream r place old one two three new before between beyond af
     by (Some folder) stops = record { one = one; two = two; three = three; between = between; beyond = beyond; nodes_good = nodes_good; lost_good = lost_good; nodes = nodes; lost = lost; trees = subst (λ t. TreesStop reach.files reach.output r.deleted r.short_names folder.now new (stream beyond) (stream after) table t refusal) place_is stops }
 
 -- the listing has the disc's last block and rules
-pub same_place : {rules profile : Profile} {listed last : ℕ} {table : Table} {report : Report} → rules ≡ profile → listed ≡ last → lost_report rules table listed report ≡ lost_report profile table last report
-same_place {table = table} {report = report} p l = λ i. lost_report (p i) table (l i) report
+pub same_place : (rules profile : Profile) (listed last : ℕ) (table : Table) (report : Report) → rules ≡ profile → listed ≡ last → lost_report rules table listed report ≡ lost_report profile table last report
+same_place rules profile listed last table report p l = λ i. lost_report (p i) table (l i) report
 
 -- nothing was made: memory ran out, or what is lost was not found
 pub unfound_trees : {F I M S W O : Type 0} (reach : Reach F I M S W) (stream : O → Stream) (r : ExtractRequest) (place : Option (List ℕ)) (old : F) (before : O) (last : ℕ) (table of : Table) (report told : Report) (refusal : Refusal) → IsReportBy r.volume.profile (state_of of) last report

@@ -103,7 +103,7 @@ are_full M f deleted es trees a =
       };
     }
 
-in_map : {A B : Type 0} (to : A → B) (xs : List A) (x : A) → Includes xs x → Includes (map to xs) (to x)
+pub in_map : {A B : Type 0} (to : A → B) (xs : List A) (x : A) → Includes xs x → Includes (map to xs) (to x)
 in_map to [] x i = absurd i
 in_map to (y ∷ xs) x (inl same) = inl (ap to same)
 in_map to (y ∷ xs) x (inr i) = inr (in_map to xs x i)

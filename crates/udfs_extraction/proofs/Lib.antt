@@ -7,6 +7,7 @@ mod FolderLemmas
 pub mod LostLemmas
 mod TreeLemmas
 mod FoundLemmas
+mod SeatLemmas
 mod WalkedLemmas
 mod LawLemmas
 mod ShortNameLemmas

@@ -58,8 +58,8 @@ trees reach stream r place (Some path) old new before after last table report re
     behind_all heard (inr output) = let bad : NoNode i ≡ Output = sym is ∙ output.0 in cc
 
     by : TreesStop reach.files reach.output r.deleted r.short_names path.now new (stream stops.beyond) (stream after) table (lost_report r.volume.profile table last report) refusal → ⊥
-    by (ones, are, inl (kept, made, failed)) = let bad : NoNode i ≡ LostFolder = sym is ∙ made in cc
-    by (ones, are, inr at) = behind_all at.heard at.why
+    by (ones, names, are, inl (kept, made, failed)) = let bad : NoNode i ≡ LostFolder = sym is ∙ made in cc
+    by (ones, names, are, inr at) = behind_all at.heard at.why
 
 pub no_node : {F I M S W O : Type 0} (reach : Reach F I M S W) (stream : O → Stream) (r : ExtractRequest) (place : Option (List ℕ)) (old new : F) (before after : O) (last : ℕ) (table : Table) (refusal : Refusal) (i : ℕ) → refusal ≡ NoNode i
     → MakingRefused reach stream r place old new before after last table refusal → new ≡ old

@@ -151,7 +151,7 @@ pub tells_chain : (before mid still : Bool) (old between new : Stream) (text mor
 tells_chain true mid still old between new text more one two = tells_on mid still old between new text more one two
 tells_chain false mid still old between new text more one two = let next = subst (λ b. TellsOn b still between new more) one.0 two in (next.0, next.1 ∙ one.1)
 
-tells_none : (heard : Bool) (old : Stream) → TellsLines true old old [] → TellsOn heard heard old old []
+pub tells_none : (heard : Bool) (old : Stream) → TellsLines true old old [] → TellsOn heard heard old old []
 tells_none true old none = none
 tells_none false old none = (refl, refl)
 

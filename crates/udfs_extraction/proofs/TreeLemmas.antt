@@ -20,7 +20,8 @@ use Rattle.udfs_common.specs.declared.refusal.Refusal.{Refusal}
 use Rattle.udfs_common.specs.declared.refusal.Refusal.TheVariants.{Memory, Output}
 use Rattle.udfs_extraction.specs.Extracting.{Each, IsDone, IsIn, IsPut, SparesNodes, TellsLines, all_good, fate_lines}
 use Rattle.udfs_extraction.specs.LostFiles.{IsUnder, SparesLost}
-use Rattle.udfs_extraction.specs.LostTrees.{EachTree, IsAllOf, IsTreePut, StopsAt, tree_path, tree_report, trees_lines}
+use Rattle.udfs_extraction.specs.LostTrees.{EachTree, IsAllOf, IsTreePut, StopsAt, TreePut, is_put_well, tree_report, trees_lines}
+use Rattle.udfs_extraction.specs.Seats.{FoundAt, seat_path}
 use Rattle.udfs_extraction.specs.declared.nodes.Fate.{Fate}
 use Rattle.udfs_extraction.proofs.LostLemmas.{safe_lost}
 use Rattle.udfs_extraction.proofs.PutNodes.{each_map, goes_wider, spares_nothing, spares_on, tells_more}
@@ -92,10 +93,12 @@ module _ {F I M S W : Type 0} (known : Ghosts F I M S W) where
 
 module _ {F I M S W : Type 0} (known : Ghosts F I M S W) (output : W → Stream) where
   -- and so do trees
-  pub trees_still : (table : Table) (volume : Answer Found) (short : Bool) (folder : List ℕ) (mid new : F) → ((t : ℕ) (c : Disk) → t ≤ known.moment mid → known.may_leave mid c → known.left_since mid t c) → SparesLost known folder mid new
-      → (tree : LostTree) (fates : List Fate) → IsTreePut known output mid table volume short folder tree fates → IsTreePut known output new table volume short folder tree fates
-  trees_still table volume short folder mid new counts_now step tree fates put =
-      each_map _ _ (λ k n fate was. tree_still known (Fails known.faults ⊎ SinkFails output) table (tree_report table volume tree) Refuse short folder (tree_path folder (has_two volume) tree.folder) mid new counts_now step k n fate was) 0 _ fates put
+  pub trees_still : (table : Table) (volume : Answer Found) (short : Bool) (folder : List ℕ) (names : List FoundAt) (mid new : F) → ((t : ℕ) (c : Disk) → t ≤ known.moment mid → known.may_leave mid c → known.left_since mid t c) → SparesLost known folder mid new
+      → (tree : LostTree) (done : TreePut) → IsTreePut known output mid table volume short folder names tree done → IsTreePut known output new table volume short folder names tree done
+  trees_still table volume short folder names mid new counts_now step tree done put = (
+      put.0,
+      each_map _ _ (λ k n fate was. tree_still known (Fails known.faults ⊎ SinkFails output) table (tree_report table volume tree) Refuse short folder (seat_path folder (has_two volume) tree.folder done.seat) mid new counts_now step k n fate was) 0 _ done.fates put.1,
+    )
 
 -- ---- tree after tree
 
@@ -106,58 +109,58 @@ next_tree [] (suc k) tree rest e = absurd (let no : ⊥ = cc in no)
 next_tree (t ∷ trees) zero tree rest e = (let same : tree ≡ t = cc in ap (λ x. Some x) (sym same), let same : rest ≡ trees = cc in same)
 next_tree (t ∷ trees) (suc k) tree rest e = let r = next_tree trees k tree rest e in (r.0, r.1 ∙ ap (λ n. drop n (t ∷ trees)) (let z : suc (k + 1) ≡ suc k + 1 = omega arith in z))
 
-pub each_tree_map : (P Q : LostTree → List Fate → Type 0) → ((tree : LostTree) (fates : List Fate) → P tree fates → Q tree fates) → (trees : List LostTree) (all : List (List Fate)) → EachTree P trees all → EachTree Q trees all
+pub each_tree_map : (P Q : LostTree → TreePut → Type 0) → ((tree : LostTree) (put : TreePut) → P tree put → Q tree put) → (trees : List LostTree) (all : List TreePut) → EachTree P trees all → EachTree Q trees all
 each_tree_map P Q to trees [] each = tt
-each_tree_map P Q to [] (fates ∷ all) each = absurd each
-each_tree_map P Q to (tree ∷ trees) (fates ∷ all) each = (to tree fates each.0, each_tree_map P Q to trees all each.1)
+each_tree_map P Q to [] (put ∷ all) each = absurd each
+each_tree_map P Q to (tree ∷ trees) (put ∷ all) each = (to tree put each.0, each_tree_map P Q to trees all each.1)
 
-pub each_tree_more : (P : LostTree → List Fate → Type 0) (trees : List LostTree) (all : List (List Fate)) (tree : LostTree) (fates : List Fate) → slice_get trees (length all) ≡ Some tree → EachTree P trees all → P tree fates → EachTree P trees (all ++ fates ∷ [])
-each_tree_more P [] [] tree fates at each one = let bad : None ≡ Some tree = at in absurd (let no : ⊥ = cc in no)
-each_tree_more P (t ∷ trees) [] tree fates at each one = let e : t ≡ tree = cc in (subst (λ x. P x fates) (sym e) one, tt)
-each_tree_more P [] (f ∷ all) tree fates at each one = absurd each
-each_tree_more P (t ∷ trees) (f ∷ all) tree fates at each one = (each.0, each_tree_more P trees all tree fates at each.1 one)
+pub each_tree_more : (P : LostTree → TreePut → Type 0) (trees : List LostTree) (all : List TreePut) (tree : LostTree) (put : TreePut) → slice_get trees (length all) ≡ Some tree → EachTree P trees all → P tree put → EachTree P trees (all ++ put ∷ [])
+each_tree_more P [] [] tree put at each one = let bad : None ≡ Some tree = at in absurd (let no : ⊥ = cc in no)
+each_tree_more P (t ∷ trees) [] tree put at each one = let e : t ≡ tree = cc in (subst (λ x. P x put) (sym e) one, tt)
+each_tree_more P [] (f ∷ all) tree put at each one = absurd each
+each_tree_more P (t ∷ trees) (f ∷ all) tree put at each one = (each.0, each_tree_more P trees all tree put at each.1 one)
 
-pub trees_lines_more : (lined : LostTree → List Fate → List ℕ) (trees : List LostTree) (all : List (List Fate)) (tree : LostTree) (fates : List Fate) → slice_get trees (length all) ≡ Some tree
-    → trees_lines lined trees all ++ lined tree fates ≡ trees_lines lined trees (all ++ fates ∷ [])
-trees_lines_more lined [] [] tree fates at = let bad : None ≡ Some tree = at in absurd (let no : ⊥ = cc in no)
-trees_lines_more lined (t ∷ trees) [] tree fates at = let e : t ≡ tree = cc in ap (λ x. lined x fates) (sym e) ∙ sym (append-nil (lined t fates))
-trees_lines_more lined [] (f ∷ all) tree fates at = let bad : None ≡ Some tree = at in absurd (let no : ⊥ = cc in no)
-trees_lines_more lined (t ∷ trees) (f ∷ all) tree fates at = append_assoc (lined t f) (trees_lines lined trees all) (lined tree fates) ∙ ap (λ l. lined t f ++ l) (trees_lines_more lined trees all tree fates at)
+pub trees_lines_more : (lined : LostTree → TreePut → List ℕ) (trees : List LostTree) (all : List TreePut) (tree : LostTree) (put : TreePut) → slice_get trees (length all) ≡ Some tree
+    → trees_lines lined trees all ++ lined tree put ≡ trees_lines lined trees (all ++ put ∷ [])
+trees_lines_more lined [] [] tree put at = let bad : None ≡ Some tree = at in absurd (let no : ⊥ = cc in no)
+trees_lines_more lined (t ∷ trees) [] tree put at = let e : t ≡ tree = cc in ap (λ x. lined x put) (sym e) ∙ sym (append-nil (lined t put))
+trees_lines_more lined [] (f ∷ all) tree put at = let bad : None ≡ Some tree = at in absurd (let no : ⊥ = cc in no)
+trees_lines_more lined (t ∷ trees) (f ∷ all) tree put at = append_assoc (lined t f) (trees_lines lined trees all) (lined tree put) ∙ ap (λ l. lined t f ++ l) (trees_lines_more lined trees all tree put at)
 
 -- the lines so far, and those of the next
-pub next_lines : (lined : LostTree → List Fate → List ℕ) (trees : List LostTree) (old mid new : Stream) (all : List (List Fate)) (k : ℕ) (tree : LostTree) (heard : Bool) (fates : List Fate) → length all ≡ k → slice_get trees k ≡ Some tree
-    → TellsLines true old mid (trees_lines lined trees all) → TellsLines heard mid new (lined tree fates) → TellsLines heard old new (trees_lines lined trees (all ++ fates ∷ []))
-next_lines lined trees old mid new all k tree heard fates count at lines more =
-    subst (λ t. TellsLines heard old new t) (trees_lines_more lined trees all tree fates (subst (λ j. slice_get trees j ≡ Some tree) (sym count) at)) (tells_more heard old mid new (trees_lines lined trees all) (lined tree fates) lines more)
+pub next_lines : (lined : LostTree → TreePut → List ℕ) (trees : List LostTree) (old mid new : Stream) (all : List TreePut) (k : ℕ) (tree : LostTree) (heard : Bool) (put : TreePut) → length all ≡ k → slice_get trees k ≡ Some tree
+    → TellsLines true old mid (trees_lines lined trees all) → TellsLines heard mid new (lined tree put) → TellsLines heard old new (trees_lines lined trees (all ++ put ∷ []))
+next_lines lined trees old mid new all k tree heard put count at lines more =
+    subst (λ t. TellsLines heard old new t) (trees_lines_more lined trees all tree put (subst (λ j. slice_get trees j ≡ Some tree) (sym count) at)) (tells_more heard old mid new (trees_lines lined trees all) (lined tree put) lines more)
 
 -- the trees so far, and the next, at a later moment
-pub trees_next : (P Q : LostTree → List Fate → Type 0) (trees : List LostTree) (all : List (List Fate)) (k : ℕ) (tree : LostTree) (fates : List Fate) → ((t : LostTree) (done : List Fate) → P t done → Q t done) → length all ≡ k → slice_get trees k ≡ Some tree
-    → EachTree (IsAllOf P) trees all → Q tree fates → length fates ≡ length tree.nodes.items → EachTree (IsAllOf Q) trees (all ++ fates ∷ [])
-trees_next P Q trees all k tree fates still count at each one whole =
-    each_tree_more (IsAllOf Q) trees all tree fates (subst (λ j. slice_get trees j ≡ Some tree) (sym count) at) (each_tree_map (IsAllOf P) (IsAllOf Q) (λ t done was. (still t done was.0, was.1)) trees all each) (one, whole)
+pub trees_next : (P Q : LostTree → TreePut → Type 0) (trees : List LostTree) (all : List TreePut) (k : ℕ) (tree : LostTree) (put : TreePut) → ((t : LostTree) (done : TreePut) → P t done → Q t done) → length all ≡ k → slice_get trees k ≡ Some tree
+    → EachTree (IsAllOf P) trees all → Q tree put → length put.fates ≡ length tree.nodes.items → EachTree (IsAllOf Q) trees (all ++ put ∷ [])
+trees_next P Q trees all k tree put still count at each one whole =
+    each_tree_more (IsAllOf Q) trees all tree put (subst (λ j. slice_get trees j ≡ Some tree) (sym count) at) (each_tree_map (IsAllOf P) (IsAllOf Q) (λ t done was. (still t done was.0, was.1)) trees all each) (one, whole)
 
 -- the same where the next is there in part
-pub trees_stop : (P Q : LostTree → List Fate → Type 0) (lined : LostTree → List Fate → List ℕ) (trees : List LostTree) (old mid new : Stream) (all : List (List Fate)) (k : ℕ) (tree : LostTree) (heard : Bool) (fates : List Fate) (refusal : Refusal)
-    → ((t : LostTree) (done : List Fate) → P t done → Q t done) → length all ≡ k → slice_get trees k ≡ Some tree → EachTree (IsAllOf P) trees all → TellsLines true old mid (trees_lines lined trees all)
-    → Q tree fates → TellsLines heard mid new (lined tree fates) → (refusal ≡ Memory alloc_error) ⊎ ((refusal ≡ Output) × (heard ≡ false)) → StopsAt Q lined trees old new refusal
-trees_stop P Q lined trees old mid new all k tree heard fates refusal still count at each lines one more why = record {
+pub trees_stop : (P Q : LostTree → TreePut → Type 0) (lined : LostTree → TreePut → List ℕ) (trees : List LostTree) (old mid new : Stream) (all : List TreePut) (k : ℕ) (tree : LostTree) (heard : Bool) (put : TreePut) (refusal : Refusal)
+    → ((t : LostTree) (done : TreePut) → P t done → Q t done) → length all ≡ k → slice_get trees k ≡ Some tree → EachTree (IsAllOf P) trees all → TellsLines true old mid (trees_lines lined trees all)
+    → Q tree put → TellsLines heard mid new (lined tree put) → (refusal ≡ Memory alloc_error) ⊎ ((refusal ≡ Output) × (heard ≡ false)) → StopsAt Q lined trees old new refusal
+trees_stop P Q lined trees old mid new all k tree heard put refusal still count at each lines one more why = record {
   heard = heard;
-  fates = all ++ fates ∷ [];
-  each = each_tree_more Q trees all tree fates there (each_tree_map (IsAllOf P) Q (λ t done was. still t done was.0) trees all each) one;
-  lines = next_lines lined trees old mid new all k tree heard fates count at lines more;
+  puts = all ++ put ∷ [];
+  each = each_tree_more Q trees all tree put there (each_tree_map (IsAllOf P) Q (λ t done was. still t done was.0) trees all each) one;
+  lines = next_lines lined trees old mid new all k tree heard put count at lines more;
   why = why;
 }
   where
     there : slice_get trees (length all) ≡ Some tree
     there = subst (λ j. slice_get trees j ≡ Some tree) (sym count) at
 
-pub good_trees_more : (all : List (List Fate)) (fates : List Fate) → (list_all all_good all && all_good fates) ≡ list_all all_good (all ++ fates ∷ [])
-good_trees_more [] fates = last (all_good fates)
+pub good_trees_more : (all : List TreePut) (put : TreePut) → (list_all is_put_well all && all_good put.fates) ≡ list_all is_put_well (all ++ put ∷ [])
+good_trees_more [] put = last (all_good put.fates)
   where
     last : (b : Bool) → (true && b) ≡ (b && true)
     last true = refl
     last false = refl
-good_trees_more (f ∷ all) fates = and (all_good f) (list_all all_good all) (all_good fates) (list_all all_good (all ++ fates ∷ [])) (good_trees_more all fates)
+good_trees_more (f ∷ all) put = and (is_put_well f) (list_all is_put_well all) (all_good put.fates) (list_all is_put_well (all ++ put ∷ [])) (good_trees_more all put)
   where
     and : (a b c d : Bool) → (b && c) ≡ d → ((a && b) && c) ≡ (a && d)
     and true b c d e = e

@@ -29,8 +29,9 @@ use Rattle.udfs_extraction.specs.BarePaths.{bare}
 use Rattle.udfs_extraction.specs.Extracting.{IsElsewhere, IsPutAt, PutsBy, PutsNone, node_line}
 use Rattle.udfs_extraction.specs.LostFiles.{IsLostPutAt, IsNewFolder, PutsLost, SparesLost}
 use Rattle.udfs_extraction.specs.LostPlaces.{lost_report}
-use Rattle.udfs_extraction.specs.LostTrees.{AreLostOf, IsTreePut, PutsTrees, tree_lines}
+use Rattle.udfs_extraction.specs.LostTrees.{AreFoundOf, IsTreePut, PutsTrees, tree_lines}
 use Rattle.udfs_extraction.specs.Manifests.{IsFreeManifest, IsManifest, IsPutLast, PutsListed}
+use Rattle.udfs_extraction.specs.Seats.{FoundAt}
 use Rattle.udfs_extraction.specs.declared.nodes.Fate.{Fate}
 
 -- zeros in the holes of a torn file, where it is to be filled
@@ -105,11 +106,11 @@ MakesLost reach stream lost two new between after table report good = MatchOptio
     (λ folder. PutsLost (IsLostPutAt reach.files reach.output new table report folder.now (has_two report.volume))
     (has_two report.volume) report.unnamed (stream between) (stream after) good × SparesLost reach.files folder.now two new)
 
--- the lost folders are made and reported with what is in them, and then lost files, and nothing outside of their folder changes; or they are not asked for
+-- the lost folders are made and reported with what is in them, and then lost files, each by its number or by a name that is found for it, and nothing outside of their folder changes; or they are not asked for
 abbrev pub MakesTrees : {F I M S W O : Type 0} → Reach F I M S W → (O → Stream) → ExtractRequest → F → F → O → O → Table → Report → Bool → Type 0
 MakesTrees reach stream r three new between after table report good = MatchOption r.trees ((new ≡ three) × (after ≡ between) × (good ≡ true))
-    (λ folder. ((trees : List LostTree) × AreLostOf r.deleted (state_of table) report.volume report.unnamed trees ×
-    PutsTrees (IsTreePut reach.files reach.output new table report.volume r.short_names folder.now) (tree_lines table report.volume r.short_names) trees (stream between) (stream after) good) ×
+    (λ folder. ((trees : List LostTree) × (names : List FoundAt) × AreFoundOf r.deleted (state_of table) report trees names ×
+    PutsTrees (IsTreePut reach.files reach.output new table report.volume r.short_names folder.now names) (tree_lines table report.volume r.short_names) trees (stream between) (stream after) good) ×
     SparesLost reach.files folder.now three new)
 
 -- the nodes and their manifest, then the lost files, and then the lost folders, of which a volume that does not open may have some too; it is good where all are

@@ -7,6 +7,8 @@ pub mod Manifests
 pub mod Runs
 pub mod LostFiles
 pub mod LostTrees
+pub mod Adding
+pub mod Seats
 pub mod LostPlaces
 pub mod Laws
 pub mod ShortNames

@@ -47,9 +47,9 @@ lost_report profile table last report = report_unless report.volume report (repo
 -- a listing, or the one that stands in for it, is of the volume in which what is lost is looked for, over the same table
 abbrev pub IsPlaceOf : code_listing.Listing Table → Option (code_listing.Listing Table) → Type 0
 IsPlaceOf l None = listing_now l ≡ lost_report l.profile l.table.now l.last (listing_now l)
-IsPlaceOf l (Some place) = (listing_now place ≡ lost_report l.profile l.table.now l.last (listing_now l)) × (place.table ≡ l.table)
+IsPlaceOf l (Some place) = (listing_now place ≡ lost_report l.profile l.table.now l.last (listing_now l)) × (place.table.now ≡ l.table.now)
 
 -- the listing that stands in for another is that of its volume as if it opened, over the same table, where the layout and the places are found
 abbrev pub IsStandIn : code_listing.Listing Table → Option (code_listing.Listing Table) → Type 0
 IsStandIn l None = placed_at l.profile (state_of l.table.now) l.last ≡ None
-IsStandIn l (Some place) = (p : Placed) × (placed_at l.profile (state_of l.table.now) l.last ≡ Some p) × (listing_now place ≡ nodes_report l.table.now (found (stand_in p)) []) × (place.table ≡ l.table)
+IsStandIn l (Some place) = (p : Placed) × (placed_at l.profile (state_of l.table.now) l.last ≡ Some p) × (listing_now place ≡ nodes_report l.table.now (found (stand_in p)) []) × (place.table.now ≡ l.table.now)

@@ -1,13 +1,14 @@
 -- What `extract --lost` makes: the trees of lost folders, and each lost file as a tree of its own.
 --     AreLostOf deleted blocks volume entries trees      these are the trees, for the entries that no name leads to
+--     AreNamesOf deleted blocks report names             these are names that are found of them behind holes
+--     AreFoundOf deleted blocks report trees names       both
 --     IsUnfoundOf deleted blocks volume entries error    why they are not found
---     tree_word two icb                what stands before the paths of a tree in what is printed
---     tree_path folder two icb         where a tree is written
 --     tree_report table volume tree    what a report says of the nodes of a tree
---     IsTreePut .. tree fates          what the fates of its nodes say of their files
+--     TreePut                          where a tree is put, and the fates of its nodes
+--     IsTreePut .. tree put            what they say of its files
 --     PutsTrees                        all trees with their fates and lines
 --     StopsTrees                       why they were not put or reported, or only in part
-use Rattle.std.specs.Prelude.{◌≡◌, ◌⊎◌, ℕ, Bool, true, false, List, [], Contains, ◌∷◌, ◌++◌, ⊤, codes, filter, length, map, alloc_error}
+use Rattle.std.specs.Prelude.{◌≡◌, ◌⊎◌, ℕ, Bool, true, false, List, [], Contains, ◌∷◌, ◌++◌, ⊤, Option, filter, length, map, alloc_error}
 use Rattle.std.specs.List.{AllZip, list_all}
 use Rattle.udfs_files.specs.declared.files.Files.{Ghosts}
 use Rattle.udfs_lattice.specs.Tables.{Table, state_of}
@@ -17,13 +18,13 @@ use Rattle.udfs_reading.specs.Writing.{Wrote}
 use Rattle.udfs_volume.specs.Answers.{Answer, found, holes, faulty}
 use Rattle.udfs_space.specs.Places.{View, view}
 use Rattle.udfs_walk.specs.NodeFields.{NodeFields}
-use Rattle.udfs_walk.specs.Targets.{Icb}
 use Rattle.udfs_walk.specs.UnnamedEntries.{address_of}
 use Rattle.udfs_walk.specs.Walks.{IsNodesRefused}
 use Rattle.udfs_walk.specs.declared.answers.NodesError.{NodesError}
 use Rattle.udfs_walk.specs.declared.answers.NodesError.TheVariants.{OutOfMemory}
 use Rattle.udfs_walk.specs.declared.answers.Unnamed.{Unnamed}
 use Rattle.udfs_lost.specs.Folders.{icb_of_entry, lost_folders}
+use Rattle.udfs_lost.specs.FoundNames.{unplaced}
 use Rattle.udfs_lost.specs.LostFiles.{lost_files}
 use Rattle.udfs_lost.specs.LostTrees.{IsLostTree}
 use Rattle.udfs_lost.specs.declared.trees.LostTree.{LostTree}
@@ -37,7 +38,7 @@ use Rattle.udfs_overview.specs.LostTrees.{AreLost, IsUnfound}
 use Rattle.udfs_common.specs.declared.refusal.Refusal.{Refusal}
 use Rattle.udfs_common.specs.declared.refusal.Refusal.TheVariants.{LostFolder, Memory, Output}
 use Rattle.udfs_extraction.specs.Extracting.{Each, IsPutAt, TellsLines, all_good, fate_lines, node_line}
-use Rattle.udfs_extraction.specs.ShortNames.{icb_number}
+use Rattle.udfs_extraction.specs.Seats.{FoundAt, IsFoundIn, IsSeat, seat_path, seat_word}
 use Rattle.udfs_extraction.specs.declared.nodes.Fate.{Fate}
 
 -- ---- what is lost
@@ -60,6 +61,26 @@ AreLostOf deleted blocks (found f) entries trees = AreLostIn (view blocks f.spac
 AreLostOf deleted blocks (holes listed) entries trees = trees ≡ []
 AreLostOf deleted blocks (faulty fault) entries trees = trees ≡ []
 
+-- each is found in a torn folder of a volume that has these nodes, or of one of the trees of lost folders, and names a lost file or the first folder of such a tree
+pub record AreNamesIn (view : View) (deleted : Bool) (nodes : List NodeFields) (entries : List Unnamed) (names : List FoundAt) : Type 0 where
+  pub folders : List LostTree
+  pub are_folders : AreLost view deleted entries folders
+  pub each : (p : FoundAt) → Contains names p → IsFoundIn view (unplaced view deleted folders entries) nodes folders p
+
+-- by what a volume is: what does not open has none
+abbrev pub AreNamesBy : Bool → Blocks → Answer Found → List NodeFields → List Unnamed → List FoundAt → Type 0
+AreNamesBy deleted blocks (found f) nodes entries names = AreNamesIn (view blocks f.space) deleted nodes entries names
+AreNamesBy deleted blocks (holes listed) nodes entries names = names ≡ []
+AreNamesBy deleted blocks (faulty fault) nodes entries names = names ≡ []
+
+-- by the report of the volume
+abbrev pub AreNamesOf : Bool → Blocks → Report → List FoundAt → Type 0
+AreNamesOf deleted blocks report names = AreNamesBy deleted blocks report.volume report.nodes report.unnamed names
+
+-- what is lost of the volume of a report, and names that are found of it
+abbrev pub AreFoundOf : Bool → Blocks → Report → List LostTree → List FoundAt → Type 0
+AreFoundOf deleted blocks report trees names = AreLostOf deleted blocks report.volume report.unnamed trees × AreNamesOf deleted blocks report names
+
 -- the nodes of one of these files, which has data and is whole, were not found, or memory ran out
 abbrev pub IsFileRefused : View → List Unnamed → NodesError → Type 0
 IsFileRefused view files error = ((u : Unnamed) × Contains files u × (is_lost_file u ≡ true) × IsNodesRefused view (address_of (icb_of_entry u)) error) ⊎ (error ≡ OutOfMemory)
@@ -77,14 +98,6 @@ IsUnfoundOf deleted blocks (faulty fault) entries error = ⊥
 
 -- ---- where it is written, and what is printed
 
--- `lost:` and the block of the folder, or of the file, with the partition reference in front where there are two partitions
-abbrev pub tree_word : Bool → Icb → List ℕ
-tree_word two icb = codes "lost:" ++ icb_number two icb.reference icb.block
-
--- the path of the tree's first node
-abbrev pub tree_path : List ℕ → Bool → Icb → List ℕ
-tree_path folder two icb = folder ++ codes "/" ++ icb_number two icb.reference icb.block
-
 -- what a report says of these nodes
 abbrev pub nodes_report : Table → Answer Found → List NodeFields → Report
 nodes_report table volume ns = record { volume = volume; nodes = ns; unnamed = unnamed_in (state_of table) volume ns; reread = reread_in volume ns }
@@ -93,49 +106,58 @@ nodes_report table volume ns = record { volume = volume; nodes = ns; unnamed = u
 abbrev pub tree_report : Table → Answer Found → LostTree → Report
 tree_report table volume tree = nodes_report table volume (map (full_in (state_of table) volume) tree.nodes.items)
 
+-- where a tree is put, and the fates of its nodes, the first included
+pub record TreePut : Type 0 where
+  pub seat : Option FoundAt
+  pub fates : List Fate
+
 -- the lines of a tree's nodes, as far as there are fates
-abbrev pub tree_lines : Table → Answer Found → Bool → LostTree → List Fate → List ℕ
-tree_lines table volume short tree fates = fate_lines (node_line (tree_word (has_two volume) tree.folder) short (tree_report table volume tree)) (tree_report table volume tree).nodes fates
+abbrev pub tree_lines : Table → Answer Found → Bool → LostTree → TreePut → List ℕ
+tree_lines table volume short tree put = fate_lines (node_line (seat_word (has_two volume) tree.folder put.seat) short (tree_report table volume tree)) (tree_report table volume tree).nodes put.fates
 
 -- those of all trees
-abbrev pub trees_lines : (LostTree → List Fate → List ℕ) → List LostTree → List (List Fate) → List ℕ
+abbrev pub trees_lines : (LostTree → TreePut → List ℕ) → List LostTree → List TreePut → List ℕ
 trees_lines lined trees [] = []
-trees_lines lined [] (fates ∷ more) = []
-trees_lines lined (tree ∷ trees) (fates ∷ more) = lined tree fates ++ trees_lines lined trees more
+trees_lines lined [] (put ∷ more) = []
+trees_lines lined (tree ∷ trees) (put ∷ more) = lined tree put ++ trees_lines lined trees more
 
 -- ---- what is put
 
--- what the fates of a tree's nodes, the first included, say of their files at some moment, as far as there are fates
-abbrev pub IsTreePut : {F I M S W : Type 0} → Ghosts F I M S W → (W → Stream) → F → Table → Answer Found → Bool → List ℕ → LostTree → List Fate → Type 0
-IsTreePut files output at table volume short folder tree fates =
-    Each (IsPutAt files output at table (tree_report table volume tree) Refuse short (tree_path folder (has_two volume) tree.folder)) 0 (tree_report table volume tree).nodes fates
+-- a tree is put at its number, or at one of these names for it; and what the fates of its nodes say of their files at some moment, as far as there are fates
+abbrev pub IsTreePut : {F I M S W : Type 0} → Ghosts F I M S W → (W → Stream) → F → Table → Answer Found → Bool → List ℕ → List FoundAt → LostTree → TreePut → Type 0
+IsTreePut files output at table volume short folder names tree put = IsSeat names tree.folder put.seat ×
+    Each (IsPutAt files output at table (tree_report table volume tree) Refuse short (seat_path folder (has_two volume) tree.folder put.seat)) 0 (tree_report table volume tree).nodes put.fates
 
--- this holds of each tree, as far as there are fates
-abbrev pub EachTree : (LostTree → List Fate → Type 0) → List LostTree → List (List Fate) → Type 0
+-- this holds of each tree, as far as there are any put
+abbrev pub EachTree : (LostTree → TreePut → Type 0) → List LostTree → List TreePut → Type 0
 EachTree P trees [] = ⊤
-EachTree P [] (fates ∷ more) = ⊥
-EachTree P (tree ∷ trees) (fates ∷ more) = P tree fates × EachTree P trees more
+EachTree P [] (put ∷ more) = ⊥
+EachTree P (tree ∷ trees) (put ∷ more) = P tree put × EachTree P trees more
 
 -- this holds of a tree, and all of its nodes have fates
-abbrev pub IsAllOf : (LostTree → List Fate → Type 0) → LostTree → List Fate → Type 0
-IsAllOf P tree fates = P tree fates × (length fates ≡ length tree.nodes.items)
+abbrev pub IsAllOf : (LostTree → TreePut → Type 0) → LostTree → TreePut → Type 0
+IsAllOf P tree put = P tree put × (length put.fates ≡ length tree.nodes.items)
+
+-- none of the files and folders of a tree failed
+abbrev pub is_put_well : TreePut → Bool
+is_put_well put = all_good put.fates
 
 -- all nodes of all trees have their fates and lines, and it is good where none failed
-pub record PutsTrees (P : LostTree → List Fate → Type 0) (lined : LostTree → List Fate → List ℕ) (trees : List LostTree) (old new : Stream) (good : Bool) : Type 0 where
-  pub fates : List (List Fate)
-  pub each : EachTree (IsAllOf P) trees fates
-  pub all : length fates ≡ length trees
-  pub lines : Wrote old new (trees_lines lined trees fates)
-  pub says : good ≡ list_all all_good fates
+pub record PutsTrees (P : LostTree → TreePut → Type 0) (lined : LostTree → TreePut → List ℕ) (trees : List LostTree) (old new : Stream) (good : Bool) : Type 0 where
+  pub puts : List TreePut
+  pub each : EachTree (IsAllOf P) trees puts
+  pub all : length puts ≡ length trees
+  pub lines : Wrote old new (trees_lines lined trees puts)
+  pub says : good ≡ list_all is_put_well puts
 
 -- nodes have their fates, and their lines as far as the output took them; then memory ran out, or the output failed
-pub record StopsAt (P : LostTree → List Fate → Type 0) (lined : LostTree → List Fate → List ℕ) (trees : List LostTree) (old new : Stream) (refusal : Refusal) : Type 0 where
+pub record StopsAt (P : LostTree → TreePut → Type 0) (lined : LostTree → TreePut → List ℕ) (trees : List LostTree) (old new : Stream) (refusal : Refusal) : Type 0 where
   pub heard : Bool
-  pub fates : List (List Fate)
-  pub each : EachTree P trees fates
-  pub lines : TellsLines heard old new (trees_lines lined trees fates)
+  pub puts : List TreePut
+  pub each : EachTree P trees puts
+  pub lines : TellsLines heard old new (trees_lines lined trees puts)
   pub why : (refusal ≡ Memory alloc_error) ⊎ ((refusal ≡ Output) × (heard ≡ false))
 
 -- nothing was reported, and the folder could not be made; or nodes have their fates and lines, up to some one
-abbrev pub StopsTrees : Type 0 → (LostTree → List Fate → Type 0) → (LostTree → List Fate → List ℕ) → List LostTree → Stream → Stream → Refusal → Type 0
+abbrev pub StopsTrees : Type 0 → (LostTree → TreePut → Type 0) → (LostTree → TreePut → List ℕ) → List LostTree → Stream → Stream → Refusal → Type 0
 StopsTrees Failed P lined trees old new refusal = ((new ≡ old) × (refusal ≡ LostFolder) × Failed) ⊎ StopsAt P lined trees old new refusal

@@ -43,8 +43,9 @@ use Rattle.udfs_salvage.specs.Choosing.{is_node}
 use Rattle.udfs_extraction.specs.Extracting.{IsDone, IsPutAt, Puts, PutsBy, PutsOf, SparesNodes, TellsLines, node_line}
 use Rattle.udfs_extraction.specs.LostFiles.{EachLost, IsLostPutAt, lost_lines}
 use Rattle.udfs_extraction.specs.LostPlaces.{lost_report}
-use Rattle.udfs_extraction.specs.LostTrees.{AreLostOf, IsTreePut, IsUnfoundOf, StopsTrees, tree_lines}
+use Rattle.udfs_extraction.specs.LostTrees.{AreFoundOf, IsTreePut, IsUnfoundOf, StopsTrees, tree_lines}
 use Rattle.udfs_extraction.specs.Manifests.{IsSparedManifest}
+use Rattle.udfs_extraction.specs.Seats.{FoundAt}
 use Rattle.udfs_extraction.specs.declared.nodes.Fate.{Fate}
 
 -- it is the first, and is named by its number, counted from 1
@@ -98,8 +99,8 @@ module _ {F I M S W : Type 0} (files : Ghosts F I M S W) (output : W → Stream)
 
   -- what is said of lost folders, in their own folder
   abbrev pub TreesStop : Bool → Bool → List ℕ → F → Stream → Stream → Table → Report → Refusal → Type 0
-  TreesStop deleted short folder new between after table report refusal = (trees : List LostTree) × AreLostOf deleted (state_of table) report.volume report.unnamed trees ×
-      StopsTrees (Fails files.faults) (IsTreePut files output new table report.volume short folder) (tree_lines table report.volume short) trees between after refusal
+  TreesStop deleted short folder new between after table report refusal = (trees : List LostTree) × (names : List FoundAt) × AreFoundOf deleted (state_of table) report trees names ×
+      StopsTrees (Fails files.faults) (IsTreePut files output new table report.volume short folder names) (tree_lines table report.volume short) trees between after refusal
 
   -- extracting the nodes ended with this error
   abbrev pub NodesStop : List (List ℕ) → List ℕ → Fill → Bool → F → F → Stream → Stream → Table → Report → Refusal → Type 0

@@ -52,7 +52,7 @@ fn extract_disc<F: Files, O: Sink>(
         Ok(standing) => standing,
         Err(AllocError) => return Err(Refusal::Memory(AllocError)),
     };
-    let trees = match find_trees(
+    let found = match find_trees(
         alloc,
         &listing,
         &standing,
@@ -60,7 +60,7 @@ fn extract_disc<F: Files, O: Sink>(
         request.deleted,
         &entries,
     ) {
-        Ok(trees) => trees,
+        Ok(found) => found,
         Err(refusal) => return Err(refusal),
     };
     files.begin(Stage::Writing);
@@ -72,7 +72,7 @@ fn extract_disc<F: Files, O: Sink>(
         Ok(lost_good) => lost_good,
         Err(refusal) => return Err(refusal),
     };
-    match put_lost(alloc, listing, standing, trees, request, times, files, out) {
+    match put_lost(alloc, listing, standing, found, request, times, files, out) {
         Ok(trees_good) => Ok(is_all_good(good, is_all_good(lost_good, trees_good))),
         Err(refusal) => Err(refusal),
     }

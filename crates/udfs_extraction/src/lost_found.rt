@@ -10,15 +10,17 @@ ghost use Rattle.udfs_lost.specs.LostTrees.{IsLostTree};
 ghost use Rattle.udfs_salvage.specs.Found.{volume_now};
 ghost use Rattle.udfs_salvage.specs.Listings.{AreUnnamed, listing_now};
 ghost use Rattle.udfs_overview.specs.LostTrees.{AreLost, IsUnfound};
-ghost use Rattle.udfs_extraction.specs.LostTrees.{AddsFiles, AreLostIn, AreLostOf, IsFileRefused, IsUnfoundIn, IsUnfoundOf};
+ghost use Rattle.udfs_extraction.specs.LostTrees.{AddsFiles, AreFoundOf, AreLostIn, AreNamesIn, IsFileRefused, IsUnfoundIn, IsUnfoundOf};
 ghost use Rattle.udfs_extraction.specs.Refused.{IsUnsearched, lost_refusal_of};
 
+use crate::found_places::{FoundPlaces, find_names};
 use std::alloc::{AllocError, Global};
 use udfs_common::refusal::Refusal;
 use udfs_lost::{LostTree, lost_files, lost_roots, lost_trees};
+use udfs_osta::OutOfMemory;
 use udfs_salvage::{Listing, Volume, is_lost_file};
 use udfs_space::View;
-use udfs_walk::{NodesError, Unnamed, bare_nodes};
+use udfs_walk::{Node, NodesError, Unnamed, bare_nodes};
 
 /// The trees of the lost folders among entries that no name leads to.
 fn folder_trees(
@@ -99,50 +101,68 @@ fn add_files(
     Ok(())
 }
 
-/// What is lost among entries that no name leads to.
+/// What is lost of a volume.
+#[derive(Drop)]
+pub struct LostFound {
+    /// The trees of lost folders, and behind them those of lost files.
+    pub trees: Vec<LostTree>,
+    /// Names that are found for them behind holes of torn folders.
+    pub names: FoundPlaces,
+}
+
+/// What is lost among entries that no name leads to, of a volume that has these nodes.
 fn lost_in(
     alloc: Global,
     view: View<'_>,
     deleted: bool,
+    nodes: &[Node],
     entries: &[Unnamed],
-) -> Result<Vec<LostTree>, NodesError>
-    ensures trees { IfOk result (λ trees. AreLostIn (view_now view.entry) deleted entries.now trees.items) }
+) -> Result<LostFound, NodesError>
+    ensures trees { IfOk result (λ lost. AreLostIn (view_now view.entry) deleted entries.now lost.trees.items) }
+    ensures names { IfOk result (λ lost. AreNamesIn (view_now view.entry) deleted nodes.now entries.now lost.names) }
     ensures refused { IfErr result (IsUnfoundIn (view_now view.entry) deleted entries.now) }
 {
     let mut trees = match folder_trees(alloc, view, deleted, entries) {
         Ok(trees) => trees,
         Err(error) => return Err(error),
     };
+    let names = match find_names(alloc, view, deleted, nodes, &trees, entries) {
+        Ok(names) => names,
+        Err(OutOfMemory) => return Err(NodesError::OutOfMemory),
+    };
     let files = match lost_files(alloc, view, deleted, &trees, entries) {
         Ok(files) => files,
         Err(AllocError) => return Err(NodesError::OutOfMemory),
     };
     match add_files(alloc, view, &files, &mut trees) {
-        Ok(()) => Ok(trees),
+        Ok(()) => Ok(LostFound { trees, names }),
         Err(error) => Err(error),
     }
 }
 
-/// What is lost of the volume of a listing. A volume that does not open has none.
+/// What is lost of the volume of a listing. A volume that does not open has nothing.
 fn lost_of(
     alloc: Global,
     listing: &Listing<'_>,
     deleted: bool,
     entries: &[Unnamed],
-) -> Result<Vec<LostTree>, NodesError>
+) -> Result<LostFound, NodesError>
     requires { AreUnnamed listing.now entries.now }
-    ensures trees { IfOk result (λ trees. AreLostOf deleted (state_of listing.now.table.now) (volume_now listing.now.volume) (listing_now listing.now).unnamed trees.items) }
+    ensures found { IfOk result (λ lost. AreFoundOf deleted (state_of listing.now.table.now) (listing_now listing.now) lost.trees.items lost.names) }
     ensures refused { IfErr result (IsUnfoundOf deleted (state_of listing.now.table.now) (volume_now listing.now.volume) (listing_now listing.now).unnamed) }
 {
     match &listing.volume {
         Volume::Open(opened) => {
             let view = opened.view(listing.table);
-            match lost_in(alloc, view, deleted, entries) {
-                Ok(trees) => Ok(trees),
+            match lost_in(alloc, view, deleted, &listing.nodes, entries) {
+                Ok(lost) => Ok(lost),
                 Err(error) => Err(error),
             }
         }
-        _ => Ok(Vec::new(alloc)),
+        _ => Ok(LostFound {
+            trees: Vec::new(alloc),
+            names: FoundPlaces::none(alloc),
+        }),
     }
 }
 
@@ -158,7 +178,7 @@ fn refused_lost(error: NodesError) -> Refusal
 
 /// What is lost of the volume of a listing, where it is asked for, and else nothing: the trees of lost folders, which are directories that no known name leads to,
 /// of link count above 0, or, with `deleted`, of any; and behind them, each as a tree of one node, such files that no lost folder names, where they have data and
-/// are whole.
+/// are whole. Beside them are names that are found for them behind holes of torn folders.
 ///
 /// # Errors
 ///
@@ -170,15 +190,18 @@ pub fn found_trees(
     trees: Option<&str>,
     deleted: bool,
     entries: &[Unnamed],
-) -> Result<Vec<LostTree>, Refusal>
+) -> Result<LostFound, Refusal>
     requires { MatchOption trees ⊤ (λ folder. AreUnnamed listing.now entries.now) }
-    ensures trees { IfOk result (λ found. MatchOption trees.entry ⊤ (λ folder. AreLostOf deleted (state_of listing.now.table.now) (volume_now listing.now.volume) (listing_now listing.now).unnamed found.items)) }
+    ensures found { IfOk result (λ lost. MatchOption trees.entry ⊤ (λ folder. AreFoundOf deleted (state_of listing.now.table.now) (listing_now listing.now) lost.trees.items lost.names)) }
     ensures refused { IfErr result (λ refusal. MatchOption trees.entry ⊥ (λ folder. IsUnsearched deleted listing.now.table.now (listing_now listing.now) refusal)) }
 {
     match trees {
-        None => Ok(Vec::new(alloc)),
+        None => Ok(LostFound {
+            trees: Vec::new(alloc),
+            names: FoundPlaces::none(alloc),
+        }),
         Some(_) => match lost_of(alloc, listing, deleted, entries) {
-            Ok(found) => Ok(found),
+            Ok(lost) => Ok(lost),
             Err(error) => Err(refused_lost(error)),
         },
     }

@@ -8,10 +8,10 @@ ghost use Rattle.udfs_salvage.specs.Listings.{AreUnnamed, listing_now};
 ghost use Rattle.udfs_extraction.specs.ByRequest.{MakesTrees};
 ghost use Rattle.udfs_extraction.specs.LostFiles.{SparesLost};
 ghost use Rattle.udfs_extraction.specs.LostPlaces.{IsPlaceOf, IsStandIn, lost_report, placed_at, stand_in};
-ghost use Rattle.udfs_extraction.specs.LostTrees.{AreLostOf, nodes_report};
+ghost use Rattle.udfs_extraction.specs.LostTrees.{AreFoundOf, nodes_report};
 ghost use Rattle.udfs_extraction.specs.Refused.{IsUnsearched, TreesStop};
 
-use crate::lost_found::found_trees;
+use crate::lost_found::{LostFound, found_trees};
 use crate::lost_trees::add_trees;
 use crate::unnamed::lost_entries;
 use std::alloc::{AllocError, Global};
@@ -19,7 +19,7 @@ use udfs_common::files::Files;
 use udfs_common::known::Known;
 use udfs_common::refusal::Refusal;
 use udfs_lattice::BlockTable;
-use udfs_lost::{LostTree, PlacedVolume, placed_volume};
+use udfs_lost::{PlacedVolume, placed_volume};
 use udfs_overview::has_room;
 use udfs_reading::Sink;
 use udfs_salvage::{Listing, OpenVolume, Volume};
@@ -61,7 +61,7 @@ fn as_opened<'a>(
     profile: Profile,
     placed: PlacedVolume,
 ) -> Listing<'a>
-    ensures of { (listing_now result ≡ nodes_report table.now (found (stand_in (placed_now placed))) []) × (result.table ≡ table) }
+    ensures of { (listing_now result ≡ nodes_report table.now (found (stand_in (placed_now placed))) []) × (result.table.now ≡ table.now) }
 {
     let PlacedVolume { parts, space } = placed;
     Listing {
@@ -123,12 +123,11 @@ pub fn find_trees(
     trees: Option<&str>,
     deleted: bool,
     entries: &[Unnamed],
-) -> Result<Vec<LostTree>, Refusal>
+) -> Result<LostFound, Refusal>
     requires unnamed { MatchOption trees ⊤ (λ folder. AreUnnamed listing.now entries.now) }
     requires place { IsPlaceOf listing.now standing.now }
-    ensures trees { IfOk result (λ found. MatchOption trees.entry ⊤ (λ folder. AreLostOf deleted (state_of listing.now.table.now)
-        (lost_report listing.now.profile listing.now.table.now listing.now.last (listing_now listing.now)).volume
-        (lost_report listing.now.profile listing.now.table.now listing.now.last (listing_now listing.now)).unnamed found.items)) }
+    ensures found { IfOk result (λ lost. MatchOption trees.entry ⊤ (λ folder. AreFoundOf deleted (state_of listing.now.table.now)
+        (lost_report listing.now.profile listing.now.table.now listing.now.last (listing_now listing.now)) lost.trees.items lost.names)) }
     ensures refused { IfErr result (λ refusal. (refusal ≡ Refusal.Memory alloc_error) ⊎ MatchOption trees.entry ⊥ (λ folder. IsUnsearched deleted listing.now.table.now
         (lost_report listing.now.profile listing.now.table.now listing.now.last (listing_now listing.now)) refusal)) }
 {
@@ -153,16 +152,15 @@ pub fn put_lost<F: Files, O: Sink>(
     alloc: Global,
     listing: Listing<'_>,
     standing: Option<Listing<'_>>,
-    trees: Vec<LostTree>,
+    lost: LostFound,
     request: &ExtractRequest<'_>,
     times: &Times,
     files: &mut F,
     out: &mut O,
 ) -> Result<bool, Refusal>
     requires place { IsPlaceOf listing standing }
-    requires trees { MatchOption request.now.trees ⊤ (λ folder. AreLostOf request.now.deleted (state_of listing.table.now)
-        (lost_report listing.profile listing.table.now listing.last (listing_now listing)).volume
-        (lost_report listing.profile listing.table.now listing.last (listing_now listing)).unnamed trees.items) }
+    requires found { MatchOption request.now.trees ⊤ (λ folder. AreFoundOf request.now.deleted (state_of listing.table.now)
+        (lost_report listing.profile listing.table.now listing.last (listing_now listing)) lost.trees.items lost.names) }
     ensures made { IfOk result (MakesTrees ⟦<F as Known>⟧.reach O.stream request.now files.old files.new out.old out.new listing.entry.table.now
         (lost_report listing.entry.profile listing.entry.table.now listing.entry.last (listing_now listing.entry))) }
     ensures why { IfErr result (λ refusal. MatchOption request.now.trees ⊥ (λ folder. TreesStop F.Files F.Output.stream request.now.deleted request.now.short_names folder.now files.new (O.stream out.old) (O.stream out.new)
@@ -170,7 +168,7 @@ pub fn put_lost<F: Files, O: Sink>(
     ensures spares { MatchOption request.now.trees (files.new ≡ files.old) (λ folder. SparesLost F.Files folder.now files.old files.new) }
 {
     match standing {
-        None => add_trees(alloc, listing, trees, request, times, files, out),
-        Some(place) => add_trees(alloc, place, trees, request, times, files, out),
+        None => add_trees(alloc, listing, lost, request, times, files, out),
+        Some(place) => add_trees(alloc, place, lost, request, times, files, out),
     }
 }

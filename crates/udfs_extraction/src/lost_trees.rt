@@ -8,14 +8,16 @@ ghost use Rattle.udfs_salvage.specs.Listings.{listing_now};
 ghost use Rattle.udfs_extraction.specs.ByRequest.{MakesTrees};
 ghost use Rattle.udfs_extraction.specs.Extracting.{Each, IsPutAt, SparesNodes, TellsLines, all_good, fate_lines, node_line};
 ghost use Rattle.udfs_extraction.specs.LostFiles.{SparesLost};
-ghost use Rattle.udfs_extraction.specs.LostTrees.{AreLostOf, IsTreePut, PutsTrees, StopsAt, tree_lines, tree_path, tree_word};
+ghost use Rattle.udfs_extraction.specs.LostTrees.{AreFoundOf, IsTreePut, PutsTrees, StopsAt, TreePut, tree_lines};
 ghost use Rattle.udfs_extraction.specs.Refused.{TreesStop};
 
 use crate::fate_remarks::{Totals, remark_on_fate};
+use crate::found_places::FoundPlaces;
+use crate::lost_found::LostFound;
 use crate::node_files::{name_file, node_at, path_in, put_node};
 use crate::nodes::{Fate, is_all_good, put_nodes, still_good};
 use crate::places::first_place;
-use crate::short_names::push_icb_number;
+use crate::seats::seat_for;
 use crate::spare::Spare;
 use crate::telling::tell;
 use crate::times::set_written_time;
@@ -30,25 +32,6 @@ use udfs_salvage::{Fill, Listing, has_two_partitions};
 use udfs_tag::LbAddr;
 use udfs_times::Times;
 use udfs_words::request::ExtractRequest;
-
-/// What stands before the paths of a tree in what is printed: `lost:`, and the number of its folder's information control block.
-fn tree_word(alloc: Global, two: bool, folder: LbAddr) -> Result<String, AllocError>
-    ensures { IfOk result (λ word. string_bytes word ≡ tree_word two folder) }
-{
-    let mut word = String::from_str(alloc, "lost:")?;
-    push_icb_number(&mut word, two, folder)?;
-    Ok(word)
-}
-
-/// Where a tree is written: in a folder, by the number of its own folder's information control block.
-fn tree_path(alloc: Global, folder: &str, two: bool, icb: LbAddr) -> Result<String, AllocError>
-    ensures { IfOk result (λ path. string_bytes path ≡ tree_path folder.now two icb) }
-{
-    let mut path = String::from_str(alloc, folder)?;
-    path.push_str("/")?;
-    push_icb_number(&mut path, two, icb)?;
-    Ok(path)
-}
 
 /// What became of the first node of a tree.
 #[derive(Clone, Copy)]
@@ -151,38 +134,35 @@ fn put_tree<F: Files, O: Sink>(
     Ok(still_good(told.good, first.fate))
 }
 
-/// Makes a tree in the folder for lost folders.
+/// Makes a tree in the folder for lost folders: by a name that was found for it, or by its number.
 fn put_lost_tree<F: Files, O: Sink>(
     alloc: Global,
     listing: &Listing<'_>,
     icb: LbAddr,
+    names: &FoundPlaces,
     short: bool,
     folder: &str,
     times: &Times,
     files: &mut F,
     out: &mut O,
 ) -> Result<bool, Refusal>
-    ensures put { (heard : Bool) × (fates : List Fate) × IsTreePut F.Files F.Output.stream files.new listing.now.table.now (volume_now listing.now.volume) short folder.now (record { folder = icb; nodes = listing.now.nodes }) fates ×
-        TellsLines heard (O.stream out.old) (O.stream out.new) (tree_lines listing.now.table.now (volume_now listing.now.volume) short (record { folder = icb; nodes = listing.now.nodes }) fates) ×
-        IfOk result (λ good. (length fates ≡ length listing.now.nodes.items) × (heard ≡ true) × (good ≡ all_good fates)) ×
+    ensures put { (heard : Bool) × (put : TreePut) × IsTreePut F.Files F.Output.stream files.new listing.now.table.now (volume_now listing.now.volume) short folder.now names.now (record { folder = icb; nodes = listing.now.nodes }) put ×
+        TellsLines heard (O.stream out.old) (O.stream out.new) (tree_lines listing.now.table.now (volume_now listing.now.volume) short (record { folder = icb; nodes = listing.now.nodes }) put) ×
+        IfOk result (λ good. (length put.fates ≡ length listing.now.nodes.items) × (heard ≡ true) × (good ≡ all_good put.fates)) ×
         IfErr result (λ refusal. (refusal ≡ Refusal.Memory alloc_error) ⊎ ((refusal ≡ Refusal.Output) × (heard ≡ false))) }
     ensures spares { SparesLost F.Files folder.now files.old files.new }
 {
     let two = has_two_partitions(&listing.volume);
-    let word = match tree_word(alloc, two, icb) {
-        Ok(word) => word,
-        Err(AllocError) => return Err(Refusal::Memory(AllocError)),
-    };
-    let path = match tree_path(alloc, folder, two, icb) {
-        Ok(path) => path,
+    let seat = match seat_for(alloc, two, icb, names, folder, files) {
+        Ok(seat) => seat,
         Err(AllocError) => return Err(Refusal::Memory(AllocError)),
     };
     match put_tree(
         alloc,
         listing,
-        word.as_str(),
+        seat.word.as_str(),
         short,
-        path.as_str(),
+        seat.path.as_str(),
         times,
         files,
         out,
@@ -197,22 +177,25 @@ fn put_next<F: Files, O: Sink>(
     alloc: Global,
     listing: &mut Listing<'_>,
     tree: LostTree,
+    names: &FoundPlaces,
     short: bool,
     folder: &str,
     times: &Times,
     files: &mut F,
     out: &mut O,
 ) -> Result<bool, Refusal>
-    ensures put { (heard : Bool) × (fates : List Fate) × IsTreePut F.Files F.Output.stream files.new listing.old.table.now (volume_now listing.old.volume) short folder.now tree fates ×
-        TellsLines heard (O.stream out.old) (O.stream out.new) (tree_lines listing.old.table.now (volume_now listing.old.volume) short tree fates) ×
-        IfOk result (λ good. (length fates ≡ length tree.nodes.items) × (heard ≡ true) × (good ≡ all_good fates)) ×
+    ensures put { (heard : Bool) × (put : TreePut) × IsTreePut F.Files F.Output.stream files.new listing.old.table.now (volume_now listing.old.volume) short folder.now names.now tree put ×
+        TellsLines heard (O.stream out.old) (O.stream out.new) (tree_lines listing.old.table.now (volume_now listing.old.volume) short tree put) ×
+        IfOk result (λ good. (length put.fates ≡ length tree.nodes.items) × (heard ≡ true) × (good ≡ all_good put.fates)) ×
         IfErr result (λ refusal. (refusal ≡ Refusal.Memory alloc_error) ⊎ ((refusal ≡ Refusal.Output) × (heard ≡ false))) }
     ensures same { (listing.new.volume ≡ listing.old.volume) × (listing.new.table ≡ listing.old.table) }
     ensures spares { SparesLost F.Files folder.now files.old files.new }
 {
     let LostTree { folder: icb, nodes } = tree;
     listing.nodes = nodes;
-    match put_lost_tree(alloc, listing, icb, short, folder, times, files, out) {
+    match put_lost_tree(
+        alloc, listing, icb, names, short, folder, times, files, out,
+    ) {
         Ok(good) => Ok(good),
         Err(refusal) => Err(refusal),
     }
@@ -223,22 +206,33 @@ fn put_trees<F: Files, O: Sink>(
     alloc: Global,
     listing: Listing<'_>,
     trees: Vec<LostTree>,
+    names: &FoundPlaces,
     short: bool,
     folder: &str,
     times: &Times,
     files: &mut F,
     out: &mut O,
 ) -> Result<bool, Refusal>
-    ensures put { IfOk result (PutsTrees (IsTreePut F.Files F.Output.stream files.new listing.entry.table.now (volume_now listing.entry.volume) short folder.now)
+    ensures put { IfOk result (PutsTrees (IsTreePut F.Files F.Output.stream files.new listing.entry.table.now (volume_now listing.entry.volume) short folder.now names.now)
         (tree_lines listing.entry.table.now (volume_now listing.entry.volume) short) trees.items (O.stream out.old) (O.stream out.new)) }
-    ensures why { IfErr result (StopsAt (IsTreePut F.Files F.Output.stream files.new listing.entry.table.now (volume_now listing.entry.volume) short folder.now)
+    ensures why { IfErr result (StopsAt (IsTreePut F.Files F.Output.stream files.new listing.entry.table.now (volume_now listing.entry.volume) short folder.now names.now)
         (tree_lines listing.entry.table.now (volume_now listing.entry.volume) short) trees.items (O.stream out.old) (O.stream out.new)) }
     ensures spares { SparesLost F.Files folder.now files.old files.new }
 {
     let mut current = listing;
     let mut good = true;
     for tree in trees {
-        match put_next(alloc, &mut current, tree, short, folder, times, files, out) {
+        match put_next(
+            alloc,
+            &mut current,
+            tree,
+            names,
+            short,
+            folder,
+            times,
+            files,
+            out,
+        ) {
             Ok(put) => good = is_all_good(good, put),
             Err(refusal) => return Err(refusal),
         }
@@ -246,8 +240,9 @@ fn put_trees<F: Files, O: Sink>(
     Ok(good)
 }
 
-/// Writes lost folders with what is in them, and lost files, into a folder of their own, where they are asked for: each at the number of its block, and names below
-/// it as `extract` writes those of the volume. `trees` are those that [`found_trees`](crate::lost_found::found_trees) found. Returns whether nothing failed.
+/// Writes lost folders with what is in them, and lost files, into a folder of their own, where they are asked for: each at the number of its block, or below `by-name` at
+/// a name that was found for it, and names below it as `extract` writes those of the volume. `lost` is what [`found_trees`](crate::lost_found::found_trees) found. Returns
+/// whether nothing failed.
 ///
 /// # Errors
 ///
@@ -255,13 +250,13 @@ fn put_trees<F: Files, O: Sink>(
 pub fn add_trees<F: Files, O: Sink>(
     alloc: Global,
     listing: Listing<'_>,
-    trees: Vec<LostTree>,
+    lost: LostFound,
     request: &ExtractRequest<'_>,
     times: &Times,
     files: &mut F,
     out: &mut O,
 ) -> Result<bool, Refusal>
-    requires { MatchOption request.now.trees ⊤ (λ folder. AreLostOf request.now.deleted (state_of listing.table.now) (volume_now listing.volume) (listing_now listing).unnamed trees.items) }
+    requires { MatchOption request.now.trees ⊤ (λ folder. AreFoundOf request.now.deleted (state_of listing.table.now) (listing_now listing) lost.trees.items lost.names) }
     ensures made { IfOk result (MakesTrees ⟦<F as Known>⟧.reach O.stream request.now files.old files.new out.old out.new listing.entry.table.now (listing_now listing.entry)) }
     ensures why { IfErr result (λ refusal. MatchOption request.now.trees ⊥ (λ folder. TreesStop F.Files F.Output.stream request.now.deleted request.now.short_names folder.now files.new (O.stream out.old) (O.stream out.new) listing.entry.table.now (listing_now listing.entry) refusal)) }
     ensures spares { MatchOption request.now.trees (files.new ≡ files.old) (λ folder. SparesLost F.Files folder.now files.old files.new) }
@@ -272,10 +267,12 @@ pub fn add_trees<F: Files, O: Sink>(
     if !make_if_open(&listing.volume, folder, files) {
         return Err(Refusal::LostFolder);
     }
+    let LostFound { trees, names } = lost;
     match put_trees(
         alloc,
         listing,
         trees,
+        &names,
         request.short_names,
         folder,
         times,

@@ -24,13 +24,9 @@ use udfs_common::files::Files;
 use udfs_reading::Sink;
 use udfs_salvage::{Fill, Listing};
 use udfs_times::Times;
-use udfs_walk::Node;
 
 /// How many nodes a run has at most.
 const NODES: usize = 256;
-
-/// How many bytes are written in a run, at most, before its last file: 16 MiB.
-const BYTES: u64 = 16_777_216;
 
 /// What became of the nodes of a volume.
 #[derive(Drop)]
@@ -62,21 +58,10 @@ impl Told {
     }
 }
 
-/// How many bytes were written up to a node, by how many they were before it.
-fn written_to(bytes: u64, node: &Node, fate: Fate) -> u64 {
-    if fate != Fate::Written {
-        return bytes;
-    }
-    match node.size {
-        Some(size) => bytes.saturating_add(size),
-        None => bytes,
-    }
-}
-
-/// Whether a run ends with the node that is put behind `count` others: it has as many nodes as may be, or as many bytes; or what was to be made of the last one
-/// failed, so that the reason is said before another call fails.
-fn is_last(count: usize, bytes: u64, fate: Fate) -> bool {
-    if count + 1 >= NODES || bytes >= BYTES {
+/// Whether a run ends with its last node, by how many it has and whether its second is over; or because what was to be made of that node failed, so that the
+/// reason is said before another call fails.
+fn is_last(count: usize, late: bool, fate: Fate) -> bool {
+    if late || count >= NODES {
         return true;
     }
     match fate {
@@ -118,7 +103,8 @@ fn put_one<F: Files>(
     Ok(Put { place, path, done })
 }
 
-/// Does what is to be done with the nodes of a run, of which the first has this index. Of a file that is written the name may not be on the disk yet.
+/// Does what is to be done with the nodes of a run, of which the first has this index. Of a file that is written the name may not be on the disk yet. There is
+/// room for what is known of a node before anything is done with it.
 fn put_each<F: Files>(
     alloc: Global,
     listing: &Listing<'_>,
@@ -144,15 +130,16 @@ fn put_each<F: Files>(
     ensures spares { SparesRun F.Files (texts only.now) fill short (listing_now listing.now) folder.now files.old files.new }
 {
     let spare = Spare::new();
-    let mut bytes = 0;
+    let began = files.seconds();
     for index in first..listing.nodes.len() {
+        puts.reserve(1)?;
         let put = put_one(
             alloc, listing, index, only, fill, short, digest, folder, &spare, way, files,
         )?;
         let fate = put.done.fate;
-        bytes = written_to(bytes, node_at(listing, index), fate);
-        let last = is_last(puts.len(), bytes, fate);
-        puts.push(put)?;
+        puts.push_reserved(put);
+        let late = files.seconds() != began;
+        let last = is_last(puts.len(), late, fate);
         if last {
             return Ok(());
         }
@@ -187,18 +174,12 @@ fn tell_put<F: Files, O: Sink>(
 {
     let fate = end_of(put, named, files);
     let digest = put.done.digest;
-    let node = node_at(listing, index);
     note(&mut told.manifest, Done { fate, digest }, index)?;
+    let node = node_at(listing, index);
+    let own = &put.place.own;
+    let heard = tell(alloc, told.heard, fate, word, &node.path, own, out)?;
+    told.heard = heard;
     told.good = still_good(told.good, fate);
-    told.heard = tell(
-        alloc,
-        told.heard,
-        fate,
-        word,
-        &node.path,
-        &put.place.own,
-        out,
-    )?;
     remark_on_fate(alloc, listing, word, node, fate, &mut told.totals, files);
     let place = put.place.text.as_str();
     note_time(
@@ -302,21 +283,11 @@ pub fn put_run<F: Files, O: Sink>(
     let put = put_each(
         alloc, listing, first, only, fill, short, digest, folder, way, &mut puts, files,
     );
-    let named = name_files(puts.as_slice(), files);
+    let made = puts.as_slice();
+    let named = name_files(made, files);
     tell_each(
-        alloc,
-        listing,
-        first,
-        puts.as_slice(),
-        named,
-        word,
-        only,
-        folder,
-        times,
-        told,
-        files,
-        out,
+        alloc, listing, first, made, named, word, only, folder, times, told, files, out,
     )?;
     put?;
-    Ok(first + puts.len())
+    Ok(first + made.len())
 }

@@ -80,9 +80,9 @@ pub(crate) fn is_mapped<B: BlockStore>(
         blocks: &filled,
         space: view.space,
     };
-    let body = body_by(alloc, stored, address)?;
-    match body {
-        Some(_) => Ok(true),
-        None => Ok(false),
+    match body_by(alloc, stored, address) {
+        Ok(Some(_)) => Ok(true),
+        Ok(None) => Ok(false),
+        Err(why) => Err(why),
     }
 }

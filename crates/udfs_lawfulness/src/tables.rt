@@ -156,16 +156,12 @@ fn copies_apart<B: BlockStore>(
 }
 
 /// The bytes of a block, if it is known.
-fn known_block<'r, B: BlockStore>(
-    blocks: &'r B,
-    n: u32,
-    room: &'r mut [u8; 2048],
-) -> Result<Option<&'r [u8; 2048]>, ReadFault>
-    ensures known { IfOk result (λ read. B.tells → MatchOption read (is_known (B.states blocks.now n) ≡ false) (λ block. B.states blocks.now n ≡ Known block.now)) }
-    ensures size { IfOk result (λ read. IfSome read (λ block. length block.now ≡ 2048)) }
+fn known_block<B: BlockStore>(blocks: &B, n: u32) -> Result<Option<[u8; 2048]>, ReadFault>
+    ensures known { IfOk result (λ read. B.tells → MatchOption read (is_known (B.states blocks.now n) ≡ false) (λ block. B.states blocks.now n ≡ Known block)) }
+    ensures size { IfOk result (λ read. IfSome read (λ block. length block ≡ 2048)) }
     ensures fails { OnErr result B.fails }
 {
-    match blocks.lend(n, room)? {
+    match blocks.read(n)? {
         Fact::Known(block) => Ok(Some(block)),
         _ => Ok(None),
     }
@@ -186,13 +182,12 @@ fn copy_bytes<B: BlockStore>(
     ensures fails { IsErrOf result GaveUp.Unread → B.fails }
 {
     let mut bytes = Vec::new(alloc);
-    let mut room = [0; 2048];
     for k in 0..blocks_in(size) {
-        let read = known_block(blocks, place + k, &mut room)?;
+        let read = known_block(blocks, place + k)?;
         let Some(block) = read else {
             return Ok(None);
         };
-        bytes.extend_from_slice(block)?;
+        bytes.extend_from_slice(&block)?;
     }
     bytes.truncate(size as usize);
     Ok(Some(bytes))

@@ -68,11 +68,7 @@ fn is_torn(standing: &Standing) -> bool
 }
 
 /// Whether a torn node could be unlawful: not if it is no directory, and all its allocation descriptors are known.
-fn asks<B: BlockStore>(
-    alloc: Global,
-    view: StoreView<'_, B>,
-    node: &Node,
-) -> Result<bool, GaveUp>
+fn asks<B: BlockStore>(alloc: Global, view: StoreView<'_, B>, node: &Node) -> Result<bool, GaveUp>
     ensures value { IfOk result (λ asked. B.tells → asked ≡ asks (view_by B.states view.entry) node.now) }
     ensures fails { IsErrOf result GaveUp.Unread → B.fails }
 {

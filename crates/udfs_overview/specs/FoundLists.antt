@@ -56,7 +56,7 @@ abbrev pub folders_found : ListForm → View → Bool → Names → List ℕ →
 folders_found form view two names word nodes = flat_map (folder_found form view two names word) (torn_folders nodes)
 
 -- of a lost tree
-abbrev pub tree_found : ListForm → View → Bool → Names → LostTree → List ℕ
+unfoldable pub tree_found : ListForm → View → Bool → Names → LostTree → List ℕ
 tree_found form view two names t = folders_found form view two names (lost_word two t.folder) t.nodes.items
 
 -- of a volume that has these nodes, and then of lost trees

@@ -82,8 +82,7 @@ fn print_report<B: ReportStore, O: Sink>(
 }
 
 /// What is said where it could not be found whether the guarantee holds.
-const UNJUDGED: &str =
-    "whether the guarantee holds is not known: an input could not be read again";
+const UNJUDGED: &str = "whether the guarantee holds is not known: an input could not be read again";
 
 /// Says in remarks what is said of a volume beside its report, and whether the guarantee holds for it, or that an input could not be read for it.
 fn remark_survey<B: ReportStore, F: Files>(alloc: Global, survey: &Survey<'_, B>, files: &F) {

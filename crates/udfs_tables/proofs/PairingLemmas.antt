@@ -10,9 +10,9 @@ use Rattle.udfs_common.specs.Keeping.{IsKept}
 use Rattle.udfs_common.specs.Reach.{Reach, found_at}
 use Rattle.udfs_common.specs.Refusing.{IsUnput}
 use Rattle.udfs_common.specs.declared.refusal.Refusal.{Refusal}
-use Rattle.udfs_common.specs.declared.refusal.Refusal.TheVariants.{Memory, Output, Spared}
+use Rattle.udfs_common.specs.declared.refusal.Refusal.TheVariants.{Memory, Output, Reread, Spared}
 use Rattle.udfs_tables.proofs.ImagingLemmas.{after_clear, after_image, after_mapfile, still_image, still_none}
-use Rattle.udfs_tables.specs.Imaging.{OfDisc}
+use Rattle.udfs_tables.specs.Imaging.{ImageUnput, OfDisc}
 use Rattle.udfs_tables.specs.Joining.{OfInputs}
 use Rattle.udfs_common.specs.Refused.{IsRereadOf}
 use Rattle.udfs_tables.specs.Pairing.{AreKept, BothReplaced, GoesPair, IsGone, IsPairPut, IsUnmade, LeftPair, PairFails, PutsPair, SparesPair, Stands}
@@ -154,6 +154,15 @@ pub of_held_disc : {F I M S W : Type 0} (reach : Reach F I M S W) (old : F) (req
 of_held_disc reach old request last table Holds end of holds =
     of_disc reach old request last Holds end (record { one_disc = of.one_disc; join = (of.join.0, of.join.1, subst (λ (t : Table). Holds last t) of.join.2 holds) })
 
+-- why the image of the join was not put
+pub of_unput : {F I M S W : Type 0} (reach : Reach F I M S W) (old : F) (request : ImageRequest) (last : ℕ) (refusal : Refusal) → IsEnd (found_at reach old) request.last request.inputs.paths.items last → OfInputs reach old request.inputs request.force (ImageUnput reach old request last refusal) → OfDisc reach old request (λ n. ImageUnput reach old request n refusal)
+of_unput reach old request last refusal end of = (last, end, of)
+
+-- and where the join was held
+pub of_held_unput : {F I M S W : Type 0} (reach : Reach F I M S W) (old : F) (request : ImageRequest) (last : ℕ) (table : Table) (refusal : Refusal) → IsEnd (found_at reach old) request.last request.inputs.paths.items last →
+    OfInputs reach old request.inputs request.force (λ t. table ≡ t) → ImageUnput reach old request last refusal table → OfDisc reach old request (λ n. ImageUnput reach old request n refusal)
+of_held_unput reach old request last table refusal end of unput = of_held_disc reach old request last table (λ n t. ImageUnput reach old request n refusal t) end of unput
+
 -- ---- why they were not put
 
 either_of : {A B C : Type 0} → A ⊎ B → A ⊎ B ⊎ C
@@ -173,9 +182,10 @@ not_made inputs refusal (inl (inl memory)) = inl (inl memory)
 not_made inputs refusal (inl (inr failed)) = inl (inr (failed.0, inr (inr failed.1)))
 not_made inputs refusal (inr reread) = inr reread
 
-pub left_made : {F I M S W : Type 0} (reach : Reach F I M S W) (image mapfile : List ℕ) (old new : F) (inputs : ℕ) (refusal : Refusal) → IsUnput (PairFails reach image mapfile old) refusal ⊎ IsRereadOf inputs refusal → LeftPair reach image mapfile old new refusal
-left_made reach image mapfile old new inputs refusal (inl unput) = inr (inl unput)
-left_made reach image mapfile old new inputs refusal (inr reread) = inr (inr (reread.0 + 1, reread.1, reread.3))
+-- and so nothing more is there than before
+pub left_made : {X : Type 0} (inputs : ℕ) (refusal : Refusal) → IsUnput X refusal ⊎ IsRereadOf inputs refusal → IsUnput X refusal ⊎ ((input number : ℕ) × (refusal ≡ Reread input number))
+left_made inputs refusal (inl unput) = inl unput
+left_made inputs refusal (inr reread) = inr (reread.0 + 1, reread.1, reread.3)
 
 -- where no input is read again, none could not be
 pub no_input : {refusal : Refusal} → IsRereadOf 0 refusal → ⊥

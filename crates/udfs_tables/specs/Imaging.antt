@@ -26,16 +26,16 @@ use Rattle.udfs_common.specs.declared.refusal.Refusal.TheVariants.{LastRange, Me
 use Rattle.udfs_tables.specs.Joining.{IsNotJoined, OfInputs}
 use Rattle.udfs_tables.specs.Pairing.{PairFails}
 
--- the last block is in range, and, where it is known what files hold (`tells`), nothing is known of a later one
-pub record IsImageOf (tells : Type 0) (last : ℕ) (bytes text : List ℕ) (t : Table) : Type 0 where
+-- the last block is in range, and, where it is known what each file holds that is read at positions (`told`), nothing is known of a later one
+pub record IsImageOf (told : Type 0) (last : ℕ) (bytes text : List ℕ) (t : Table) : Type 0 where
   pub in_range : ¬ IsOutOfRange last
-  pub nothing_past : tells → IsNothingPast (state_of t) last
+  pub nothing_past : told → IsNothingPast (state_of t) last
   pub image : bytes ≡ image_bytes t last
   pub mapfile : text ≡ map_text (table_status t) last
 
 -- the last block is out of range; or something is known of a later one, and the first such is named
 abbrev pub HasNoImage : Type 0 → ℕ → Refusal → Table → Type 0
-HasNoImage tells last refusal t = ((refusal ≡ LastRange) × IsOutOfRange last) ⊎ ((n : ℕ) × (refusal ≡ PastEnd n) × (¬ IsOutOfRange last) × (tells → IsPastEnd (state_of t) last n))
+HasNoImage told last refusal t = ((refusal ≡ LastRange) × IsOutOfRange last) ⊎ ((n : ℕ) × (refusal ≡ PastEnd n) × (¬ IsOutOfRange last) × (told → IsPastEnd (state_of t) last n))
 
 module _ {F I M S W : Type 0} (reach : Reach F I M S W) (old : F) (request : ImageRequest) where
   -- the last block that was given, or that with which the mapfiles of all inputs end
@@ -44,7 +44,7 @@ module _ {F I M S W : Type 0} (reach : Reach F I M S W) (old : F) (request : Ima
 
   -- an image and its mapfile
   abbrev pub IsImaged : List ℕ → List ℕ → Type 0
-  IsImaged bytes text = OfDisc (λ last. IsImageOf reach.files.tells last bytes text)
+  IsImaged bytes text = OfDisc (λ last. IsImageOf reach.stored_told last bytes text)
 
   -- where it is known what files hold
   abbrev pub IsPairFree : Type 0
@@ -62,12 +62,12 @@ module _ {F I M S W : Type 0} (reach : Reach F I M S W) (old : F) (request : Ima
 
   -- it has no image; or the two have no place any more; or they were not put
   abbrev pub ImageUnput : ℕ → Refusal → Table → Type 0
-  ImageUnput last refusal t = HasNoImage reach.files.tells last refusal t ⊎ ((refusal ≡ Spared) × (reach.files.tells → HaveNoPlace (reach.files.real old) (reach.files.in_place old) request.force request.image.now request.mapfile.now)) ⊎
+  ImageUnput last refusal t = HasNoImage reach.stored_told last refusal t ⊎ ((refusal ≡ Spared) × (reach.files.tells → HaveNoPlace (reach.files.real old) (reach.files.in_place old) request.force request.image.now request.mapfile.now)) ⊎
       IsUnput (PairFails reach request.image.now request.mapfile.now old) refusal
 
   -- the inputs were not joined, or not read a second time, and why; by force no image is named as one of another disc
   abbrev pub IsNotTaken : Refusal → Type 0
-  IsNotTaken refusal = IndexRefused reach.files.tells (found_at reach old) (reach.files.shut old) reach.remaining request.inputs.paths.items refusal × (request.force ≡ true → NamesNoOther refusal)
+  IsNotTaken refusal = IndexRefused reach.stored_told (found_at reach old) (reach.files.shut old) reach.remaining request.inputs.paths.items refusal × (request.force ≡ true → NamesNoOther refusal)
 
   -- they may not be written; or no last block is known, or the inputs were not joined; or their image was not put
   abbrev pub ImageRefused : Refusal → Type 0

@@ -32,4 +32,4 @@ module _ {F I M S W : Type 0} (reach : Reach F I M S W) (old : F) (inputs : Inpu
 
   -- by force no image is named as one of another disc
   abbrev pub IsNotWritten : Refusal → Type 0
-  IsNotWritten refusal = (IndexRefused reach.files.tells (found_at reach old) (reach.files.shut old) reach.remaining inputs.paths.items refusal ⊎ IsUnput (PutFails reach out old) refusal) × (force ≡ true → NamesNoOther refusal)
+  IsNotWritten refusal = (IndexRefused reach.stored_told (found_at reach old) (reach.files.shut old) reach.remaining inputs.paths.items refusal ⊎ IsUnput (PutFails reach out old) refusal) × (force ≡ true → NamesNoOther refusal)

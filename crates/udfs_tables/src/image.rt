@@ -3,6 +3,7 @@
 ghost use Rattle.std.specs.Prelude.{◌≡◌, ◌⊎◌, ◌<◌, ◌≤◌, ℕ, IfErr, OnOk, Some, None, length, string_bytes};
 ghost use Rattle.udfs_files.specs.Disk.{Fails, SinkFails};
 ghost use Rattle.udfs_files.specs.declared.files.Kind.{Kind};
+ghost use Rattle.udfs_index.specs.Copying.{AreAllTold};
 ghost use Rattle.udfs_lattice.specs.Tables.{Table, state_of};
 ghost use Rattle.udfs_rescue.specs.Images.{image_bytes};
 ghost use Rattle.udfs_rescue.specs.Writing.{map_text, table_status};
@@ -109,8 +110,8 @@ fn put_imaged<F: Files, T: Imaged>(
     request: &ImageRequest<'_>,
     files: &mut F,
 ) -> Result<(), Refusal>
-    ensures puts { (t : Table) → (F.tells → T.shows of.now t) → PutsPair ⟦<F as Known>⟧.reach (λ bytes text. IsImageOf F.tells last bytes text t) request.now.image.now request.now.mapfile.now files.old files.new result }
-    ensures why { IfErr result (λ refusal. IsRereadOf (T.inputs of.now) refusal ⊎ ((t : Table) → (F.tells → T.shows of.now t) → ImageUnput ⟦<F as Known>⟧.reach files.old request.now last refusal t)) }
+    ensures puts { (t : Table) → (AreAllTold F.Stored.content → T.shows of.now t) → PutsPair ⟦<F as Known>⟧.reach (λ bytes text. IsImageOf (AreAllTold F.Stored.content) last bytes text t) request.now.image.now request.now.mapfile.now files.old files.new result }
+    ensures why { IfErr result (λ refusal. IsRereadOf (T.inputs of.now) refusal ⊎ ((t : Table) → (AreAllTold F.Stored.content → T.shows of.now t) → ImageUnput ⟦<F as Known>⟧.reach files.old request.now last refusal t)) }
 {
     match check_end(of, last) {
         Ok(()) => {}

@@ -26,9 +26,6 @@ pub trait Imaged: Statuses {
     /// This table says of each block what it does, where it is known what the inputs hold.
     ghost shows: { Self → Table → Type 0 };
 
-    /// So do the statuses of its blocks.
-    ghost shown: { (one : Self) (t : Table) → shows one t → (n : ℕ) → Self.statuses one n ≡ table_status t n };
-
     /// How many inputs are read again.
     ghost inputs: { Self → ℕ };
 
@@ -56,6 +53,9 @@ pub trait Imaged: Statuses {
     /// What is said of an image that was not written.
     fn refusal(&self, fault: Self::Fault) -> Refusal
         ensures { ((result ≡ Refusal.Output) × blames self.now fault) ⊎ IsRereadOf (inputs self.now) result };
+
+    /// The statuses of its blocks are those of a table that says of each block what it does.
+    ghost shown: { (one : Self) (t : Table) → shows one t → (n : ℕ) → Self.Statuses.statuses one n ≡ table_status t n };
 }
 
 impl Imaged for BlockTable {

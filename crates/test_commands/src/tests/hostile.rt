@@ -39,6 +39,19 @@ disc nested 65
 but
 $ report --last 600 disc.tab
 line node 64 fault-13 directory 40 2001-07-04T09:30:00.000000Z «64*/D»
+
+# So is one with 64 names below a lost folder: the root's block is not read, and the link count of the entry at logical block 3 is 1.
+disc nested 65
+write 275 48 \x01
+but 274
+$ list --lost --last 600 disc.tab
+line whole\tdirectory\t0\t0\t2001-07-04T09:30:00Z\tlost:3«64*/D»
+
+disc nested 66
+write 275 48 \x01
+but 274
+$ list --lost --last 600 disc.tab
+line fault 13\tdirectory\t-\t40\t2001-07-04T09:30:00Z\tlost:3«64*/D»
 ";
 
 #[test]

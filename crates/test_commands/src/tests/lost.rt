@@ -211,6 +211,70 @@ done 1 volume fault 16 FileSet\nwritten lost:1/A\nwritten lost:1/B\n
 survives found/1/B text Hi
 files 3
 
+= what_has_a_name_behind_a_hole_is_written_by_it
+# The first of two blocks of /D is not read. In the second are A, a file, and E, a folder with B in it.
+directory 1 D=10
+directory 10 A=3
+directory 20 B=4
+write 282 48 \x01
+write 282 56 \x50\x08
+write 282 176 \x50\x08
+write 292 48 \x01
+write 275 48 \x01
+write 284 0 \x01\x01\x02\0\x3e\0\0\0\xf1\x25\x18\0\x0c\0\0\0\x01\0\0\x02\0\x08\0\0\x03\0\0\0\0\0\0\0\0\0\0\0\0\0\x08A
+write 284 40 \x01\x01\x02\0\x6d\0\0\0\x50\xf5\x18\0\x0c\0\0\0\x01\0\x02\x02\0\x08\0\0\x14\0\0\0\0\0\0\0\0\0\0\0\0\0\x08E
+
+but 283
+$ extract --last 600 --to out --times --lost found disc.tab
+done 1 written found:/D/E/B\nwritten found:/D/A\n
+survives found/by-name/D/A text «2048*a»«2048*b»«904*c»
+survives found/by-name/D/E/B text Hi
+modified found/by-name/D/A 994239000000000
+modified found/by-name/D/E 994239000000000
+no-folder found/20
+files 3
+
+# Where the root is not read, the torn folder is lost itself.
+but 274 283
+$ extract --last 600 --to out --lost found disc.tab
+done 1 written found:lost:10/E/B\nwritten found:lost:10/A\n
+has-folder found/10
+survives found/by-name/10/A text «2048*a»«2048*b»«904*c»
+survives found/by-name/10/E/B text Hi
+files 3
+
+# A file that is torn is not written, by its name as by its number.
+but 283 278
+$ extract --last 600 --to out --lost found disc.tab
+done 1 written found:/D/E/B\n
+files 2
+
+but 283
+$ extract --last 600 --to out disc.tab
+done 1
+files 1
+
+= what_has_its_name_from_two_is_written_by_the_first
+# In the second block of /D are A of one file, A of another, and X of the same: each is written once, and neither in the place of the other.
+directory 1 D=10
+directory 10 A=3
+write 282 48 \x01
+write 282 56 \x78\x08
+write 282 176 \x78\x08
+write 275 48 \x01
+write 276 48 \x01
+write 284 0 \x01\x01\x02\0\x3e\0\0\0\xf1\x25\x18\0\x0c\0\0\0\x01\0\0\x02\0\x08\0\0\x03\0\0\0\0\0\0\0\0\0\0\0\0\0\x08A
+write 284 40 \x01\x01\x02\0\xe3\0\0\0\x6e\x4d\x18\0\x0c\0\0\0\x01\0\0\x02\0\x08\0\0\x04\0\0\0\0\0\0\0\0\0\0\0\0\0\x08A
+write 284 80 \x01\x01\x02\0\x6c\0\0\0\x76\xce\x18\0\x0c\0\0\0\x01\0\0\x02\0\x08\0\0\x04\0\0\0\0\0\0\0\0\0\0\0\0\0\x08X
+
+but 283
+$ extract --last 600 --to out --lost found disc.tab
+done 1 written found:/D/A\nwritten lost:4\n
+survives found/by-name/D/A text «2048*a»«2048*b»«904*c»
+survives found/4 text Hi
+no-folder found/by-name/D/X
+files 3
+
 = a_volume_that_does_not_open
 but 33 49
 

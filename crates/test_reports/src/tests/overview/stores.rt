@@ -11,8 +11,8 @@ use udfs_lattice::{BlockStore, BlockTable, Fact, ReadFault};
 use udfs_overview::{write_list_by, write_listing_by};
 use udfs_reading::Writer;
 use udfs_salvage::{
-    Listing, PrintError, ReportStore, Survey, list_volume_by, survey_volume, write_json, write_json_by,
-    write_survey, write_survey_by,
+    Listing, PrintError, ReportStore, Survey, list_volume_by, survey_volume, write_json,
+    write_json_by, write_survey, write_survey_by,
 };
 use udfs_samples::{Disc, LAST};
 use udfs_volume::Profile;

@@ -24,7 +24,7 @@ returns-in-Err-standing_in-clause-spares g c = inl refl
 
 pub returns-in-Err-find_trees-clause-why : goal.returns-in-Err-find_trees-clause-why
 returns-in-Err-find_trees-clause-why g c = unfound_trees _ _ c.args.request.now _ _ _ _ _ _ _ _ _ c.in-Ok.ensures.report c.in-Ok.ensures.of.0
-    (same_place c.in-Ok.ensures.rules c.in-Ok.ensures.of.1) c.in-Err-find_trees.ensures.refused
+    (same_place _ _ _ _ c.in-Ok.listing.table.now (listing_now c.in-Ok.listing) c.in-Ok.ensures.rules c.in-Ok.ensures.of.1) c.in-Err-find_trees.ensures.refused
 
 pub returns-in-Err-find_trees-clause-spares : goal.returns-in-Err-find_trees-clause-spares
 returns-in-Err-find_trees-clause-spares g c = inl refl
@@ -65,7 +65,7 @@ pub returns-in-Ok-put_lost-clause-made : goal.returns-in-Ok-put_lost-clause-made
 returns-in-Ok-put_lost-clause-made g c = (
   listing_now c.in-Ok.listing,
   c.in-Ok.ensures.report,
-  made _ _ _ _ _ _ _ _ _ _ _ _ _ _ _ _ _ _ _ _ _ _ _ c.in-Ok.ensures.of.0 (same_place c.in-Ok.ensures.rules c.in-Ok.ensures.of.1) c.in-Ok-list_report.ensures.made.1 c.in-Ok-add_lost.ensures.made c.in-Ok-put_lost.ensures.made c.is_all_good.ensures c.is_all_good-in-Ok-put_lost.ensures,
+  made _ _ _ _ _ _ _ _ _ _ _ _ _ _ _ _ _ _ _ _ _ _ _ c.in-Ok.ensures.of.0 (same_place _ _ _ _ c.in-Ok.listing.table.now (listing_now c.in-Ok.listing) c.in-Ok.ensures.rules c.in-Ok.ensures.of.1) c.in-Ok-list_report.ensures.made.1 c.in-Ok-add_lost.ensures.made c.in-Ok-put_lost.ensures.made c.is_all_good.ensures c.is_all_good-in-Ok-put_lost.ensures,
 )
 
 pub returns-in-Ok-put_lost-clause-spares : goal.returns-in-Ok-put_lost-clause-spares
@@ -90,5 +90,5 @@ pub returns-clause-why : goal.returns-clause-why
 returns-clause-why g c = inr (
   listing_now c.in-Ok.listing,
   c.in-Ok.ensures.report,
-  inr (beyond_stops _ _ _ _ _ _ _ _ _ _ _ _ _ _ _ _ _ _ _ _ _ c.in-Ok.ensures.of.0 (same_place c.in-Ok.ensures.rules c.in-Ok.ensures.of.1) c.in-Ok-list_report.ensures.made.1 c.in-Ok-add_lost.ensures.made c.in-Err-put_lost.ensures.why),
+  inr (beyond_stops _ _ _ _ _ _ _ _ _ _ _ _ _ _ _ _ _ _ _ _ _ c.in-Ok.ensures.of.0 (same_place _ _ _ _ c.in-Ok.listing.table.now (listing_now c.in-Ok.listing) c.in-Ok.ensures.rules c.in-Ok.ensures.of.1) c.in-Ok-list_report.ensures.made.1 c.in-Ok-add_lost.ensures.made c.in-Err-put_lost.ensures.why),
 )

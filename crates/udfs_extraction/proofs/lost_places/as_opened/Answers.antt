@@ -10,4 +10,4 @@ use Rattle.udfs_extraction.proofs.lost_places.as_opened.Goals as goal
 pub returns : goal.returns
 returns c =
     let volume = found (stand_in (placed_now c.args.placed)) in
-    (ap (λ nodes. nodes_report c.args.table.now volume (map (full_in (state_of c.args.table.now) volume) nodes)) c.new.ensures.items, refl)
+    record { of = (ap (λ nodes. nodes_report c.args.table.now volume (map (full_in (state_of c.args.table.now) volume) nodes)) c.new.ensures.items, refl) }

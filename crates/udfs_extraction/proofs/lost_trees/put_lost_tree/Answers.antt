@@ -1,26 +1,19 @@
-use Rattle.std.proofs.Common.{◌≡◌, ◌∙◌, [], ap, inl, refl, rules, subst, true}
+use Rattle.std.proofs.Common.{◌≡◌, ◌∙◌, [], None, ap, inl, refl, rules, subst, true}
 use Rattle.udfs_salvage.specs.Found.{volume_now}
 use Rattle.udfs_salvage.specs.Listings.{listing_now}
 use Rattle.udfs_salvage.specs.Texts.{has_two}
 use Rattle.udfs_salvage.specs.declared.extraction.Fill.TheVariants.{Refuse}
 use Rattle.udfs_extraction.specs.Extracting.{Each, IsPutAt, TellsLines, fate_lines, node_line}
-use Rattle.udfs_extraction.specs.LostTrees.{tree_path, tree_word}
-use Rattle.udfs_extraction.specs.ShortNames.{icb_number}
-use Rattle.udfs_extraction.proofs.LostLemmas.{nothing_lost}
+use Rattle.udfs_extraction.specs.Seats.{seat_part, seat_path, seat_word}
+use Rattle.udfs_extraction.proofs.LostLemmas.{lost_on, lost_same}
 use Rattle.udfs_extraction.proofs.TreeLemmas.{spares_tree}
 use Rattle.udfs_extraction.proofs.lost_trees.put_lost_tree.Goals as goal
 
 pub returns-in-Err-clause-put : goal.returns-in-Err-clause-put
-returns-in-Err-clause-put g c = (true, [], tt, record { given = search rules; kept = refl }, tt, inl refl)
+returns-in-Err-clause-put g c = (true, record { seat = None; fates = [] }, (tt, tt), record { given = search rules; kept = refl }, tt, inl refl)
 
 pub returns-in-Err-clause-spares : goal.returns-in-Err-clause-spares
-returns-in-Err-clause-spares g c = nothing_lost _ _ _
-
-pub returns-in-Err-tree_path-clause-put : goal.returns-in-Err-tree_path-clause-put
-returns-in-Err-tree_path-clause-put g c = (true, [], tt, record { given = search rules; kept = refl }, tt, inl refl)
-
-pub returns-in-Err-tree_path-clause-spares : goal.returns-in-Err-tree_path-clause-spares
-returns-in-Err-tree_path-clause-spares g c = nothing_lost _ _ _
+returns-in-Err-clause-spares g c = lost_same _ _ _ _ c.seat_for.ensures.others c.seat_for.ensures.crash
 
 pub returns-in-Ok-put_tree-clause-put : goal.returns-in-Ok-put_tree-clause-put
 returns-in-Ok-put_tree-clause-put g c =
@@ -30,14 +23,16 @@ returns-in-Ok-put_tree-clause-put g c =
     let icb = c.args.icb in
     let volume = volume_now l.volume in
     let two = c.has_two_partitions-two.result in
-    let word_two : c.as_str.result.now ≡ tree_word two icb = search rules in
-    let path_two : c.as_str-2.result.now ≡ tree_path c.args.folder.now two icb = search rules in
-    let word : c.as_str.result.now ≡ tree_word (has_two volume) icb = word_two ∙ ap (λ b. tree_word b icb) c.has_two_partitions-two.ensures in
-    let path : c.as_str-2.result.now ≡ tree_path c.args.folder.now (has_two volume) icb = path_two ∙ ap (λ b. tree_path c.args.folder.now b icb) c.has_two_partitions-two.ensures in
+    let found = c.in-Ok.ensures.seat in
+    let at = found.0 in
+    let word_two : c.as_str.result.now ≡ seat_word two icb at = (search rules) ∙ found.2 in
+    let path_two : c.as_str-2.result.now ≡ seat_path c.args.folder.now two icb at = (search rules) ∙ found.3 in
+    let word : c.as_str.result.now ≡ seat_word (has_two volume) icb at = word_two ∙ ap (λ b. seat_word b icb at) c.has_two_partitions-two.ensures in
+    let path : c.as_str-2.result.now ≡ seat_path c.args.folder.now (has_two volume) icb at = path_two ∙ ap (λ b. seat_path c.args.folder.now b icb at) c.has_two_partitions-two.ensures in
     let put = c.in-Ok-put_tree.ensures.put in (
       put.0,
-      put.1,
-      subst (λ p. Each (IsPutAt F g.F.Output.Sink.stream c.put_tree.new.files l.table.now (listing_now l) Refuse c.args.short p) 0 (listing_now l).nodes put.1) path put.2,
+      record { seat = at; fates = put.1 },
+      (found.1, subst (λ p. Each (IsPutAt F g.F.Output.Sink.stream c.put_tree.new.files l.table.now (listing_now l) Refuse c.args.short p) 0 (listing_now l).nodes put.1) path put.2),
       subst (λ w. TellsLines put.0 (S.stream c.args.out.now) (S.stream c.put_tree.new.out) (fate_lines (node_line w c.args.short (listing_now l)) (listing_now l).nodes put.1)) word put.3,
       put.4,
       put.5,
@@ -47,8 +42,10 @@ pub returns-in-Ok-put_tree-clause-spares : goal.returns-in-Ok-put_tree-clause-sp
 returns-in-Ok-put_tree-clause-spares g c =
     let icb = c.args.icb in
     let two = c.has_two_partitions-two.result in
-    let path : c.as_str-2.result.now ≡ tree_path c.args.folder.now two icb = search rules in
-    spares_tree g.F.Files c.args.folder.now (icb_number two icb.reference icb.block) c.as_str-2.result.now c.args.files.now c.put_tree.new.files path c.put_tree.ensures.spares
+    let found = c.in-Ok.ensures.seat in
+    let path : c.as_str-2.result.now ≡ seat_path c.args.folder.now two icb found.0 = (search rules) ∙ found.3 in
+    lost_on _ _ _ _ _ (lost_same _ _ _ _ c.seat_for.ensures.others c.seat_for.ensures.crash)
+        (spares_tree g.F.Files c.args.folder.now (seat_part two icb found.0) c.as_str-2.result.now c.seat_for.new.files c.put_tree.new.files path c.put_tree.ensures.spares)
 
 pub returns-clause-put : goal.returns-clause-put
 returns-clause-put g c =
@@ -58,14 +55,16 @@ returns-clause-put g c =
     let icb = c.args.icb in
     let volume = volume_now l.volume in
     let two = c.has_two_partitions-two.result in
-    let word_two : c.as_str.result.now ≡ tree_word two icb = search rules in
-    let path_two : c.as_str-2.result.now ≡ tree_path c.args.folder.now two icb = search rules in
-    let word : c.as_str.result.now ≡ tree_word (has_two volume) icb = word_two ∙ ap (λ b. tree_word b icb) c.has_two_partitions-two.ensures in
-    let path : c.as_str-2.result.now ≡ tree_path c.args.folder.now (has_two volume) icb = path_two ∙ ap (λ b. tree_path c.args.folder.now b icb) c.has_two_partitions-two.ensures in
+    let found = c.in-Ok.ensures.seat in
+    let at = found.0 in
+    let word_two : c.as_str.result.now ≡ seat_word two icb at = (search rules) ∙ found.2 in
+    let path_two : c.as_str-2.result.now ≡ seat_path c.args.folder.now two icb at = (search rules) ∙ found.3 in
+    let word : c.as_str.result.now ≡ seat_word (has_two volume) icb at = word_two ∙ ap (λ b. seat_word b icb at) c.has_two_partitions-two.ensures in
+    let path : c.as_str-2.result.now ≡ seat_path c.args.folder.now (has_two volume) icb at = path_two ∙ ap (λ b. seat_path c.args.folder.now b icb at) c.has_two_partitions-two.ensures in
     let put = c.in-Err-put_tree.ensures.put in (
       put.0,
-      put.1,
-      subst (λ p. Each (IsPutAt F g.F.Output.Sink.stream c.put_tree.new.files l.table.now (listing_now l) Refuse c.args.short p) 0 (listing_now l).nodes put.1) path put.2,
+      record { seat = at; fates = put.1 },
+      (found.1, subst (λ p. Each (IsPutAt F g.F.Output.Sink.stream c.put_tree.new.files l.table.now (listing_now l) Refuse c.args.short p) 0 (listing_now l).nodes put.1) path put.2),
       subst (λ w. TellsLines put.0 (S.stream c.args.out.now) (S.stream c.put_tree.new.out) (fate_lines (node_line w c.args.short (listing_now l)) (listing_now l).nodes put.1)) word put.3,
       put.4,
       put.5,
@@ -75,5 +74,7 @@ pub returns-clause-spares : goal.returns-clause-spares
 returns-clause-spares g c =
     let icb = c.args.icb in
     let two = c.has_two_partitions-two.result in
-    let path : c.as_str-2.result.now ≡ tree_path c.args.folder.now two icb = search rules in
-    spares_tree g.F.Files c.args.folder.now (icb_number two icb.reference icb.block) c.as_str-2.result.now c.args.files.now c.put_tree.new.files path c.put_tree.ensures.spares
+    let found = c.in-Ok.ensures.seat in
+    let path : c.as_str-2.result.now ≡ seat_path c.args.folder.now two icb found.0 = (search rules) ∙ found.3 in
+    lost_on _ _ _ _ _ (lost_same _ _ _ _ c.seat_for.ensures.others c.seat_for.ensures.crash)
+        (spares_tree g.F.Files c.args.folder.now (seat_part two icb found.0) c.as_str-2.result.now c.seat_for.new.files c.put_tree.new.files path c.put_tree.ensures.spares)

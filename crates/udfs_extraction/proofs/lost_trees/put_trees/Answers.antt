@@ -2,8 +2,8 @@ use Rattle.std.proofs.Common.{◌≡◌, ◌+◌, ◌∷◌, ◌++◌, ◌∙◌
 use Rattle.std.specs.Prelude.{◌&&◌}
 use Rattle.std.specs.List.{list_all}
 use Rattle.udfs_salvage.specs.Found.{volume_now}
-use Rattle.udfs_extraction.specs.Extracting.{TellsLines, all_good}
-use Rattle.udfs_extraction.specs.LostTrees.{IsTreePut, tree_lines}
+use Rattle.udfs_extraction.specs.Extracting.{TellsLines}
+use Rattle.udfs_extraction.specs.LostTrees.{IsTreePut, is_put_well, tree_lines}
 use Rattle.udfs_extraction.proofs.LostLemmas.{lost_on, nothing_lost}
 use Rattle.udfs_extraction.proofs.TreeLemmas.{good_trees_more, next_lines, next_tree, trees_next, trees_still, trees_stop}
 use Rattle.udfs_extraction.proofs.lost_trees.put_trees.Goals as goal
@@ -34,9 +34,9 @@ loop-tree-preserved g c =
     let head : c.loop-tree.tree-iterator.rest.items ≡ tree ∷ c.next.new.self.rest.items = search rules in
     let here = next_tree trees n tree c.next.new.self.rest.items (sym head ∙ i.put.4) in
     let step = c.put_next.ensures in
-    let P = IsTreePut F out c.loop-tree.files table volume c.args.short c.args.folder.now in
-    let Q = IsTreePut F out c.put_next.new.files table volume c.args.short c.args.folder.now in
-    let still = trees_still F out table volume c.args.short c.args.folder.now c.loop-tree.files c.put_next.new.files (g.met.F.Files.counts_now c.loop-tree.files) step.spares in
+    let P = IsTreePut F out c.loop-tree.files table volume c.args.short c.args.folder.now c.args.names.now in
+    let Q = IsTreePut F out c.put_next.new.files table volume c.args.short c.args.folder.now c.args.names.now in
+    let still = trees_still F out table volume c.args.short c.args.folder.now c.args.names.now c.loop-tree.files c.put_next.new.files (g.met.F.Files.counts_now c.loop-tree.files) step.spares in
     let put = rw i.same.0 at (rw i.same.1 at c.in-Ok.ensures.put) in
     let less : c.next.new.self.rest.len + 1 ≡ c.loop-tree.tree-iterator.rest.len = search rules in
     let many = i.put.3 in
@@ -50,7 +50,7 @@ loop-tree-preserved g c =
         next_lines lined trees (S.stream c.args.out.now) (S.stream c.loop-tree.out) (S.stream c.put_next.new.out) i.put.0 n tree true put.1 refl here.0 i.put.2 told,
         (omega (arith, many, longer, less)),
         here.1 ∙ ap (λ k. drop k trees) (let grown : n + 1 ≡ length (i.put.0 ++ put.1 ∷ []) = omega (arith, longer) in grown),
-        c.is_all_good-good.ensures ∙ ap (λ b. b && c.in-Ok.put) i.put.5 ∙ ap (λ b. list_all all_good i.put.0 && b) put.4.2 ∙ good_trees_more i.put.0 put.1,
+        c.is_all_good-good.ensures ∙ ap (λ b. b && c.in-Ok.put) i.put.5 ∙ ap (λ b. list_all is_put_well i.put.0 && b) put.4.2 ∙ good_trees_more i.put.0 put.1,
       );
       spares = lost_on _ c.args.folder.now _ _ _ i.spares step.spares;
     }
@@ -71,9 +71,9 @@ returns-in-Err-clause-why g c =
     let head : c.loop-tree.tree-iterator.rest.items ≡ tree ∷ c.next.new.self.rest.items = search rules in
     let here = next_tree trees n tree c.next.new.self.rest.items (sym head ∙ i.put.4) in
     let step = c.put_next.ensures in
-    let P = IsTreePut F out c.loop-tree.files table volume c.args.short c.args.folder.now in
-    let Q = IsTreePut F out c.put_next.new.files table volume c.args.short c.args.folder.now in
-    let still = trees_still F out table volume c.args.short c.args.folder.now c.loop-tree.files c.put_next.new.files (g.met.F.Files.counts_now c.loop-tree.files) step.spares in
+    let P = IsTreePut F out c.loop-tree.files table volume c.args.short c.args.folder.now c.args.names.now in
+    let Q = IsTreePut F out c.put_next.new.files table volume c.args.short c.args.folder.now c.args.names.now in
+    let still = trees_still F out table volume c.args.short c.args.folder.now c.args.names.now c.loop-tree.files c.put_next.new.files (g.met.F.Files.counts_now c.loop-tree.files) step.spares in
     let put = rw i.same.0 at (rw i.same.1 at c.in-Err.ensures.put) in
     trees_stop P Q lined trees (S.stream c.args.out.now) (S.stream c.loop-tree.out) (S.stream c.put_next.new.out) i.put.0 n tree put.0 put.1 c.in-Err.refusal still refl here.0 i.put.1 i.put.2 put.2 put.3 put.5
 
@@ -85,7 +85,7 @@ returns-clause-put g c =
     let i = c.loop-tree.invariant in
     let none : c.loop-tree.tree-iterator.rest.len ≡ 0 = search rules in
     let many = i.put.3 in
-    record { fates = i.put.0; each = i.put.1; all = omega (arith, none, many); lines = i.put.2; says = i.put.5 }
+    record { puts = i.put.0; each = i.put.1; all = omega (arith, none, many); lines = i.put.2; says = i.put.5 }
 
 pub returns-clause-spares : goal.returns-clause-spares
 returns-clause-spares g c = c.loop-tree.invariant.spares

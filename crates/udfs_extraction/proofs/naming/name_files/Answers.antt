@@ -1,4 +1,4 @@
-use Rattle.std.proofs.Common.{◌≡◌, ◌<◌, ◌∙◌, ℕ, List, Some, ap, arith, inl, refl, rules, slice_get, string_bytes, subst, sym, ⊎_elim}
+use Rattle.std.proofs.Common.{◌≡◌, ◌<◌, ◌≤◌, ◌∙◌, ℕ, length, List, Some, ap, arith, inl, refl, rules, slice_get, string_bytes, subst, sym, ⊎_elim}
 use Rattle.std.proofs.lemmas.Bool.{cases_lt}
 use Rattle.udfs_files.specs.Disk.{folder_of}
 use Rattle.udfs_extraction.specs.declared.naming.Put.{Put}
@@ -39,7 +39,18 @@ loop-k-preserved g c =
       crash = goes_on F.moment F.may_leave F.left_since c.args.files.now c.loop-k.files c.name_put.new.files _ _ _ inv.crash step.crash (λ d e same. same) (λ d e f one two q. two q ∙ one q);
     }
 
+pub returns-in-Err-clause-others : goal.returns-in-Err-clause-others
+returns-in-Err-clause-others g c q = c.name_put.ensures.others q ∙ c.loop-k.invariant.others q
+
+pub returns-in-Err-clause-crash : goal.returns-in-Err-clause-crash
+returns-in-Err-clause-crash g c =
+    let F = g.F.Files in
+    goes_on F.moment F.may_leave F.left_since c.args.files.now c.loop-k.files c.name_put.new.files _ _ _ c.loop-k.invariant.crash c.name_put.ensures.crash (λ d e same. same) (λ d e f one two q. two q ∙ one q)
+
 pub returns-clause-kept : goal.returns-clause-kept
 returns-clause-kept g c is tells k put bytes at written holds =
     let inv = c.loop-k.invariant in
-    record { held = holds; durable = λ d left. inv.kept tells k put bytes d (let less = get_below c.args.puts.now k put at in search rules) at written holds left }
+    let below = get_below c.args.puts.now k put at in
+    let end : length c.args.puts.now ≤ c.loop-k.k = search rules in
+    let less : k < c.loop-k.k = omega (arith, below, end) in
+    record { held = holds; durable = λ d left. inv.kept tells k put bytes d less at written holds left }

@@ -59,11 +59,11 @@ loop-next-preserved g c =
       put = (
         fates ++ more,
         runs_behind lined P report.nodes first c.loop-next.told.heard c.put_run.new.told.heard (S.stream c.args.out.now) (S.stream c.loop-next.out) (S.stream c.put_run.new.out) fates more count puts step.put.1,
-        (let long = length-append fates more in let next = step.put.2 in omega (arith, count, long, next)),
-        step.put.3 ∙ ap (λ b. if all_good more then b else false) inv.put.3 ∙ sym (good_join fates more),
+        (let long = length-append fates more in let next = step.put.2.0 in omega (arith, count, long, next)),
+        step.put.2.1 ∙ ap (λ b. if all_good more then b else false) inv.put.3 ∙ sym (good_join fates more),
         λ wanted told.
             let still = lines_still (placed c.args.short report) c.args.folder.now (F.holds c.loop-next.files) (F.holds c.put_run.new.files) (spares.stays told) 1 (drop 1 report.nodes) fates (notes_text c.args.short report c.loop-next.told.manifest.items) (inv.put.4 wanted told) in
-            let text = step.put.4 wanted told in
+            let text = step.put.2.2 wanted told in
             subst (IsManifest (F.holds c.put_run.new.files) c.args.folder.now c.args.short report (fates ++ more)) (sym text.2)
                 (texts_behind c.args.short report (F.holds c.put_run.new.files) c.args.folder.now first fates more (notes_text c.args.short report c.loop-next.told.manifest.items) text.0 count still text.1),
       );
@@ -118,7 +118,9 @@ returns-clause-put g c =
     let fates = put.0 in
     let nodes = (listing_now c.args.listing.now).nodes in
     let items = c.args.listing.now.nodes.items in
-    let few_items : length items ≤ length fates + 1 = search rules in
+    let count = put.2 in
+    let end : length items ≤ c.loop-next.next = search rules in
+    let few_items : length items ≤ length fates + 1 = omega (arith, count, end) in
     let same : length nodes ≡ length items = length-map items (full_in (state_of c.args.listing.now.table.now) (volume_now c.args.listing.now.volume)) in
     let all : length nodes ≤ length fates + 1 = omega (arith, few_items, same) in
     let few = each_few _ 1 (drop 1 nodes) fates put.1.each in

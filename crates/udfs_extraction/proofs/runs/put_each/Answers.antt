@@ -4,6 +4,7 @@ use Rattle.udfs_salvage.specs.Found.{volume_now}
 use Rattle.udfs_salvage.specs.Listings.{full_in, listing_now}
 use Rattle.udfs_extraction.specs.Runs.{AreFresh, AreHeld, IsHeld}
 use Rattle.udfs_extraction.specs.ShortNames.{IsWay}
+use Rattle.udfs_extraction.specs.declared.naming.Put.{Put}
 use Rattle.udfs_extraction.proofs.RunLemmas.{are_held_more, are_held_still, are_fresh_more, run_nothing, run_on}
 use Rattle.udfs_extraction.proofs.runs.put_each.Goals as goal
 
@@ -11,8 +12,8 @@ pub loop-index-init : goal.loop-index-init
 loop-index-init g c =
     let none = c.requires.none in
     record {
-      held = λ k n put at. let bad : None ≡ Some put = subst (λ l. slice_get l k ≡ Some put) none at in cc;
-      fresh = λ told k put bytes at. let bad : None ≡ Some put = subst (λ l. slice_get l k ≡ Some put) none at in cc;
+      held = λ k n put at. let bad : None ≡ Some put = subst (λ l. slice_get l k ≡ Some put) none at in absurd (let no : ⊥ = cc in no);
+      fresh = λ told k put bytes at. let bad : None ≡ Some put = subst (λ l. slice_get l k ≡ Some put) none at in absurd (let no : ⊥ = cc in no);
       count = (let zero_long : length c.args.puts.now.items ≡ 0 = ap length none in omega (arith, zero_long));
       way = c.requires.way;
       spares = run_nothing g.F.Files (map (λ (word : Bor (List ℕ)). word.now) c.args.only.now) c.args.fill c.args.short (listing_now c.args.listing.now) c.args.folder.now c.args.files.now;
@@ -28,7 +29,7 @@ loop-index-preserved g c =
     let only = map (λ (word : Bor (List ℕ)). word.now) c.args.only.now in
     let put = c.in_ok-put.put in
     let puts = c.loop-index.puts.items in
-    let pushed = c.in_ok-push.ensures.items in
+    let pushed : c.push_reserved.new.self.items ≡ puts ++ put ∷ [] = c.push_reserved.ensures.items ∙ ap (λ (l : List Put). l ++ put ∷ []) c.reserve.ensures.items in
     let spares = c.put_one.ensures.spares in
     let longer = length-append puts (put ∷ []) in
     let count = inv.count in
@@ -41,13 +42,41 @@ loop-index-preserved g c =
       spares = run_on F only c.args.fill c.args.short report c.args.folder.now c.args.files.now c.loop-index.files c.put_one.new.files inv.spares spares;
     }
 
+pub returns-in_err-reserve-clause-held : goal.returns-in_err-reserve-clause-held
+returns-in_err-reserve-clause-held g c =
+    subst (AreHeld g.F.Files g.F.Output.Sink.stream c.loop-index.files (map (λ (word : Bor (List ℕ)). word.now) c.args.only.now) c.args.listing.now.table.now (listing_now c.args.listing.now) c.args.fill c.args.short c.args.digest c.args.folder.now c.args.first)
+        (sym c.reserve.ensures.items) c.loop-index.invariant.held
+
+pub returns-in_err-reserve-clause-fresh : goal.returns-in_err-reserve-clause-fresh
+returns-in_err-reserve-clause-fresh g c told = subst (AreFresh (g.F.Files.holds c.args.files.now)) (sym c.reserve.ensures.items) (c.loop-index.invariant.fresh told)
+
+pub returns-in_err-reserve-clause-few : goal.returns-in_err-reserve-clause-few
+returns-in_err-reserve-clause-few g c =
+    let count = c.loop-index.invariant.count in
+    let long = ap length c.reserve.ensures.items in
+    let less : c.loop-index.index < length c.args.listing.now.nodes.items = search rules in
+    omega (arith, count, long, less)
+
+pub returns-in_err-reserve-clause-spares : goal.returns-in_err-reserve-clause-spares
+returns-in_err-reserve-clause-spares g c = c.loop-index.invariant.spares
+
 pub returns-in_err-put-clause-held : goal.returns-in_err-put-clause-held
 returns-in_err-put-clause-held g c =
-    are_held_still g.F.Files g.F.Output.Sink.stream (map (λ (word : Bor (List ℕ)). word.now) c.args.only.now) c.args.listing.now.table.now (listing_now c.args.listing.now) c.args.fill c.args.short c.args.digest c.args.folder.now
-        c.loop-index.files c.put_one.new.files c.args.first c.loop-index.puts.items c.put_one.ensures.spares.stays c.loop-index.invariant.held
+    let only = map (λ (word : Bor (List ℕ)). word.now) c.args.only.now in
+    let l = c.args.listing.now in
+    subst (AreHeld g.F.Files g.F.Output.Sink.stream c.put_one.new.files only l.table.now (listing_now l) c.args.fill c.args.short c.args.digest c.args.folder.now c.args.first) (sym c.reserve.ensures.items)
+        (are_held_still g.F.Files g.F.Output.Sink.stream only l.table.now (listing_now l) c.args.fill c.args.short c.args.digest c.args.folder.now c.loop-index.files c.put_one.new.files c.args.first c.loop-index.puts.items
+        c.put_one.ensures.spares.stays c.loop-index.invariant.held)
 
 pub returns-in_err-put-clause-fresh : goal.returns-in_err-put-clause-fresh
-returns-in_err-put-clause-fresh g c = c.loop-index.invariant.fresh
+returns-in_err-put-clause-fresh g c told = subst (AreFresh (g.F.Files.holds c.args.files.now)) (sym c.reserve.ensures.items) (c.loop-index.invariant.fresh told)
+
+pub returns-in_err-put-clause-few : goal.returns-in_err-put-clause-few
+returns-in_err-put-clause-few g c =
+    let count = c.loop-index.invariant.count in
+    let long = ap length c.reserve.ensures.items in
+    let less : c.loop-index.index < length c.args.listing.now.nodes.items = search rules in
+    omega (arith, count, long, less)
 
 pub returns-in_err-put-clause-spares : goal.returns-in_err-put-clause-spares
 returns-in_err-put-clause-spares g c = run_on g.F.Files (map (λ (word : Bor (List ℕ)). word.now) c.args.only.now) c.args.fill c.args.short (listing_now c.args.listing.now) c.args.folder.now c.args.files.now c.loop-index.files c.put_one.new.files c.loop-index.invariant.spares c.put_one.ensures.spares
@@ -62,10 +91,8 @@ returns-then-last-clause-held g c =
     let only = map (λ (word : Bor (List ℕ)). word.now) c.args.only.now in
     let put = c.in_ok-put.put in
     let puts = c.loop-index.puts.items in
-    let pushed = c.in_ok-push.ensures.items in
+    let pushed : c.push_reserved.new.self.items ≡ puts ++ put ∷ [] = c.push_reserved.ensures.items ∙ ap (λ (l : List Put). l ++ put ∷ []) c.reserve.ensures.items in
     let spares = c.put_one.ensures.spares in
-    let longer = length-append puts (put ∷ []) in
-    let long = ap length pushed in
     let count = inv.count in
     subst (AreHeld F out c.put_one.new.files only l.table.now report c.args.fill c.args.short c.args.digest c.args.folder.now c.args.first) (sym pushed)
         (are_held_more F out only l.table.now report c.args.fill c.args.short c.args.digest c.args.folder.now c.loop-index.files c.put_one.new.files c.args.first c.loop-index.index puts put count spares.stays inv.held c.in_ok-put.ensures.held)
@@ -73,32 +100,20 @@ returns-then-last-clause-held g c =
 pub returns-then-last-clause-fresh : goal.returns-then-last-clause-fresh
 returns-then-last-clause-fresh g c =
     let F = g.F.Files in
-    let out = g.F.Output.Sink.stream in
     let inv = c.loop-index.invariant in
     let l = c.args.listing.now in
-    let report = listing_now l in
-    let only = map (λ (word : Bor (List ℕ)). word.now) c.args.only.now in
     let put = c.in_ok-put.put in
     let puts = c.loop-index.puts.items in
-    let pushed = c.in_ok-push.ensures.items in
-    let spares = c.put_one.ensures.spares in
-    let longer = length-append puts (put ∷ []) in
-    let long = ap length pushed in
-    let count = inv.count in
+    let pushed : c.push_reserved.new.self.items ≡ puts ++ put ∷ [] = c.push_reserved.ensures.items ∙ ap (λ (l : List Put). l ++ put ∷ []) c.reserve.ensures.items in
     λ told. subst (AreFresh (F.holds c.args.files.now)) (sym pushed) (are_fresh_more (F.holds c.args.files.now) (F.holds c.loop-index.files) puts put (inv.spares.stays told) (inv.fresh told) (λ written. c.in_ok-put.ensures.fresh written told))
 
 pub returns-then-last-clause-few : goal.returns-then-last-clause-few
 returns-then-last-clause-few g c =
-    let F = g.F.Files in
-    let out = g.F.Output.Sink.stream in
     let inv = c.loop-index.invariant in
     let l = c.args.listing.now in
-    let report = listing_now l in
-    let only = map (λ (word : Bor (List ℕ)). word.now) c.args.only.now in
     let put = c.in_ok-put.put in
     let puts = c.loop-index.puts.items in
-    let pushed = c.in_ok-push.ensures.items in
-    let spares = c.put_one.ensures.spares in
+    let pushed : c.push_reserved.new.self.items ≡ puts ++ put ∷ [] = c.push_reserved.ensures.items ∙ ap (λ (l : List Put). l ++ put ∷ []) c.reserve.ensures.items in
     let longer = length-append puts (put ∷ []) in
     let long = ap length pushed in
     let count = inv.count in
@@ -107,54 +122,36 @@ returns-then-last-clause-few g c =
 
 pub returns-then-last-clause-some : goal.returns-then-last-clause-some
 returns-then-last-clause-some g c =
-    let F = g.F.Files in
-    let out = g.F.Output.Sink.stream in
-    let inv = c.loop-index.invariant in
     let l = c.args.listing.now in
-    let report = listing_now l in
-    let only = map (λ (word : Bor (List ℕ)). word.now) c.args.only.now in
     let put = c.in_ok-put.put in
     let puts = c.loop-index.puts.items in
-    let pushed = c.in_ok-push.ensures.items in
-    let spares = c.put_one.ensures.spares in
+    let pushed : c.push_reserved.new.self.items ≡ puts ++ put ∷ [] = c.push_reserved.ensures.items ∙ ap (λ (l : List Put). l ++ put ∷ []) c.reserve.ensures.items in
     let longer = length-append puts (put ∷ []) in
     let long = ap length pushed in
-    let count = inv.count in
     λ there. omega (arith, longer, long)
 
 pub returns-then-last-clause-way : goal.returns-then-last-clause-way
 returns-then-last-clause-way g c =
-    let F = g.F.Files in
-    let out = g.F.Output.Sink.stream in
     let inv = c.loop-index.invariant in
     let l = c.args.listing.now in
     let report = listing_now l in
-    let only = map (λ (word : Bor (List ℕ)). word.now) c.args.only.now in
     let put = c.in_ok-put.put in
     let puts = c.loop-index.puts.items in
-    let pushed = c.in_ok-push.ensures.items in
-    let spares = c.put_one.ensures.spares in
+    let pushed : c.push_reserved.new.self.items ≡ puts ++ put ∷ [] = c.push_reserved.ensures.items ∙ ap (λ (l : List Put). l ++ put ∷ []) c.reserve.ensures.items in
     let longer = length-append puts (put ∷ []) in
     let long = ap length pushed in
     let count = inv.count in
-    let here : c.args.first + length c.push.new.self.items - 1 ≡ c.loop-index.index = omega (arith, count, longer, long) in
+    let here : c.args.first + length c.push_reserved.new.self.items - 1 ≡ c.loop-index.index = omega (arith, count, longer, long) in
     subst (λ k. IsWay report.nodes k c.put_one.new.way.items) (sym here) c.in_ok-put.ensures.way
 
 pub returns-then-last-clause-spares : goal.returns-then-last-clause-spares
 returns-then-last-clause-spares g c =
     let F = g.F.Files in
-    let out = g.F.Output.Sink.stream in
     let inv = c.loop-index.invariant in
     let l = c.args.listing.now in
     let report = listing_now l in
     let only = map (λ (word : Bor (List ℕ)). word.now) c.args.only.now in
-    let put = c.in_ok-put.put in
-    let puts = c.loop-index.puts.items in
-    let pushed = c.in_ok-push.ensures.items in
     let spares = c.put_one.ensures.spares in
-    let longer = length-append puts (put ∷ []) in
-    let long = ap length pushed in
-    let count = inv.count in
     run_on F only c.args.fill c.args.short report c.args.folder.now c.args.files.now c.loop-index.files c.put_one.new.files inv.spares spares
 
 pub returns-clause-few : goal.returns-clause-few

@@ -1,5 +1,5 @@
 -- What was done with each node of the run so far is held, and no file was at the path of one that was written.
-use Rattle.std.proofs.Common.{◌≡◌, ◌+◌, ◌-◌, Bor, List, length, map}
+use Rattle.std.proofs.Common.{◌≡◌, ◌+◌, ◌-◌, ℕ, Bor, List, length, map}
 use Rattle.udfs_salvage.specs.Listings.{listing_now}
 use Rattle.udfs_extraction.specs.Runs.{AreFresh, AreHeld, SparesRun}
 use Rattle.udfs_extraction.specs.ShortNames.{IsWay}

@@ -1,4 +1,4 @@
-use Rattle.std.proofs.Common.{◌≡◌, ◌≢◌, ◌∙◌, ◌+◌, ◌-◌, ◌<◌, ◌×◌, ◌++◌, ◌∷◌, ℕ, Bool, [], Bor, List, Option, Some, ap, append_assoc, arith, drop, false, true, length, length-append, map, refl, rules, slice_get, string_bytes, subst, sym, if◌then◌else◌}
+use Rattle.std.proofs.Common.{◌≡◌, ◌≢◌, ◌∙◌, ◌+◌, ◌-◌, ◌<◌, ◌++◌, ◌∷◌, ℕ, Bool, [], Bor, List, Option, Some, ap, append_assoc, arith, drop, false, true, length, length-append, map, refl, rules, slice_get, string_bytes, subst, sym, if◌then◌else◌}
 use Rattle.std.proofs.lemmas.List.{append-nil, length-map}
 use Rattle.udfs_lattice.specs.Tables.{state_of}
 use Rattle.udfs_walk.specs.NodeFields.{NodeFields}
@@ -113,4 +113,4 @@ pub returns-clause-put : goal.returns-clause-put
 returns-clause-put g c fill short digest held =
     let before = c.loop-k.invariant.told fill short digest held in
     let end : c.loop-k.k ≡ length c.args.puts.now = search rules in
-    (before.0, before.1, before.2 ∙ end, before.3, before.4)
+    (before.0, before.1, (before.2 ∙ end, before.3, before.4))

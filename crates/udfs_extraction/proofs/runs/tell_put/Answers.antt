@@ -18,37 +18,37 @@ returns-clause-told g c =
       c.end_of-fate.ensures.end,
       λ n at.
           let same : full_in (state_of l.table.now) (volume_now l.volume) m ≡ n = let e = sym c.node_at-node.ensures ∙ at in cc in
-          subst (λ (p : List (List ℕ)). TellsOn c.args.told.now.heard c.in_ok-tell.heard (S.stream c.args.out.now) (S.stream c.tell.new.out) (fate_line c.args.word.now fate p c.args.put.now.place.own)) (seen ∙ ap (λ (x : NodeFields). x.path) same) c.in_ok-tell.ensures.lines,
-      c.still_good.ensures,
+          subst (λ (p : List (List ℕ)). TellsOn c.args.told.now.heard c.in_ok-heard.heard (S.stream c.args.out.now) (S.stream c.tell.new.out) (fate_line c.args.word.now fate p c.args.put.now.place.own)) (seen ∙ ap (λ (x : NodeFields). x.path) same) c.in_ok-heard.ensures.lines,
+      c.still_good-told.ensures,
       c.in_ok-note.ensures,
     )
 
 pub returns-in_err-note-clause-others : goal.returns-in_err-note-clause-others
 returns-in_err-note-clause-others g c =
     let F = g.F.Files in
-    put_others F.holds c.args.files.now c.end_of.new.files c.args.put.now c.end_of-fate.ensures.unwritten c.end_of-fate.ensures.others
+    put_others F.holds c.args.files.now c.end_of-fate.new.files c.args.put.now c.end_of-fate.ensures.unwritten c.end_of-fate.ensures.others
 
 pub returns-in_err-note-clause-crash : goal.returns-in_err-note-clause-crash
 returns-in_err-note-clause-crash g c =
     let F = g.F.Files in
-    put_goes F.moment F.may_leave F.left_since c.args.files.now c.end_of.new.files c.args.put.now c.end_of-fate.ensures.unwritten c.end_of-fate.ensures.crash
+    put_goes F.moment F.may_leave F.left_since c.args.files.now c.end_of-fate.new.files c.args.put.now c.end_of-fate.ensures.unwritten c.end_of-fate.ensures.crash
 
-pub returns-in_err-tell-clause-others : goal.returns-in_err-tell-clause-others
-returns-in_err-tell-clause-others g c =
+pub returns-in_err-heard-clause-others : goal.returns-in_err-heard-clause-others
+returns-in_err-heard-clause-others g c =
     let F = g.F.Files in
-    put_others F.holds c.args.files.now c.end_of.new.files c.args.put.now c.end_of-fate.ensures.unwritten c.end_of-fate.ensures.others
+    put_others F.holds c.args.files.now c.end_of-fate.new.files c.args.put.now c.end_of-fate.ensures.unwritten c.end_of-fate.ensures.others
 
-pub returns-in_err-tell-clause-crash : goal.returns-in_err-tell-clause-crash
-returns-in_err-tell-clause-crash g c =
+pub returns-in_err-heard-clause-crash : goal.returns-in_err-heard-clause-crash
+returns-in_err-heard-clause-crash g c =
     let F = g.F.Files in
-    put_goes F.moment F.may_leave F.left_since c.args.files.now c.end_of.new.files c.args.put.now c.end_of-fate.ensures.unwritten c.end_of-fate.ensures.crash
+    put_goes F.moment F.may_leave F.left_since c.args.files.now c.end_of-fate.new.files c.args.put.now c.end_of-fate.ensures.unwritten c.end_of-fate.ensures.crash
 
 pub returns-clause-others : goal.returns-clause-others
 returns-clause-others g c =
     let F = g.F.Files in
-    put_others F.holds c.args.files.now c.end_of.new.files c.args.put.now c.end_of-fate.ensures.unwritten c.end_of-fate.ensures.others
+    put_others F.holds c.args.files.now c.end_of-fate.new.files c.args.put.now c.end_of-fate.ensures.unwritten c.end_of-fate.ensures.others
 
 pub returns-clause-crash : goal.returns-clause-crash
 returns-clause-crash g c =
     let F = g.F.Files in
-    put_goes F.moment F.may_leave F.left_since c.args.files.now c.end_of.new.files c.args.put.now c.end_of-fate.ensures.unwritten c.end_of-fate.ensures.crash
+    put_goes F.moment F.may_leave F.left_since c.args.files.now c.end_of-fate.new.files c.args.put.now c.end_of-fate.ensures.unwritten c.end_of-fate.ensures.crash

@@ -18,4 +18,4 @@ returns g c =
     subst (λ lines. PassesOn (W.stream c.args.sink.now) (W.stream c.put_all.new.sink) (string_bytes c.args.text.now) (string_bytes c.put_all.new.text) lines c.put_all.result)
     (ap (λ us. all_found a.form v a.two (full_names v us) a.nodes.now a.trees.now) c.in_ok-lost.ensures
     ∙ ap (λ names. all_found a.form v a.two names a.nodes.now a.trees.now) (names_full v a.deleted a.trees.now a.entries.now)
-    ∙ sym (ap (λ b. cond b [] (all_found a.form v a.two (found_names v (unplaced v a.deleted a.trees.now (map (full_entry v) a.entries.now))) a.nodes.now a.trees.now)) c.if-paths.false)) c.put_all.ensures
+    ∙ sym (ap (λ b. cond b [] (all_found a.form v a.two (found_names v (unplaced v a.deleted a.trees.now (map (full_entry v) a.entries.now))) a.nodes.now a.trees.now)) c.if-form.false)) c.put_all.ensures

@@ -5,9 +5,9 @@ use Rattle.udfs_lattice.specs.Records.{join_all}
 use Rattle.udfs_common.proofs.IndexingLemmas.{all_fit, tell_all}
 use Rattle.udfs_common.proofs.NamingLemmas.{reread_names_none}
 use Rattle.udfs_common.proofs.StoredLemmas.{any_told, of_unread, reasons_for_any, sources_for_any}
-use Rattle.udfs_tables.specs.Imaging.{ImageUnput, IsImageOf}
+use Rattle.udfs_tables.specs.Imaging.{IsImageOf}
 use Rattle.udfs_tables.proofs.MergingLemmas.{not_taken, of_indexed}
-use Rattle.udfs_tables.proofs.PairingLemmas.{of_disc, unbegun, wider}
+use Rattle.udfs_tables.proofs.PairingLemmas.{of_disc, of_unput, unbegun, wider}
 use Rattle.udfs_tables.proofs.image.image_stored.Goals as goal
 
 pub returns-in-Ok-put_imaged-clause-puts : goal.returns-in-Ok-put_imaged-clause-puts
@@ -17,9 +17,9 @@ returns-in-Ok-put_imaged-clause-puts g c =
     let t = join_all i.tables in
     let told : g.F.Files.tells → AreAllTold (stored_in g.F.Stored.Stored.content) = λ tells. any_told g.F.Stored.Stored.content (g.met.F.Files.stored_told tells) in
     let have = sources_for_any g.F.Input.Source.remaining g.F.Image.Image.bytes g.F.Stored.Stored.content g.met.F.Files.stored_as_input g.met.F.Files.stored_as_image in
-    wider _ _ (λ bytes text is. of_disc _ _ r c.args.last (λ last u. IsImageOf g.F.Files.tells last bytes text u) c.requires.ends
-    (of_indexed _ _ r.inputs r.force _ have _ c.args.stored.now _ (λ u. IsImageOf g.F.Files.tells c.args.last bytes text u) c.as_slice-paths.ensures.value c.requires.each c.requires.opened told i is))
-    (c.in-Ok-put_imaged.ensures.puts t (λ tells. (told tells, all_fit _ c.args.stored.now i.tables (tell_all _ c.args.stored.now i.tables (told tells) i.are), i.took)))
+    wider _ _ (λ bytes text is. of_disc _ _ r c.args.last (λ last u. IsImageOf (AreAllTold g.F.Stored.Stored.content) last bytes text u) c.requires.ends
+    (of_indexed _ _ r.inputs r.force _ have _ c.args.stored.now _ (λ u. IsImageOf (AreAllTold g.F.Stored.Stored.content) c.args.last bytes text u) c.as_slice-paths.ensures.value c.requires.each c.requires.opened told i is))
+    (c.in-Ok-put_imaged.ensures.puts t (λ all. (any_told g.F.Stored.Stored.content all, all_fit _ c.args.stored.now i.tables (tell_all _ c.args.stored.now i.tables (any_told g.F.Stored.Stored.content all) i.are), i.took)))
 
 pub returns-clause-puts : goal.returns-clause-puts
 returns-clause-puts g c =
@@ -28,9 +28,9 @@ returns-clause-puts g c =
     let t = join_all i.tables in
     let told : g.F.Files.tells → AreAllTold (stored_in g.F.Stored.Stored.content) = λ tells. any_told g.F.Stored.Stored.content (g.met.F.Files.stored_told tells) in
     let have = sources_for_any g.F.Input.Source.remaining g.F.Image.Image.bytes g.F.Stored.Stored.content g.met.F.Files.stored_as_input g.met.F.Files.stored_as_image in
-    wider _ _ (λ bytes text is. of_disc _ _ r c.args.last (λ last u. IsImageOf g.F.Files.tells last bytes text u) c.requires.ends
-    (of_indexed _ _ r.inputs r.force _ have _ c.args.stored.now _ (λ u. IsImageOf g.F.Files.tells c.args.last bytes text u) c.as_slice-paths.ensures.value c.requires.each c.requires.opened told i is))
-    (c.in-Err-put_imaged.ensures.puts t (λ tells. (told tells, all_fit _ c.args.stored.now i.tables (tell_all _ c.args.stored.now i.tables (told tells) i.are), i.took)))
+    wider _ _ (λ bytes text is. of_disc _ _ r c.args.last (λ last u. IsImageOf (AreAllTold g.F.Stored.Stored.content) last bytes text u) c.requires.ends
+    (of_indexed _ _ r.inputs r.force _ have _ c.args.stored.now _ (λ u. IsImageOf (AreAllTold g.F.Stored.Stored.content) c.args.last bytes text u) c.as_slice-paths.ensures.value c.requires.each c.requires.opened told i is))
+    (c.in-Err-put_imaged.ensures.puts t (λ all. (any_told g.F.Stored.Stored.content all, all_fit _ c.args.stored.now i.tables (tell_all _ c.args.stored.now i.tables (any_told g.F.Stored.Stored.content all) i.are), i.took)))
 
 pub returns-in-Err-clause-puts : goal.returns-in-Err-clause-puts
 returns-in-Err-clause-puts g c = unbegun _ _ _ _ _ _ g.met.F.Files.only_now
@@ -41,7 +41,7 @@ returns-in-Err-clause-why g c =
     let have = sources_for_any g.F.Input.Source.remaining g.F.Image.Image.bytes g.F.Stored.Stored.content g.met.F.Files.stored_as_input g.met.F.Files.stored_as_image in
     let why = rw c.as_slice-paths.ensures.value at c.in-Err.ensures.why in
     inl (not_taken have (reasons_for_any g.F.Input.Source.remaining g.F.Image.Image.bytes g.F.Stored.Stored.content g.met.F.Files.stored_as_input g.met.F.Files.stored_as_image) _ _ r.inputs.paths.items _ c.args.stored.now _
-    c.requires.each c.requires.opened c.requires.judged (λ tells. any_told g.F.Stored.Stored.content (g.met.F.Files.stored_told tells)) why)
+    c.requires.each c.requires.opened c.requires.judged (any_told g.F.Stored.Stored.content) why)
 
 pub returns-clause-why : goal.returns-clause-why
 returns-clause-why g c =
@@ -51,7 +51,7 @@ returns-clause-why g c =
     let told : g.F.Files.tells → AreAllTold (stored_in g.F.Stored.Stored.content) = λ tells. any_told g.F.Stored.Stored.content (g.met.F.Files.stored_told tells) in
     let have = sources_for_any g.F.Input.Source.remaining g.F.Image.Image.bytes g.F.Stored.Stored.content g.met.F.Files.stored_as_input g.met.F.Files.stored_as_image in
     ⊎_elim (λ reread. inl (of_unread _ _ _ r.inputs.paths.items (length c.args.stored.now) _ c.requires.each reread, λ forced. reread_names_none _ _ reread))
-    (λ unput. inr (of_disc _ _ r c.args.last (λ n u. ImageUnput _ _ r n c.in-Err-put_imaged.refusal u) c.requires.ends
-    (of_indexed _ _ r.inputs r.force _ have _ c.args.stored.now _ (λ u. ImageUnput _ _ r c.args.last c.in-Err-put_imaged.refusal u) c.as_slice-paths.ensures.value c.requires.each c.requires.opened told i
-    (unput t (λ tells. (told tells, all_fit _ c.args.stored.now i.tables (tell_all _ c.args.stored.now i.tables (told tells) i.are), i.took))))))
+    (λ unput. inr (of_unput _ _ r c.args.last c.in-Err-put_imaged.refusal c.requires.ends
+    (of_indexed _ _ r.inputs r.force _ have _ c.args.stored.now _ _ c.as_slice-paths.ensures.value c.requires.each c.requires.opened told i
+    (unput t (λ all. (any_told g.F.Stored.Stored.content all, all_fit _ c.args.stored.now i.tables (tell_all _ c.args.stored.now i.tables (any_told g.F.Stored.Stored.content all) i.are), i.took))))))
     c.in-Err-put_imaged.ensures.why

@@ -31,7 +31,7 @@ returns-in-Err-clause-why g c =
     let have = sources_for_any g.F.Input.Source.remaining g.F.Image.Image.bytes g.F.Stored.Stored.content g.met.F.Files.stored_as_input g.met.F.Files.stored_as_image in
     let why = rw c.as_slice-paths.ensures.value at c.in-Err.ensures.why in
     not_indexed have (reasons_for_any g.F.Input.Source.remaining g.F.Image.Image.bytes g.F.Stored.Stored.content g.met.F.Files.stored_as_input g.met.F.Files.stored_as_image) _ _ _ c.args.request.now.inputs.paths.items _ c.args.stored.now _
-    c.requires.each c.requires.opened c.requires.judged (λ tells. any_told g.F.Stored.Stored.content (g.met.F.Files.stored_told tells)) why
+    c.requires.each c.requires.opened c.requires.judged (any_told g.F.Stored.Stored.content) why
 
 pub returns-in-Err-clause-unkept : goal.returns-in-Err-clause-unkept
 returns-in-Err-clause-unkept g c is tells = absurd (c.in-Err.ensures.why.1 (err_is is refl))

@@ -22,9 +22,9 @@ zeros_conflict Unknown e = absurd (let no : ⊥ = cc in no)
 zeros_conflict (Known bytes) e = absurd (let no : ⊥ = cc in no)
 zeros_conflict Conflict e = refl
 
-pub returns-in-Known-clause-state : goal.returns-in-Known-clause-state
-returns-in-Known-clause-state g c told =
-    c.in_ok-fact.ensures.state told ∙ its_own (g.B.BlockStore.states c.args.self.now.blocks.now c.args.n) (sym c.in-Known.is ∙ c.knowledge.ensures told)
+pub returns-in_ok-fact-in-Known-clause-state : goal.returns-in_ok-fact-in-Known-clause-state
+returns-in_ok-fact-in-Known-clause-state g c told =
+    c.in_ok-fact-in-Known.ensures.state told ∙ its_own (g.B.BlockStore.states c.args.self.now.blocks.now c.args.n) (sym c.in-Known.is ∙ c.knowledge.ensures told)
 
 pub returns-in-Unknown-clause-state : goal.returns-in-Unknown-clause-state
 returns-in-Unknown-clause-state g c told = zeros_unknown (g.B.BlockStore.states c.args.self.now.blocks.now c.args.n) (sym c.in-Unknown.is ∙ c.knowledge.ensures told)
