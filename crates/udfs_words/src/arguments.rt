@@ -15,22 +15,14 @@ use std::alloc::{AllocError, Global};
 pub fn verbose<'a>(alloc: Global) -> Arg<'a>
     ensures { (rule_of result ≡ letter_rule (codes "verbose") 118) × (result.global ≡ false) }
 {
-    Arg::new(alloc, VERBOSE)
-        .short('v')
-        .long("verbose")
-        .help("Print more: why, and what to do next")
-        .action(ArgAction::SetTrue)
+    flag(alloc, VERBOSE, "Print more: why, and what to do next").short('v')
 }
 
 /// The flag for saying no more than has to be said.
 pub fn quiet<'a>(alloc: Global) -> Arg<'a>
     ensures { (rule_of result ≡ letter_rule (codes "quiet") 113) × (result.global ≡ false) }
 {
-    Arg::new(alloc, QUIET)
-        .short('q')
-        .long("quiet")
-        .help("Print an error's own line alone")
-        .action(ArgAction::SetTrue)
+    flag(alloc, QUIET, "Print an error's own line alone").short('q')
 }
 
 /// A flag of this name.
@@ -97,11 +89,7 @@ fn output<'a>(alloc: Global, value: &'a str, help: &'a str) -> Result<Arg<'a>, A
 pub fn null<'a>(alloc: Global) -> Arg<'a>
     ensures { (rule_of result ≡ null_rule) × (result.global ≡ false) }
 {
-    Arg::new(alloc, NULL)
-        .short('0')
-        .long(NULL)
-        .help("End lines with a zero byte")
-        .action(ArgAction::SetTrue)
+    flag(alloc, NULL, "End lines with a zero byte").short('0')
 }
 
 /// The rules by which the volume is read.
@@ -150,12 +138,14 @@ pub fn group<'a>(alloc: Global) -> Arg<'a>
 pub fn blocks<'a>(alloc: Global, conflicts: bool) -> Arg<'a>
     ensures { (rule_of result ≡ blocks_rule conflicts) × (result.global ≡ false) }
 {
-    Arg::new(alloc, BLOCKS)
-        .long("blocks")
-        .value_name("LIST")
-        .help("Forget the blocks of this list: numbers, one{n}a line; - is standard input")
-        .required(!conflicts)
-        .action(ArgAction::Append)
+    option(
+        alloc,
+        BLOCKS,
+        "LIST",
+        "Forget the blocks of this list: numbers, one{n}a line; - is standard input",
+        !conflicts,
+    )
+    .action(ArgAction::Append)
 }
 
 /// The table file to write.
@@ -216,11 +206,7 @@ pub fn folder<'a>(alloc: Global) -> Arg<'a>
 pub fn only<'a>(alloc: Global, help: &'a str) -> Arg<'a>
     ensures { (rule_of result ≡ only_rule) × (result.global ≡ false) }
 {
-    Arg::new(alloc, ONLY)
-        .long("only")
-        .value_name("PATH")
-        .help(help)
-        .action(ArgAction::Append)
+    option(alloc, ONLY, "PATH", help, false).action(ArgAction::Append)
 }
 
 /// The manifest to write.
