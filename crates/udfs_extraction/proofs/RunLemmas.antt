@@ -10,10 +10,10 @@ use Rattle.udfs_salvage.specs.Choosing.{is_chosen}
 use Rattle.udfs_salvage.specs.Reports.{Report}
 use Rattle.udfs_salvage.specs.declared.extraction.Fill.{Fill}
 use Rattle.udfs_walk.specs.NodeFields.{NodeFields}
-use Rattle.udfs_extraction.specs.Extracting.{Each, IsDone, IsElsewhere, IsFateOf, IsIn, IsPutAt, IsPutBy, IsSafe, Puts, Spares, SparesNodes, Stay, TellsLines, TellsOn, all_good, deed, fate_line, fate_lines, is_good, node_line, path_below}
+use Rattle.udfs_extraction.specs.Extracting.{Each, IsDone, IsElsewhere, IsFateOf, IsIn, IsPutAt, IsPutBy, Puts, Spares, SparesNodes, Stay, TellsLines, TellsOn, all_good, deed, fate_lines, is_good, path_below}
 use Rattle.udfs_extraction.specs.Manifests.{AreLines, IsLine, IsManifest, IsNoted}
 use Rattle.udfs_extraction.specs.Runs.{AreFresh, AreHeld, IsEnd, IsHeld, IsOfPut, RunsOn, SameButPuts, SparesRun}
-use Rattle.udfs_extraction.specs.ShortNames.{own_name, placed}
+use Rattle.udfs_extraction.specs.ShortNames.{placed}
 use Rattle.udfs_extraction.specs.declared.naming.Put.{Put}
 use Rattle.udfs_extraction.specs.declared.nodes.Deed.{Deed}
 use Rattle.udfs_extraction.specs.declared.nodes.Deed.TheVariants.{Folder, File, Skip}
@@ -356,7 +356,7 @@ module _ {F I M S W : Type 0} (files : Ghosts F I M S W) (output : W → Stream)
     end_done only files.tells (Fails files.faults ⊎ SinkFails output) table report fill short folder _ _ index n named put.done.fate fate end (λ not. inl (cause not))
         (λ is written told bytes there.
         safe files.moment files.may_leave files.left_since at (files.holds at) _ bytes only_now
-            (subst (λ p. IsKept (files.holds at) (files.may_leave at) p bytes) held.path (kept is told written bytes (subst (λ p. files.holds at p ≡ Some (Some bytes)) (sym held.path) there)))) held.done,
+        (subst (λ p. IsKept (files.holds at) (files.may_leave at) p bytes) held.path (kept is told written bytes (subst (λ p. files.holds at p ≡ Some (Some bytes)) (sym held.path) there)))) held.done,
     unnamed_unwritten named put.done.fate fate end,
   )
 
@@ -379,7 +379,7 @@ module _ {F I M S W : Type 0} (files : Ghosts F I M S W) (output : W → Stream)
       (λ last.
       let here : first + k ≡ index = ap (λ j. first + j) last.0 ∙ count in
       subst (λ j. IsHeld files output after only table report fill short digest folder j n p) (sym here)
-          (subst (IsHeld files output after only table report fill short digest folder index n) (sym last.1) (one n (subst (λ j. slice_get report.nodes j ≡ Some n) here there))))
+      (subst (IsHeld files output after only table report fill short digest folder index n) (sym last.1) (one n (subst (λ j. slice_get report.nodes j ≡ Some n) here there))))
       (get_more puts put p k at)
 
 pub are_fresh_more : (before held : Held) (puts : List Put) (put : Put) → Stay before held → AreFresh before puts → (put.done.fate ≡ Written → held (string_bytes put.path) ≡ Some None) → AreFresh before (puts ++ put ∷ [])
@@ -411,7 +411,7 @@ pub texts_behind : (short : Bool) (report : Report) (holds : Held) (folder : Lis
 texts_behind short report holds folder first fates more text rest count one two =
     let e : first ≡ 1 + length fates = omega (arith, count) in
     texts_join (placed short report) holds folder 1 (drop 1 report.nodes) fates more text rest one
-        (subst (λ k. AreLines (placed short report) holds folder k (drop (length fates) (drop 1 report.nodes)) more rest) e (subst (λ ns. AreLines (placed short report) holds folder first ns more rest) (rest_at report.nodes first fates count) two))
+    (subst (λ k. AreLines (placed short report) holds folder k (drop (length fates) (drop 1 report.nodes)) more rest) e (subst (λ ns. AreLines (placed short report) holds folder first ns more rest) (rest_at report.nodes first fates count) two))
 
 -- both are good
 pub if_both : (one two rest : Bool) → (if one then (if two then rest else false) else false) ≡ (if (if one then two else false) then rest else false)

@@ -96,9 +96,9 @@ module _ {F I M S W : Type 0} (known : Ghosts F I M S W) (output : W → Stream)
   pub trees_still : (table : Table) (volume : Answer Found) (short : Bool) (folder : List ℕ) (names : List FoundAt) (mid new : F) → ((t : ℕ) (c : Disk) → t ≤ known.moment mid → known.may_leave mid c → known.left_since mid t c) → SparesLost known folder mid new
       → (tree : LostTree) (done : TreePut) → IsTreePut known output mid table volume short folder names tree done → IsTreePut known output new table volume short folder names tree done
   trees_still table volume short folder names mid new counts_now step tree done put = (
-      put.0,
-      each_map _ _ (λ k n fate was. tree_still known (Fails known.faults ⊎ SinkFails output) table (tree_report table volume tree) Refuse short folder (seat_path folder (has_two volume) tree.folder done.seat) mid new counts_now step k n fate was) 0 _ done.fates put.1,
-    )
+    put.0,
+    each_map _ _ (λ k n fate was. tree_still known (Fails known.faults ⊎ SinkFails output) table (tree_report table volume tree) Refuse short folder (seat_path folder (has_two volume) tree.folder done.seat) mid new counts_now step k n fate was) 0 _ done.fates put.1,
+  )
 
 -- ---- tree after tree
 

@@ -19,6 +19,7 @@ use udfs_walk::{Node, Unnamed};
 
 /// The most names that are kept, and the most bytes that they have with their folders: 16 MiB. What has none that is kept is written by its number.
 const MOST_NAMES: usize = 65_536;
+
 const MOST_BYTES: usize = 16_777_216;
 
 /// A name that is found behind a hole of a torn folder: what it names, and where that is.

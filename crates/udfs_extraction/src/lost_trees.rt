@@ -65,16 +65,7 @@ fn put_first<F: Files, O: Sink>(
     let place = target.text.as_str();
     let path = path_in(alloc, folder, place)?;
     let path = path.as_str();
-    let done = put_node(
-        alloc,
-        listing,
-        0,
-        Fill::Refuse,
-        false,
-        path,
-        &spare,
-        files,
-    )?;
+    let done = put_node(alloc, listing, 0, Fill::Refuse, false, path, &spare, files)?;
     let fate = name_file(path, done.fate, files);
     let node = node_at(listing, 0);
     let heard = tell(alloc, true, fate, word, &node.path, &target.own, out)?;
@@ -193,9 +184,7 @@ fn put_next<F: Files, O: Sink>(
 {
     let LostTree { folder: icb, nodes } = tree;
     listing.nodes = nodes;
-    match put_lost_tree(
-        alloc, listing, icb, names, short, folder, times, files, out,
-    ) {
+    match put_lost_tree(alloc, listing, icb, names, short, folder, times, files, out) {
         Ok(good) => Ok(good),
         Err(refusal) => Err(refusal),
     }

@@ -104,20 +104,8 @@ pub fn put_nodes<F: Files, O: Sink>(
     let mut next = 1;
     while next < listing.nodes.len() {
         next = put_run(
-            alloc,
-            listing,
-            next,
-            word,
-            only,
-            fill,
-            short,
-            digest,
-            folder,
-            times,
-            &mut way,
-            &mut told,
-            files,
-            out,
+            alloc, listing, next, word, only, fill, short, digest, folder, times, &mut way,
+            &mut told, files, out,
         )?;
     }
     set_folder_times(

@@ -53,12 +53,7 @@ fn push_lead_part(text: &mut String, two: bool, tree: Option<LbAddr>) -> Result<
 }
 
 /// The place of a tree by its number.
-fn numbered_seat(
-    alloc: Global,
-    two: bool,
-    icb: LbAddr,
-    folder: &str,
-) -> Result<Seat, AllocError>
+fn numbered_seat(alloc: Global, two: bool, icb: LbAddr, folder: &str) -> Result<Seat, AllocError>
     ensures word { IfOk result (λ seat. string_bytes seat.word ≡ seat_word two icb None) }
     ensures path { IfOk result (λ seat. string_bytes seat.path ≡ seat_path folder.now two icb None) }
 {

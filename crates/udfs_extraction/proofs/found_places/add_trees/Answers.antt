@@ -11,4 +11,4 @@ loop-tree-preserved c =
     let tree = c.tree-item.result in
     let nodes : c.deref.result.now ≡ tree.nodes.items = search rules in
     adds_on P _ _ _ c.loop-tree.invariant
-        (adds_wider _ P _ _ (λ p is. (tree, item_at c.args.trees.now c.loop-tree.tree-index tree c.loop-tree-test.true c.tree-item.is, subst (λ ns. IsFoundAmong v c.args.lost.now (Some tree.folder) ns p) nodes is)) c.in_ok-add_nodes.ensures)
+    (adds_wider _ P _ _ (λ p is. (tree, item_at c.args.trees.now c.loop-tree.tree-index tree c.loop-tree-test.true c.tree-item.is, subst (λ ns. IsFoundAmong v c.args.lost.now (Some tree.folder) ns p) nodes is)) c.in_ok-add_nodes.ensures)

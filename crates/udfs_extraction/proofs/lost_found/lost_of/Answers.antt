@@ -9,8 +9,7 @@ use Rattle.udfs_extraction.proofs.lost_found.lost_of.Goals as goal
 pub returns-in-Ok-clause-found : goal.returns-in-Ok-clause-found
 returns-in-Ok-clause-found c =
     let l = c.args.listing.now in
-    let nodes : c.deref.result.now ≡ l.nodes.items = search rules in
-    (
+    let nodes : c.deref.result.now ≡ l.nodes.items = search rules in (
       lost_seen c.args.deleted (state_of l.table.now) (volume_now l.volume) (found_now c.in-Open.opened) _ c.args.entries.now _ c.in-Ok.lost.trees.items (ap volume_now c.in-Open.is) c.view-view.ensures.value c.requires c.in-Ok.ensures.trees,
       names_seen c.args.deleted (state_of l.table.now) (volume_now l.volume) (found_now c.in-Open.opened) _ c.deref.result.now _ c.args.entries.now _ c.in-Ok.lost.names (ap volume_now c.in-Open.is) c.view-view.ensures.value
           (ap (map (full_in (state_of l.table.now) (volume_now l.volume))) nodes) c.requires c.in-Ok.ensures.names,

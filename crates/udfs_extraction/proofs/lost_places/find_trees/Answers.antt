@@ -18,7 +18,7 @@ pub returns-in-None-clause-refused : goal.returns-in-None-clause-refused
 returns-in-None-clause-refused c =
     let l = c.args.listing.now in
     if_err (λ refusal. MatchOption c.args.trees ⊥ (λ folder. IsUnsearched c.args.deleted l.table.now (listing_now l) refusal)) _ c.found_trees.result
-        (λ refusal why. inr (subst (λ report. MatchOption c.args.trees ⊥ (λ folder. IsUnsearched c.args.deleted l.table.now report refusal)) (rw c.in-None.is at c.requires.place) why)) c.found_trees.ensures.refused
+    (λ refusal why. inr (subst (λ report. MatchOption c.args.trees ⊥ (λ folder. IsUnsearched c.args.deleted l.table.now report refusal)) (rw c.in-None.is at c.requires.place) why)) c.found_trees.ensures.refused
 
 pub returns-in-Ok-clause-found : goal.returns-in-Ok-clause-found
 returns-in-Ok-clause-found c =
@@ -27,4 +27,4 @@ returns-in-Ok-clause-found c =
     let report = lost_report l.profile l.table.now l.last (listing_now l) in
     let at = rw c.in-Some.is at c.requires.place in
     subst (λ (t : Table). IfOk c.found_trees-in-Some.result (λ lost. MatchOption c.args.trees ⊤ (λ folder. AreFoundOf c.args.deleted (state_of t) report lost.trees.items lost.names))) at.1
-        (subst (λ (m : Report). IfOk c.found_trees-in-Some.result (λ lost. MatchOption c.args.trees ⊤ (λ folder. AreFoundOf c.args.deleted (state_of place.table.now) m lost.trees.items lost.names))) at.0 c.found_trees-in-Some.ensures.found)
+    (subst (λ (m : Report). IfOk c.found_trees-in-Some.result (λ lost. MatchOption c.args.trees ⊤ (λ folder. AreFoundOf c.args.deleted (state_of place.table.now) m lost.trees.items lost.names))) at.0 c.found_trees-in-Some.ensures.found)

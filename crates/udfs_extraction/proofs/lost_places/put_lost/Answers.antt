@@ -16,7 +16,7 @@ returns-in-None-clause-why g c =
     let l = c.args.listing in
     let r = c.args.request.now in
     moved_stop g.F.Files g.F.Output.Sink.stream r.deleted r.short_names c.add_trees.new.files (S.stream c.args.out.now) (S.stream c.add_trees.new.out) l.table.now l.table.now (listing_now l)
-        (lost_report l.profile l.table.now l.last (listing_now l)) r.trees c.add_trees.result refl (rw c.in-None.is at c.requires.place) c.add_trees.ensures.why
+    (lost_report l.profile l.table.now l.last (listing_now l)) r.trees c.add_trees.result refl (rw c.in-None.is at c.requires.place) c.add_trees.ensures.why
 
 pub returns-in-Some-clause-made : goal.returns-in-Some-clause-made
 returns-in-Some-clause-made g c =
@@ -31,4 +31,4 @@ returns-in-Some-clause-why g c =
     let r = c.args.request.now in
     let at = rw c.in-Some.is at c.requires.place in
     moved_stop g.F.Files g.F.Output.Sink.stream r.deleted r.short_names c.add_trees-in-Some.new.files (S.stream c.args.out.now) (S.stream c.add_trees-in-Some.new.out) place.table.now l.table.now (listing_now place)
-        (lost_report l.profile l.table.now l.last (listing_now l)) r.trees c.add_trees-in-Some.result at.1 at.0 c.add_trees-in-Some.ensures.why
+    (lost_report l.profile l.table.now l.last (listing_now l)) r.trees c.add_trees-in-Some.result at.1 at.0 c.add_trees-in-Some.ensures.why

@@ -71,10 +71,10 @@ returns-clause-put g c n at =
     let held = c.in_ok-done.ensures.put n c.args.short c.args.folder.now at here in
     let end = named.end in
     let put = end_done (codes "/" ∷ []) F.tells (Fails F.faults ⊎ SinkFails out) l.table.now report Refuse c.args.short c.args.folder.now _ _ 0 n end.0 before fate end.1 (λ not. inl (end.2 not))
-        (λ is_named written told bytes there.
-        safe F.moment F.may_leave F.left_since after (F.holds after) _ bytes (g.met.F.Files.only_now after)
-            (subst (λ p. IsKept (F.holds after) (F.may_leave after) p bytes) here (named.kept (end.1.same is_named ∙ written) told bytes (subst (λ p. F.holds c.put_node.new.files p ≡ Some (Some bytes)) (sym here) there))))
-        (record { asked = λ asked. held; passed = λ passed. let bad : true ≡ false = passed in cc }) in (
+    (λ is_named written told bytes there.
+    safe F.moment F.may_leave F.left_since after (F.holds after) _ bytes (g.met.F.Files.only_now after)
+    (subst (λ p. IsKept (F.holds after) (F.may_leave after) p bytes) here (named.kept (end.1.same is_named ∙ written) told bytes (subst (λ p. F.holds c.put_node.new.files p ≡ Some (Some bytes)) (sym here) there))))
+    (record { asked = λ asked. held; passed = λ passed. let bad : true ≡ false = passed in cc }) in (
       put.asked refl,
       subst (λ (o : Option (List ℕ)). TellsLines c.in_ok-heard.heard (S.stream c.args.out.now) (S.stream c.tell.new.out) (fate_line c.args.word.now fate n.path o)) own
           (subst (λ (p : List (List ℕ)). TellsLines c.in_ok-heard.heard (S.stream c.args.out.now) (S.stream c.tell.new.out) (fate_line c.args.word.now fate p c.in_ok-target.target.own)) path c.in_ok-heard.ensures.lines),

@@ -45,7 +45,7 @@ returns-in-Ok-put_tree-clause-spares g c =
     let found = c.in-Ok.ensures.seat in
     let path : c.as_str-2.result.now ≡ seat_path c.args.folder.now two icb found.0 = (search rules) ∙ found.3 in
     lost_on _ _ _ _ _ (lost_same _ _ _ _ c.seat_for.ensures.others c.seat_for.ensures.crash)
-        (spares_tree g.F.Files c.args.folder.now (seat_part two icb found.0) c.as_str-2.result.now c.seat_for.new.files c.put_tree.new.files path c.put_tree.ensures.spares)
+    (spares_tree g.F.Files c.args.folder.now (seat_part two icb found.0) c.as_str-2.result.now c.seat_for.new.files c.put_tree.new.files path c.put_tree.ensures.spares)
 
 pub returns-clause-put : goal.returns-clause-put
 returns-clause-put g c =
@@ -77,4 +77,4 @@ returns-clause-spares g c =
     let found = c.in-Ok.ensures.seat in
     let path : c.as_str-2.result.now ≡ seat_path c.args.folder.now two icb found.0 = (search rules) ∙ found.3 in
     lost_on _ _ _ _ _ (lost_same _ _ _ _ c.seat_for.ensures.others c.seat_for.ensures.crash)
-        (spares_tree g.F.Files c.args.folder.now (seat_part two icb found.0) c.as_str-2.result.now c.seat_for.new.files c.put_tree.new.files path c.put_tree.ensures.spares)
+    (spares_tree g.F.Files c.args.folder.now (seat_part two icb found.0) c.as_str-2.result.now c.seat_for.new.files c.put_tree.new.files path c.put_tree.ensures.spares)

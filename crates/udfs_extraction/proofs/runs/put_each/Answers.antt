@@ -1,8 +1,6 @@
-use Rattle.std.proofs.Common.{◌≡◌, ◌≢◌, ◌∙◌, ◌+◌, ◌-◌, ◌<◌, ◌≤◌, ◌++◌, ◌∷◌, ℕ, [], Bor, List, Some, None, ap, arith, length, length-append, map, refl, rules, slice_get, string_bytes, subst, sym, ⊎_elim}
-use Rattle.udfs_lattice.specs.Tables.{state_of}
-use Rattle.udfs_salvage.specs.Found.{volume_now}
-use Rattle.udfs_salvage.specs.Listings.{full_in, listing_now}
-use Rattle.udfs_extraction.specs.Runs.{AreFresh, AreHeld, IsHeld}
+use Rattle.std.proofs.Common.{◌≡◌, ◌∙◌, ◌+◌, ◌-◌, ◌<◌, ◌≤◌, ◌++◌, ◌∷◌, ℕ, [], Bor, List, Some, None, ap, arith, length, length-append, map, rules, slice_get, subst, sym}
+use Rattle.udfs_salvage.specs.Listings.{listing_now}
+use Rattle.udfs_extraction.specs.Runs.{AreFresh, AreHeld}
 use Rattle.udfs_extraction.specs.ShortNames.{IsWay}
 use Rattle.udfs_extraction.specs.declared.naming.Put.{Put}
 use Rattle.udfs_extraction.proofs.RunLemmas.{are_held_more, are_held_still, are_fresh_more, run_nothing, run_on}
@@ -45,7 +43,7 @@ loop-index-preserved g c =
 pub returns-in_err-reserve-clause-held : goal.returns-in_err-reserve-clause-held
 returns-in_err-reserve-clause-held g c =
     subst (AreHeld g.F.Files g.F.Output.Sink.stream c.loop-index.files (map (λ (word : Bor (List ℕ)). word.now) c.args.only.now) c.args.listing.now.table.now (listing_now c.args.listing.now) c.args.fill c.args.short c.args.digest c.args.folder.now c.args.first)
-        (sym c.reserve.ensures.items) c.loop-index.invariant.held
+    (sym c.reserve.ensures.items) c.loop-index.invariant.held
 
 pub returns-in_err-reserve-clause-fresh : goal.returns-in_err-reserve-clause-fresh
 returns-in_err-reserve-clause-fresh g c told = subst (AreFresh (g.F.Files.holds c.args.files.now)) (sym c.reserve.ensures.items) (c.loop-index.invariant.fresh told)
@@ -65,8 +63,8 @@ returns-in_err-put-clause-held g c =
     let only = map (λ (word : Bor (List ℕ)). word.now) c.args.only.now in
     let l = c.args.listing.now in
     subst (AreHeld g.F.Files g.F.Output.Sink.stream c.put_one.new.files only l.table.now (listing_now l) c.args.fill c.args.short c.args.digest c.args.folder.now c.args.first) (sym c.reserve.ensures.items)
-        (are_held_still g.F.Files g.F.Output.Sink.stream only l.table.now (listing_now l) c.args.fill c.args.short c.args.digest c.args.folder.now c.loop-index.files c.put_one.new.files c.args.first c.loop-index.puts.items
-        c.put_one.ensures.spares.stays c.loop-index.invariant.held)
+    (are_held_still g.F.Files g.F.Output.Sink.stream only l.table.now (listing_now l) c.args.fill c.args.short c.args.digest c.args.folder.now c.loop-index.files c.put_one.new.files c.args.first c.loop-index.puts.items
+    c.put_one.ensures.spares.stays c.loop-index.invariant.held)
 
 pub returns-in_err-put-clause-fresh : goal.returns-in_err-put-clause-fresh
 returns-in_err-put-clause-fresh g c told = subst (AreFresh (g.F.Files.holds c.args.files.now)) (sym c.reserve.ensures.items) (c.loop-index.invariant.fresh told)
@@ -95,7 +93,7 @@ returns-then-last-clause-held g c =
     let spares = c.put_one.ensures.spares in
     let count = inv.count in
     subst (AreHeld F out c.put_one.new.files only l.table.now report c.args.fill c.args.short c.args.digest c.args.folder.now c.args.first) (sym pushed)
-        (are_held_more F out only l.table.now report c.args.fill c.args.short c.args.digest c.args.folder.now c.loop-index.files c.put_one.new.files c.args.first c.loop-index.index puts put count spares.stays inv.held c.in_ok-put.ensures.held)
+    (are_held_more F out only l.table.now report c.args.fill c.args.short c.args.digest c.args.folder.now c.loop-index.files c.put_one.new.files c.args.first c.loop-index.index puts put count spares.stays inv.held c.in_ok-put.ensures.held)
 
 pub returns-then-last-clause-fresh : goal.returns-then-last-clause-fresh
 returns-then-last-clause-fresh g c =

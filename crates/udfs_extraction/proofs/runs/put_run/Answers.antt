@@ -1,4 +1,4 @@
-use Rattle.std.proofs.Common.{◌≡◌, ◌∙◌, ◌+◌, ◌<◌, ℕ, Bor, List, ap, arith, drop, length, map, refl, rules, subst, sym}
+use Rattle.std.proofs.Common.{◌≡◌, ◌∙◌, ℕ, Bor, List, ap, arith, drop, length, map, rules, subst, sym}
 use Rattle.std.proofs.lemmas.List.{length-map}
 use Rattle.udfs_lattice.specs.Tables.{state_of}
 use Rattle.udfs_salvage.specs.Found.{volume_now}
@@ -99,8 +99,8 @@ returns-in_err-tell_each-clause-spares g c =
     let long = ap length value in
     let few = c.put_each-put.ensures.few in
     run_removed F only c.args.fill c.args.short report c.args.folder.now out l.table.now c.args.digest c.args.files.now two three first puts (omega (arith, many, few, long)) held
-        (λ told. subst (AreFresh (F.holds c.args.files.now)) (sym value) (c.put_each-put.ensures.fresh told))
-        (run_on F only c.args.fill c.args.short report c.args.folder.now c.args.files.now one two c.put_each-put.ensures.spares (run_quiet F only c.args.fill c.args.short report c.args.folder.now one two names.others names.crash)) c.tell_each.ensures.others c.tell_each.ensures.crash
+    (λ told. subst (AreFresh (F.holds c.args.files.now)) (sym value) (c.put_each-put.ensures.fresh told))
+    (run_on F only c.args.fill c.args.short report c.args.folder.now c.args.files.now one two c.put_each-put.ensures.spares (run_quiet F only c.args.fill c.args.short report c.args.folder.now one two names.others names.crash)) c.tell_each.ensures.others c.tell_each.ensures.crash
 
 pub returns-in_err-put-clause-spares : goal.returns-in_err-put-clause-spares
 returns-in_err-put-clause-spares g c =
@@ -122,8 +122,8 @@ returns-in_err-put-clause-spares g c =
     let long = ap length value in
     let few = c.put_each-put.ensures.few in
     run_removed F only c.args.fill c.args.short report c.args.folder.now out l.table.now c.args.digest c.args.files.now two three first puts (omega (arith, many, few, long)) held
-        (λ told. subst (AreFresh (F.holds c.args.files.now)) (sym value) (c.put_each-put.ensures.fresh told))
-        (run_on F only c.args.fill c.args.short report c.args.folder.now c.args.files.now one two c.put_each-put.ensures.spares (run_quiet F only c.args.fill c.args.short report c.args.folder.now one two names.others names.crash)) c.tell_each.ensures.others c.tell_each.ensures.crash
+    (λ told. subst (AreFresh (F.holds c.args.files.now)) (sym value) (c.put_each-put.ensures.fresh told))
+    (run_on F only c.args.fill c.args.short report c.args.folder.now c.args.files.now one two c.put_each-put.ensures.spares (run_quiet F only c.args.fill c.args.short report c.args.folder.now one two names.others names.crash)) c.tell_each.ensures.others c.tell_each.ensures.crash
 
 pub returns-clause-spares : goal.returns-clause-spares
 returns-clause-spares g c =
@@ -145,5 +145,5 @@ returns-clause-spares g c =
     let long = ap length value in
     let few = c.put_each-put.ensures.few in
     run_removed F only c.args.fill c.args.short report c.args.folder.now out l.table.now c.args.digest c.args.files.now two three first puts (omega (arith, many, few, long)) held
-        (λ told. subst (AreFresh (F.holds c.args.files.now)) (sym value) (c.put_each-put.ensures.fresh told))
-        (run_on F only c.args.fill c.args.short report c.args.folder.now c.args.files.now one two c.put_each-put.ensures.spares (run_quiet F only c.args.fill c.args.short report c.args.folder.now one two names.others names.crash)) c.tell_each.ensures.others c.tell_each.ensures.crash
+    (λ told. subst (AreFresh (F.holds c.args.files.now)) (sym value) (c.put_each-put.ensures.fresh told))
+    (run_on F only c.args.fill c.args.short report c.args.folder.now c.args.files.now one two c.put_each-put.ensures.spares (run_quiet F only c.args.fill c.args.short report c.args.folder.now one two names.others names.crash)) c.tell_each.ensures.others c.tell_each.ensures.crash

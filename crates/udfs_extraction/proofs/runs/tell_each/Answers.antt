@@ -1,4 +1,4 @@
-use Rattle.std.proofs.Common.{◌≡◌, ◌≢◌, ◌∙◌, ◌+◌, ◌-◌, ◌<◌, ◌++◌, ◌∷◌, ℕ, Bool, [], Bor, List, Option, Some, ap, append_assoc, arith, drop, false, true, length, length-append, map, refl, rules, slice_get, string_bytes, subst, sym, if◌then◌else◌}
+use Rattle.std.proofs.Common.{◌≡◌, ◌≢◌, ◌∙◌, ◌+◌, ◌<◌, ◌++◌, ◌∷◌, ℕ, [], Bor, List, Option, Some, ap, append_assoc, arith, drop, false, length, length-append, map, refl, rules, slice_get, string_bytes, subst, sym, if◌then◌else◌}
 use Rattle.std.proofs.lemmas.List.{append-nil, length-map}
 use Rattle.udfs_lattice.specs.Tables.{state_of}
 use Rattle.udfs_walk.specs.NodeFields.{NodeFields}
@@ -57,7 +57,7 @@ loop-k-preserved g c =
           let here : first + k ≡ length fates + first = (let count = before.2 in omega (arith, count)) in
           let at : slice_get (drop first nodes) (length fates) ≡ Some n = drop_at nodes first (length fates) ∙ subst (λ j. slice_get nodes (first + j) ≡ Some n) (sym before.2) node.1 in
           let one = told_of F out only l.table.now report fill short c.args.folder.now digest files (first + k) n put c.args.named fate (g.met.F.Files.only_now files) c.requires.cause
-              (λ is told written bytes holds. c.requires.kept is told k put bytes there written holds) h end in
+          (λ is told written bytes holds. c.requires.kept is told k put bytes there written holds) h end in
           let line = notes_text short report (notes_of fate put.done.digest (first + k)) in (
             fates ++ fate ∷ [],
             record {
