@@ -1,9 +1,9 @@
 //! The arguments of the command line.
 
-ghost use Rattle.std.specs.Prelude.{◌≡◌, IfOk, codes, map};
+ghost use Rattle.std.specs.Prelude.{◌≡◌, IfOk, false, map, true};
 ghost use Rattle.std.specs.String.{string_bytes};
 ghost use Rattle.udfs_words.specs.Obeying.{given_in, is_given, names};
-ghost use Rattle.clap.specs.Words.{app_of, new_app, with_subcommand};
+ghost use Rattle.clap.specs.Words.{App, Rule, app_of, new_app, rule_of, with_rule, with_subcommand};
 ghost use Rattle.udfs_words.specs.Grammar.{extract_app, forget_app, image_app, list_app, merge_app, page_app, program, program_app, report_app, reread_app, summary_app, with_end, with_files, with_inputs, with_shape};
 
 use crate::arguments::{
@@ -11,7 +11,7 @@ use crate::arguments::{
     last, lost_folder, lost_trees, manifest, null, only, page_file, pair_inputs, profile, quiet,
     size_map, table_file, title, verbose,
 };
-use clap::Command;
+use clap::{Arg, Command};
 use std::alloc::{AllocError, Global};
 
 /// The inputs' id among the matches.
@@ -164,27 +164,65 @@ fn program<'a>(alloc: Global) -> Command<'a>
         .subcommand_required(true)
 }
 
+/// Adds an argument to a command that there was memory for.
+fn add_arg<'a>(
+    command: Result<Command<'a>, AllocError>,
+    arg: Arg<'a>,
+) -> Result<Command<'a>, AllocError>
+    ensures { (app : App) → (rule : Rule) → IfOk command.entry (λ c. app_of c ≡ app) → (rule_of arg.entry ≡ rule) × (arg.entry.global ≡ false) → IfOk result (λ whole. app_of whole ≡ with_rule app rule) }
+{
+    command?.arg(arg)
+}
+
+/// Adds a command to the program, if there was memory for both.
+fn add_command<'a>(
+    program: Result<Command<'a>, AllocError>,
+    command: Result<Command<'a>, AllocError>,
+) -> Result<Command<'a>, AllocError>
+    ensures { (app : App) → (sub : App) → IfOk program.entry (λ c. app_of c ≡ app) → IfOk command.entry (λ c. app_of c ≡ sub) → sub.top.is_plain ≡ true → IfOk result (λ whole. app_of whole ≡ with_subcommand app sub.top) }
+{
+    program?.subcommand(command?)
+}
+
 /// The program and its first four commands.
 fn first_commands<'a>(alloc: Global, given: Given) -> Result<Command<'a>, AllocError>
     ensures { IfOk result (λ command. app_of command ≡ with_subcommand (with_subcommand (with_subcommand (with_subcommand program (merge_app given.pairs).top) (report_app given).top) (reread_app given).top) (extract_app given).top) }
 {
-    program(alloc)
-        .subcommand(merge(alloc, given.pairs)?)?
-        .subcommand(report(alloc, given)?)?
-        .subcommand(reread(alloc, given)?)?
-        .subcommand(extract(alloc, given)?)
+    let whole = add_command(Ok(program(alloc)), merge(alloc, given.pairs));
+    let whole = add_command(whole, report(alloc, given));
+    let whole = add_command(whole, reread(alloc, given));
+    add_command(whole, extract(alloc, given))
 }
 
 /// The commands and what they take.
 pub fn grammar<'a>(alloc: Global, given: Given) -> Result<Command<'a>, AllocError>
     ensures { IfOk result (λ command. app_of command ≡ program_app given) }
 {
-    first_commands(alloc, given)?
-        .subcommand(forget(alloc, given)?)?
-        .subcommand(list(alloc, given)?)?
-        .subcommand(summary(alloc, given)?)?
-        .subcommand(image(alloc, given)?)?
-        .subcommand(page(alloc, given)?)
+    let whole = add_command(first_commands(alloc, given), forget(alloc, given));
+    let whole = add_command(whole, list(alloc, given));
+    let whole = add_command(whole, summary(alloc, given));
+    let whole = add_command(whole, image(alloc, given));
+    add_command(whole, page(alloc, given))
+}
+
+/// A command of this name before its arguments, with what the help says above and below them.
+fn plain<'a>(alloc: Global, name: &'a str, about: &'a str, example: &'a str) -> Command<'a>
+    ensures { app_of result ≡ new_app name.now }
+{
+    Command::new(alloc, name).about(about).after_help(example)
+}
+
+/// Such a command with a usage of its own.
+fn bare<'a>(
+    alloc: Global,
+    name: &'a str,
+    about: &'a str,
+    example: &'a str,
+    usage: &'a str,
+) -> Command<'a>
+    ensures { app_of result ≡ new_app name.now }
+{
+    plain(alloc, name, about, example).override_usage(usage)
 }
 
 /// `merge [--v1] [--force] --out FILE IN...`
@@ -192,14 +230,18 @@ fn merge<'a>(alloc: Global, pairs: bool) -> Result<Command<'a>, AllocError>
     ensures { IfOk result (λ command. app_of command ≡ merge_app pairs) }
 {
     let out = table_file(alloc)?;
-    let command = Command::new(alloc, "merge")
-        .about("Joins readings and table files into one table file")
-        .after_help(
-            "Example:{n}  udfsalvage merge --out disc.tab --ddrescue p1.img p1.map{n}The next pass is joined so:{n}  udfsalvage merge --out disc.tab --ddrescue p2.img p2.map disc.tab",
-        )
-        .arg(out)?
-        .arg(flag(alloc, V1, "Write the table file in version 1"))?
-        .arg(force(alloc))?;
+    let command = plain(
+        alloc,
+        "merge",
+        "Joins readings and table files into one table file",
+        "Example:{n}  udfsalvage merge --out disc.tab --ddrescue p1.img p1.map{n}The next pass is joined so:{n}  udfsalvage merge --out disc.tab --ddrescue p2.img p2.map disc.tab",
+    );
+    let command = add_arg(Ok(command), out);
+    let command = add_arg(
+        command,
+        flag(alloc, V1, "Write the table file in version 1"),
+    );
+    let command = add_arg(command, force(alloc));
     with_inputs(alloc, command, pairs)
 }
 
@@ -207,25 +249,18 @@ fn merge<'a>(alloc: Global, pairs: bool) -> Result<Command<'a>, AllocError>
 fn report<'a>(alloc: Global, given: Given) -> Result<Command<'a>, AllocError>
     ensures { IfOk result (λ command. app_of command ≡ report_app given) }
 {
-    let command = Command::new(alloc, "report")
-        .about("Prints what is known, file by file, and which blocks to read again")
-        .after_help("Example:{n}  udfsalvage report --size-of p1.map disc.tab")
-        .override_usage("udfsalvage report [OPTIONS] [--last <N> | --size <BYTES>] <IN>...");
-    let command = with_end(alloc, command, given.needs_last)?
-        .arg(profile(alloc))?
-        .arg(flag(alloc, JSON, "Print it as JSON"))?
-        .arg(joining(alloc))?;
+    let command = bare(
+        alloc,
+        "report",
+        "Prints what is known, file by file, and which blocks to read again",
+        "Example:{n}  udfsalvage report --size-of p1.map disc.tab",
+        "udfsalvage report [OPTIONS] [--last <N> | --size <BYTES>] <IN>...",
+    );
+    let command = with_end(alloc, Ok(command), given.needs_last);
+    let command = add_arg(command, profile(alloc));
+    let command = add_arg(command, flag(alloc, JSON, "Print it as JSON"));
+    let command = add_arg(command, joining(alloc));
     with_inputs(alloc, command, given.pairs)
-}
-
-/// `reread` before its arguments.
-fn bare_reread<'a>(alloc: Global) -> Command<'a>
-    ensures { app_of result ≡ new_app (codes "reread") }
-{
-    Command::new(alloc, "reread")
-        .about("Prints the numbers of the blocks to read again")
-        .after_help("Example:{n}  udfsalvage reread --size-of p1.map --mapfile want.map disc.tab")
-        .override_usage("udfsalvage reread [OPTIONS] [--last <N> | --size <BYTES>] <IN>...")
 }
 
 /// `reread (--last N | --size BYTES | --size-of MAPFILE) [--profile PROFILE] [--only PATH]... [--mapfile FILE] [--group G] [--no-witnesses] [--force] IN...`
@@ -233,69 +268,95 @@ fn reread<'a>(alloc: Global, given: Given) -> Result<Command<'a>, AllocError>
     ensures { IfOk result (λ command. app_of command ≡ reread_app given) }
 {
     let mapfile = domain(alloc)?;
-    let command = with_end(alloc, bare_reread(alloc), given.needs_last)?
-        .arg(profile(alloc))?
-        .arg(only(
+    let command = bare(
+        alloc,
+        "reread",
+        "Prints the numbers of the blocks to read again",
+        "Example:{n}  udfsalvage reread --size-of p1.map --mapfile want.map disc.tab",
+        "udfsalvage reread [OPTIONS] [--last <N> | --size <BYTES>] <IN>...",
+    );
+    let command = with_end(alloc, Ok(command), given.needs_last);
+    let command = add_arg(command, profile(alloc));
+    let command = add_arg(
+        command,
+        only(
             alloc,
             "Only the blocks for this file or folder, by{n}its path as report prints it",
-        ))?
-        .arg(mapfile)?
-        .arg(group(alloc))?
-        .arg(flag(
+        ),
+    );
+    let command = add_arg(command, mapfile);
+    let command = add_arg(command, group(alloc));
+    let command = add_arg(
+        command,
+        flag(
             alloc,
             NO_WITNESSES,
             "Leave out of the mapfile the known blocks{n}by which a pass of another disc shows",
-        ))?
-        .arg(joining(alloc))?;
+        ),
+    );
+    let command = add_arg(command, joining(alloc));
     with_inputs(alloc, command, given.pairs)
 }
 
-/// `extract` before its arguments.
-fn bare_extract<'a>(alloc: Global) -> Command<'a>
-    ensures { app_of result ≡ new_app (codes "extract") }
-{
-    Command::new(alloc, "extract")
-        .about("Writes the files that are whole into a new folder")
-        .after_help("Example:{n}  udfsalvage extract --size-of p1.map --to files --times disc.tab")
-        .override_usage(
-            "udfsalvage extract [OPTIONS] [--last <N> | --size <BYTES>] --to <DIR>\n                          <IN>...",
-        )
-}
-
 /// What says which files `extract` writes, and where.
-fn with_files<'a>(alloc: Global, command: Command<'a>) -> Result<Command<'a>, AllocError>
-    ensures { IfOk result (λ whole. app_of whole ≡ with_files (app_of command.entry)) }
+fn with_files<'a>(
+    alloc: Global,
+    command: Result<Command<'a>, AllocError>,
+) -> Result<Command<'a>, AllocError>
+    ensures { (app : App) → IfOk command.entry (λ c. app_of c ≡ app) → IfOk result (λ whole. app_of whole ≡ with_files app) }
 {
-    command
-        .arg(folder(alloc))?
-        .arg(flag(
+    let command = add_arg(command, folder(alloc));
+    let command = add_arg(
+        command,
+        flag(
             alloc,
             FILL,
             "Write torn files too, with zeros for what{n}is missing",
-        ))?
-        .arg(only(
+        ),
+    );
+    let command = add_arg(
+        command,
+        only(
             alloc,
             "Write only this file or folder, by its path{n}as report prints it",
-        ))?
-        .arg(manifest(alloc))
+        ),
+    );
+    add_arg(command, manifest(alloc))
 }
 
 /// `extract (--last N | --size BYTES | --size-of MAPFILE) [--profile PROFILE] --to DIR [--fill] [--only PATH]... [--manifest FILE] [--unnamed DIR] [--lost DIR] [--deleted] [--times] [--short-names] [--force] IN...`
 fn extract<'a>(alloc: Global, given: Given) -> Result<Command<'a>, AllocError>
     ensures { IfOk result (λ command. app_of command ≡ extract_app given) }
 {
-    let command = with_end(alloc, bare_extract(alloc), given.needs_last)?.arg(profile(alloc))?;
-    let command = with_files(alloc, command)?
-        .arg(lost_folder(alloc))?
-        .arg(lost_trees(alloc))?
-        .arg(flag(alloc, DELETED, "With --lost: write deleted ones there too"))?
-        .arg(flag(alloc, TIMES, "Set the times that the volume has"))?
-        .arg(flag(
+    let command = bare(
+        alloc,
+        "extract",
+        "Writes the files that are whole into a new folder",
+        "Example:{n}  udfsalvage extract --size-of p1.map --to files --times disc.tab",
+        "udfsalvage extract [OPTIONS] [--last <N> | --size <BYTES>] --to <DIR>\n                          <IN>...",
+    );
+    let command = with_end(alloc, Ok(command), given.needs_last);
+    let command = add_arg(command, profile(alloc));
+    let command = with_files(alloc, command);
+    let command = add_arg(command, lost_folder(alloc));
+    let command = add_arg(command, lost_trees(alloc));
+    let command = add_arg(
+        command,
+        flag(alloc, DELETED, "With --lost: write deleted ones there too"),
+    );
+    let command = add_arg(
+        command,
+        flag(alloc, TIMES, "Set the times that the volume has"),
+    );
+    let command = add_arg(
+        command,
+        flag(
             alloc,
             SHORT_NAMES,
             "Write what has too long a name under its{n}beginning and a number",
-        ))?
-        .arg(joining(alloc))?;
+        ),
+    );
+    let command = add_arg(command, joining(alloc));
     with_inputs(alloc, command, given.pairs)
 }
 
@@ -304,54 +365,67 @@ fn forget<'a>(alloc: Global, given: Given) -> Result<Command<'a>, AllocError>
     ensures { IfOk result (λ command. app_of command ≡ forget_app given) }
 {
     let out = table_file(alloc)?;
-    let command = Command::new(alloc, "forget")
-        .about("Writes the table of the inputs with some blocks unknown again")
-        .after_help("Example:{n}  udfsalvage forget --out disc.tab --conflicts disc.tab")
-        .override_usage(
-            "udfsalvage forget [OPTIONS] --out <FILE> <--conflicts|--blocks <LIST>>\n                         <IN>...",
-        )
-        .arg(out)?
-        .arg(flag(alloc, CONFLICTS, "Forget the blocks in conflict"))?
-        .arg(blocks(alloc, given.conflicts))?
-        .arg(force(alloc))?;
+    let command = bare(
+        alloc,
+        "forget",
+        "Writes the table of the inputs with some blocks unknown again",
+        "Example:{n}  udfsalvage forget --out disc.tab --conflicts disc.tab",
+        "udfsalvage forget [OPTIONS] --out <FILE> <--conflicts|--blocks <LIST>>\n                         <IN>...",
+    );
+    let command = add_arg(Ok(command), out);
+    let command = add_arg(
+        command,
+        flag(alloc, CONFLICTS, "Forget the blocks in conflict"),
+    );
+    let command = add_arg(command, blocks(alloc, given.conflicts));
+    let command = add_arg(command, force(alloc));
     with_inputs(alloc, command, given.pairs)
 }
 
-/// `list` before its arguments.
-fn bare_list<'a>(alloc: Global) -> Command<'a>
-    ensures { app_of result ≡ new_app (codes "list") }
-{
-    Command::new(alloc, "list")
-        .about("Prints a line for each file and folder, with what is lost of it")
-        .after_help("Example:{n}  udfsalvage list --size-of p1.map --torn --header disc.tab")
-        .override_usage("udfsalvage list [OPTIONS] [--last <N> | --size <BYTES>] <IN>...")
-}
-
 /// Which lines `list` prints, and in which form.
-fn with_shape<'a>(alloc: Global, command: Command<'a>) -> Result<Command<'a>, AllocError>
-    ensures { IfOk result (λ whole. app_of whole ≡ with_shape (app_of command.entry)) }
+fn with_shape<'a>(
+    alloc: Global,
+    command: Result<Command<'a>, AllocError>,
+) -> Result<Command<'a>, AllocError>
+    ensures { (app : App) → IfOk command.entry (λ c. app_of c ≡ app) → IfOk result (λ whole. app_of whole ≡ with_shape app) }
 {
-    command
-        .arg(flag(alloc, TORN, "Leave out what is whole"))?
-        .arg(null(alloc))?
-        .arg(flag(alloc, PATHS, "Print the paths alone"))?
-        .arg(flag(alloc, HEADER, "Print a first line with the columns' names"))?
-        .arg(flag(alloc, JSON, "Print each line as a JSON object"))
+    let command = add_arg(command, flag(alloc, TORN, "Leave out what is whole"));
+    let command = add_arg(command, null(alloc));
+    let command = add_arg(command, flag(alloc, PATHS, "Print the paths alone"));
+    let command = add_arg(
+        command,
+        flag(alloc, HEADER, "Print a first line with the columns' names"),
+    );
+    add_arg(
+        command,
+        flag(alloc, JSON, "Print each line as a JSON object"),
+    )
 }
 
 /// `list [--torn] [--null] [--paths] [--header] [--json] [--lost] [--deleted] [--force] (--last N | --size BYTES | --size-of MAPFILE) [--profile PROFILE] IN...`
 fn list<'a>(alloc: Global, given: Given) -> Result<Command<'a>, AllocError>
     ensures { IfOk result (λ command. app_of command ≡ list_app given) }
 {
-    let command = with_end(alloc, bare_list(alloc), given.needs_last)?.arg(profile(alloc))?;
-    let command = with_shape(alloc, command)?
-        .arg(flag(
+    let command = bare(
+        alloc,
+        "list",
+        "Prints a line for each file and folder, with what is lost of it",
+        "Example:{n}  udfsalvage list --size-of p1.map --torn --header disc.tab",
+        "udfsalvage list [OPTIONS] [--last <N> | --size <BYTES>] <IN>...",
+    );
+    let command = with_end(alloc, Ok(command), given.needs_last);
+    let command = add_arg(command, profile(alloc));
+    let command = with_shape(alloc, command);
+    let command = add_arg(
+        command,
+        flag(
             alloc,
             LOST,
             "Add lost folders, with the names in them,{n}and lost files",
-        ))?
-        .arg(flag(alloc, DELETED, "Add these, deleted ones too"))?
-        .arg(joining(alloc))?;
+        ),
+    );
+    let command = add_arg(command, flag(alloc, DELETED, "Add these, deleted ones too"));
+    let command = add_arg(command, joining(alloc));
     with_inputs(alloc, command, given.pairs)
 }
 
@@ -360,66 +434,72 @@ fn image<'a>(alloc: Global, given: Given) -> Result<Command<'a>, AllocError>
     ensures { IfOk result (λ command. app_of command ≡ image_app given) }
 {
     let out = image_file(alloc)?;
-    let command = Command::new(alloc, "image")
-        .about("Writes what is known of the disc as an image, with its mapfile")
-        .after_help(
-            "Example:{n}  udfsalvage image --size-of p1.map -o disc.img --mapfile disc.map disc.tab",
-        )
-        .override_usage(
-            "udfsalvage image [OPTIONS] [--last <N> | --size <BYTES>]\n                        --out <IMAGE> --mapfile <MAPFILE> <IN>...",
-        );
-    let command = with_end(alloc, command, given.needs_last)?
-        .arg(out)?
-        .arg(image_map(alloc))?
-        .arg(flag(
+    let command = bare(
+        alloc,
+        "image",
+        "Writes what is known of the disc as an image, with its mapfile",
+        "Example:{n}  udfsalvage image --size-of p1.map -o disc.img --mapfile disc.map disc.tab",
+        "udfsalvage image [OPTIONS] [--last <N> | --size <BYTES>]\n                        --out <IMAGE> --mapfile <MAPFILE> <IN>...",
+    );
+    let command = with_end(alloc, Ok(command), given.needs_last);
+    let command = add_arg(command, out);
+    let command = add_arg(command, image_map(alloc));
+    let command = add_arg(
+        command,
+        flag(
             alloc,
             FORCE,
             "Write over an image or a mapfile that is no{n}input, and join an image of another disc",
-        ))?;
+        ),
+    );
     with_inputs(alloc, command, given.pairs)
 }
 
 /// What says where the disc ends: the last block, which may have to be given, the size, or a mapfile to take the size from.
 fn with_end<'a>(
     alloc: Global,
-    command: Command<'a>,
+    command: Result<Command<'a>, AllocError>,
     needed: bool,
 ) -> Result<Command<'a>, AllocError>
-    ensures { IfOk result (λ whole. app_of whole ≡ with_end (app_of command.entry) needed) }
+    ensures { (app : App) → IfOk command.entry (λ c. app_of c ≡ app) → IfOk result (λ whole. app_of whole ≡ with_end app needed) }
 {
-    command
-        .arg(last(alloc, needed))?
-        .arg(disc_size(alloc))?
-        .arg(size_map(alloc))
+    let command = add_arg(command, last(alloc, needed));
+    let command = add_arg(command, disc_size(alloc));
+    add_arg(command, size_map(alloc))
 }
 
 /// What every command takes: its inputs, and how much it says.
 fn with_inputs<'a>(
     alloc: Global,
-    command: Command<'a>,
+    command: Result<Command<'a>, AllocError>,
     pairs: bool,
 ) -> Result<Command<'a>, AllocError>
-    ensures { IfOk result (λ whole. app_of whole ≡ with_inputs (app_of command.entry) pairs) }
+    ensures { (app : App) → IfOk command.entry (λ c. app_of c ≡ app) → IfOk result (λ whole. app_of whole ≡ with_inputs app pairs) }
 {
-    command
-        .arg(verbose(alloc))?
-        .arg(quiet(alloc))?
-        .arg(pair_inputs(alloc))?
-        .arg(inputs(alloc, pairs))
+    let command = add_arg(command, verbose(alloc));
+    let command = add_arg(command, quiet(alloc));
+    let command = add_arg(command, pair_inputs(alloc));
+    add_arg(command, inputs(alloc, pairs))
 }
 
 /// `summary (--last N | --size BYTES | --size-of MAPFILE) [--profile PROFILE] [--json] [--force] IN...`
 fn summary<'a>(alloc: Global, given: Given) -> Result<Command<'a>, AllocError>
     ensures { IfOk result (λ command. app_of command ≡ summary_app given) }
 {
-    let command = Command::new(alloc, "summary")
-        .about("Prints what a person wants to know of the volume, on one screen")
-        .after_help("Example:{n}  udfsalvage summary --size-of p1.map disc.tab")
-        .override_usage("udfsalvage summary [OPTIONS] [--last <N> | --size <BYTES>] <IN>...");
-    let command = with_end(alloc, command, given.needs_last)?
-        .arg(profile(alloc))?
-        .arg(flag(alloc, JSON, "Print the figures as one JSON object"))?
-        .arg(joining(alloc))?;
+    let command = bare(
+        alloc,
+        "summary",
+        "Prints what a person wants to know of the volume, on one screen",
+        "Example:{n}  udfsalvage summary --size-of p1.map disc.tab",
+        "udfsalvage summary [OPTIONS] [--last <N> | --size <BYTES>] <IN>...",
+    );
+    let command = with_end(alloc, Ok(command), given.needs_last);
+    let command = add_arg(command, profile(alloc));
+    let command = add_arg(
+        command,
+        flag(alloc, JSON, "Print the figures as one JSON object"),
+    );
+    let command = add_arg(command, joining(alloc));
     with_inputs(alloc, command, given.pairs)
 }
 
@@ -428,16 +508,17 @@ fn page<'a>(alloc: Global, given: Given) -> Result<Command<'a>, AllocError>
     ensures { IfOk result (λ command. app_of command ≡ page_app given) }
 {
     let out = page_file(alloc)?;
-    let command = Command::new(alloc, "page")
-        .about("Writes what is known as a page for a browser, to print or to keep")
-        .after_help("Example:{n}  udfsalvage page --size-of p1.map --out disc.html disc.tab")
-        .override_usage(
-            "udfsalvage page [OPTIONS] [--last <N> | --size <BYTES>] --out <FILE>\n                       <IN>...",
-        );
-    let command = with_end(alloc, command, given.needs_last)?
-        .arg(profile(alloc))?
-        .arg(out)?
-        .arg(title(alloc))?
-        .arg(joining(alloc))?;
+    let command = bare(
+        alloc,
+        "page",
+        "Writes what is known as a page for a browser, to print or to keep",
+        "Example:{n}  udfsalvage page --size-of p1.map --out disc.html disc.tab",
+        "udfsalvage page [OPTIONS] [--last <N> | --size <BYTES>] --out <FILE>\n                       <IN>...",
+    );
+    let command = with_end(alloc, Ok(command), given.needs_last);
+    let command = add_arg(command, profile(alloc));
+    let command = add_arg(command, out);
+    let command = add_arg(command, title(alloc));
+    let command = add_arg(command, joining(alloc));
     with_inputs(alloc, command, given.pairs)
 }

@@ -1,12 +1,9 @@
-use Rattle.std.proofs.Common.{ap, ap₂, ◌∙◌}
-use Rattle.std.proofs.lemmas.Result.{IfOk-weaker}
-use Rattle.clap.specs.Words.{App, with_subcommand}
-use Rattle.udfs_words.proofs.GrammarLemmas.{third_is_false}
+use Rattle.std.proofs.Common.{refl}
 use Rattle.udfs_words.proofs.words.first_commands.Goals as goal
 
 pub returns : goal.returns
 returns c =
-    let one = c.in_ok-subcommand.ensures.shape (third_is_false _ _ _ _ (ap (λ (a : App). a.top.is_plain) c.in_ok-merge.ensures)) ∙ ap₂ with_subcommand c.program.ensures (ap (λ (a : App). a.top) c.in_ok-merge.ensures) in
-    let two = c.in_ok-subcommand-2.ensures.shape (third_is_false _ _ _ _ (ap (λ (a : App). a.top.is_plain) c.in_ok-report.ensures)) ∙ ap₂ with_subcommand one (ap (λ (a : App). a.top) c.in_ok-report.ensures) in
-    let three = c.in_ok-subcommand-3.ensures.shape (third_is_false _ _ _ _ (ap (λ (a : App). a.top.is_plain) c.in_ok-reread.ensures)) ∙ ap₂ with_subcommand two (ap (λ (a : App). a.top) c.in_ok-reread.ensures) in
-    IfOk-weaker c.subcommand-4.result _ _ (λ m h. h.shape (third_is_false _ _ _ _ (ap (λ (a : App). a.top.is_plain) c.in_ok-extract.ensures)) ∙ ap₂ with_subcommand three (ap (λ (a : App). a.top) c.in_ok-extract.ensures)) c.subcommand-4.ensures
+    let h1 = c.add_command-whole.ensures _ _ c.program.ensures c.merge.ensures refl in
+    let h2 = c.add_command-whole-2.ensures _ _ h1 c.report.ensures refl in
+    let h3 = c.add_command-whole-3.ensures _ _ h2 c.reread.ensures refl in
+    c.add_command.ensures _ _ h3 c.extract.ensures refl

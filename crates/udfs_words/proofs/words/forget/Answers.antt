@@ -1,14 +1,9 @@
-use Rattle.std.proofs.Common.{rules, refl, ap₂, codes, ◌≡◌, ◌∙◌}
-use Rattle.std.proofs.lemmas.Result.{IfOk-weaker}
-use Rattle.clap.specs.Words.{app_of, new_app, with_rule}
-use Rattle.udfs_words.specs.Grammar.{with_inputs}
 use Rattle.udfs_words.proofs.words.forget.Goals as goal
 
 pub returns : goal.returns
 returns c =
-    let start : app_of c.override_usage.result ≡ new_app (codes "forget") = search rules in
-    let one = c.in_ok-arg.ensures.shape c.in_ok-out.ensures.1 ∙ ap₂ with_rule start c.in_ok-out.ensures.0 in
-    let two = c.in_ok-arg-2.ensures.shape c.flag.ensures.1 ∙ ap₂ with_rule one c.flag.ensures.0 in
-    let three = c.in_ok-arg-3.ensures.shape c.blocks-2.ensures.1 ∙ ap₂ with_rule two c.blocks-2.ensures.0 in
-    let four = c.in_ok-command.ensures.shape c.force.ensures.1 ∙ ap₂ with_rule three c.force.ensures.0 in
-    IfOk-weaker c.with_inputs.result _ _ (λ m h. h ∙ ap₂ with_inputs four refl) c.with_inputs.ensures
+    let h1 = c.add_arg-command.ensures _ _ c.bare-command.ensures c.in_ok-out.ensures in
+    let h2 = c.add_arg-command-2.ensures _ _ h1 c.flag.ensures in
+    let h3 = c.add_arg-command-3.ensures _ _ h2 c.blocks-2.ensures in
+    let h4 = c.add_arg-command-4.ensures _ _ h3 c.force.ensures in
+    c.with_inputs.ensures _ h4

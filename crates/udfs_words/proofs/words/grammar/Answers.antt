@@ -1,13 +1,10 @@
-use Rattle.std.proofs.Common.{ap, ap₂, ◌∙◌}
-use Rattle.std.proofs.lemmas.Result.{IfOk-weaker}
-use Rattle.clap.specs.Words.{App, with_subcommand}
-use Rattle.udfs_words.proofs.GrammarLemmas.{third_is_false}
+use Rattle.std.proofs.Common.{refl}
 use Rattle.udfs_words.proofs.words.grammar.Goals as goal
 
 pub returns : goal.returns
 returns c =
-    let one = c.in_ok-subcommand.ensures.shape (third_is_false _ _ _ _ (ap (λ (a : App). a.top.is_plain) c.in_ok-forget.ensures)) ∙ ap₂ with_subcommand c.in_ok-first_commands.ensures (ap (λ (a : App). a.top) c.in_ok-forget.ensures) in
-    let two = c.in_ok-subcommand-2.ensures.shape (third_is_false _ _ _ _ (ap (λ (a : App). a.top.is_plain) c.in_ok-list.ensures)) ∙ ap₂ with_subcommand one (ap (λ (a : App). a.top) c.in_ok-list.ensures) in
-    let three = c.in_ok-subcommand-3.ensures.shape (third_is_false _ _ _ _ (ap (λ (a : App). a.top.is_plain) c.in_ok-summary.ensures)) ∙ ap₂ with_subcommand two (ap (λ (a : App). a.top) c.in_ok-summary.ensures) in
-    let four = c.in_ok-subcommand-4.ensures.shape (third_is_false _ _ _ _ (ap (λ (a : App). a.top.is_plain) c.in_ok-image.ensures)) ∙ ap₂ with_subcommand three (ap (λ (a : App). a.top) c.in_ok-image.ensures) in
-    IfOk-weaker c.subcommand-5.result _ _ (λ m h. h.shape (third_is_false _ _ _ _ (ap (λ (a : App). a.top.is_plain) c.in_ok-page.ensures)) ∙ ap₂ with_subcommand four (ap (λ (a : App). a.top) c.in_ok-page.ensures)) c.subcommand-5.ensures
+    let h1 = c.add_command-whole.ensures _ _ c.first_commands.ensures c.forget.ensures refl in
+    let h2 = c.add_command-whole-2.ensures _ _ h1 c.list.ensures refl in
+    let h3 = c.add_command-whole-3.ensures _ _ h2 c.summary.ensures refl in
+    let h4 = c.add_command-whole-4.ensures _ _ h3 c.image.ensures refl in
+    c.add_command.ensures _ _ h4 c.page.ensures refl
