@@ -57,6 +57,8 @@ def work(i, n, jobs):
     for m in below(n, set()):
         if not os.path.exists(f'{d}/crates/{m}/out'):
             subprocess.run(['cp', '-al', f'{pool}/{m}/out', f'{d}/crates/{m}/out'], check=False)
+    if not os.path.exists(f'{d}/crates/{n}/out') and os.path.exists(f'{pool}/{n}/partial'):
+        subprocess.run(['cp', '-al', f'{pool}/{n}/partial', f'{d}/crates/{n}/out'], check=False)
     t = time.time()
     r = subprocess.run(f'cd {d}/crates/{n} && rt lib --jobs {jobs} > {pool}/{n}.log 2>&1', shell=True)
     with lock:
@@ -67,6 +69,8 @@ def work(i, n, jobs):
             done.add(n)
         else:
             failed.add(n)
+            os.makedirs(f'{pool}/{n}', exist_ok=True)
+            subprocess.run(f'rm -rf {pool}/{n}/partial; cp -al {d}/crates/{n}/out {pool}/{n}/partial; for k in 1 2 3 4; do [ /work/b$k = {d} ] || rm -rf /work/b$k/crates/{n}/out; done', shell=True)
         say('done' if r.returncode == 0 else 'FAILED', n, f'b{i}', f'jobs {jobs}', f'{time.time()-t:.0f} s')
         del running[i]
 while True:

@@ -6,6 +6,7 @@ while sleep 4; do
     case $c in
       /work/b[0-9]*) n=-15 ;;
       /work/int*) n=0 ;;
+      /work/hext*|/work/hlost*) n=-10 ;;
       /work/h*|/tmp/h*) n=19 ;;
       *) continue ;;
     esac
