@@ -6,7 +6,8 @@
 #                   commands that README.md and docs/READING.md show (not make test, nor what needs a tool that is not installed); the last line is
 #                   'N passed, M failed'
 #   make hostile    makes each allocation of many runs fail in turn, makes each system call of the program's runs fail or ends it there,
-#                   changes each byte of the sample discs' descriptors, and cuts the power of a disk amid system calls
+#                   changes each byte of the sample discs' descriptors, makes the same system calls on this machine and in memory, and cuts the power
+#                   of a disk amid system calls
 #   make try        tries the built program on this machine's own files and devices and on a terminal, and with GNU ddrescue where it is installed
 #   make docs       prints the definitions, the contracts with their edits, and the modules from the sources into out/docs
 #   make install    puts the program, the script udfsalvage-rescue, their man pages and the completions below PREFIX; make uninstall takes them away
@@ -87,6 +88,7 @@ hostile: all
 	@tools/refuse-memory $(TRIES) $(PROGRAM)
 	@tools/inject $(PROGRAM)
 	@tools/mutate $(TRIES)
+	@tools/try-same-calls $(TRIES) 100
 	@tools/try-power-cuts
 
 try: all

@@ -10,15 +10,17 @@ PATH=$PATH:/usr/sbin:/sbin
 
 usage='usage: udfsalvage-rescue [--needed | --full] [--name DRIVE] [--only PATH]...
            [--retries N] [--to DIR] [--title TEXT] DEVICE FOLDER'
-words='  --needed       read only what the files need, and not the whole disc first
-  --full         read the whole disc first, however badly it reads
-  --name DRIVE   what the drive is called in FOLDER (else its device, as sr0)
-  --only PATH    only this file or folder of the disc; may be given several times
-  --retries N    how often the last try reads a bad block again (3)
+words='Reads the disc in DEVICE, such as /dev/sr0, until its files are whole or the
+drive reads no more of them. Keeps everything that it reads in FOLDER.
+  --needed       read only what the files need, without the whole disc first
+  --full         read the whole disc first, even if it reads badly
+  --name DRIVE   a name for the drive in FOLDER (default: its device, as sr0)
+  --only PATH    only this file or folder; may be given several times
+  --retries N    how many times the last try retries a bad block (default: 3)
   --to DIR       at the end, write the whole files into this new folder
-  --title TEXT   a title for the report, such as the mark on the shelf
-The same command goes on where it was interrupted. Another drive: the same
-FOLDER, the other DEVICE. man udfsalvage-rescue says more.'
+  --title TEXT   a title for the report, such as a shelf mark
+Run the same command again to continue after an interruption. With another
+drive, give the same FOLDER and the other DEVICE. See man udfsalvage-rescue.'
 
 front=2048      # how many blocks at the beginning of the disc lead to its files
 back=300        # and how many at its end

@@ -21,7 +21,7 @@ interrupt() {
     stop=$((stop + 1))
     [ "$stop" = 1 ] || at_once 130
     clear_line
-    say "Interrupted: this pass ends, then the report. Ctrl-C again: at once."
+    say "Interrupted: ending this pass, then the report. Ctrl-C again ends at once."
     # ddrescue got the terminal's Ctrl-C too; one that did not gets its own
     [ -z "$reader" ] || (sleep 1; kill -INT "$reader") > /dev/null 2>&1 3>&- &
 }
@@ -33,7 +33,7 @@ at_once() {
     [ -z "$watcher" ] || kill "$watcher" 2> /dev/null
     clear_line
     note "ended at once by a signal"
-    printf 'Ended at once. Start the same command again to go on.\n' >&3 2> /dev/null
+    printf 'Ended at once. Start the same command again to continue.\n' >&3 2> /dev/null
     leave "$1"
 }
 
@@ -71,7 +71,7 @@ read_arguments() {
             --needed) asked_mode=needed words_given="$words_given --needed" ;;
             --full) asked_mode=full words_given="$words_given --full" ;;
             --name | --only | --retries | --to | --title)
-                [ $# -gt 1 ] || wrong "$1 wants a value"
+                [ $# -gt 1 ] || wrong "$1 needs a value"
                 read_option "$1" "$2"
                 words_given="$words_given $1 $(quoted "$2")"
                 shift
@@ -84,23 +84,23 @@ read_arguments() {
         esac
         shift
     done
-    [ $# = 2 ] || wrong 'it wants a DEVICE and a FOLDER, after the options'
+    [ $# = 2 ] || wrong 'give a DEVICE and a FOLDER after the options'
     device=$1 folder=$2
-    if [ -z "$device" ] || [ -z "$folder" ]; then wrong 'DEVICE and FOLDER are not to be empty'; fi
+    if [ -z "$device" ] || [ -z "$folder" ]; then wrong 'DEVICE and FOLDER must not be empty'; fi
 }
 
 read_option() {
     case $1 in
         --name) drive=$2 ;;
         --only)
-            case $2 in /*) ;; *) wrong '--only takes a path that begins with /' ;; esac
+            case $2 in /*) ;; *) wrong '--only needs a path that begins with /' ;; esac
             only="$only --only $(quoted "$2")"
             ;;
         --retries) retries=$2 ;;
         --to) to=$2 ;;
         --title) title=$2 ;;
     esac
-    case $drive in *[!A-Za-z0-9._-]* | .*) wrong '--name takes letters, digits, and . _ - behind the first' ;; esac
+    case $drive in *[!A-Za-z0-9._-]* | .*) wrong '--name takes letters, digits, and . _ - and does not begin with a dot' ;; esac
     case $retries in *[!0-9]* | '' | ????*) wrong '--retries takes a number up to 999' ;; esac
 }
 
@@ -115,7 +115,7 @@ check_programs() {
         program=$(cd "$(dirname "$0")" && pwd)/udfsalvage
     fi
     command -v "$program" > /dev/null || fail "udfsalvage is not installed, or not on the PATH"
-    command -v "$ddrescue" > /dev/null || fail 'ddrescue is not installed' 'On Debian and Ubuntu: sudo apt install gddrescue' 'Elsewhere the package is called ddrescue.'
+    command -v "$ddrescue" > /dev/null || fail 'ddrescue is not installed' 'On Debian and Ubuntu: sudo apt install gddrescue' 'On other systems the package is called ddrescue.'
     version=$("$ddrescue" --version 2> /dev/null | sed -n '1s/^GNU ddrescue \([0-9]*\.[0-9]*\).*/\1/p')
     [ -n "$version" ] || fail "$ddrescue is not GNU ddrescue" 'On Debian and Ubuntu: sudo apt install gddrescue (and not the package ddrescue or dd-rescue)'
     awk -v v="$version" 'BEGIN { split(v, n, "."); exit !(n[1] > 1 || n[2] >= 22) }' ||
@@ -124,10 +124,10 @@ check_programs() {
     case $program in */*) program=$(cd "$(dirname "$program")" && pwd)/$(basename "$program") ;; esac
     case $ddrescue in */*) ddrescue=$(cd "$(dirname "$ddrescue")" && pwd)/$(basename "$ddrescue") ;; esac
     "$program" reread --help 2> /dev/null > /dev/null || fail "$program does not run" "Try: $program --version"
-    has reread no-witnesses || fail 'udfsalvage is too old for this script: its reread asks for no known blocks' 'Without them a wrong disc in the drive is not noticed. Install both from one version.'
-    has reread group || fail 'udfsalvage is too old for this script: its reread asks for no whole groups of blocks' 'Install both from one version.'
-    [ -z "$only" ] || has reread only || fail 'this udfsalvage does not know reread --only' 'Leave --only out, or install a later udfsalvage.'
-    [ -z "$title" ] || has page title || tell 'Note: this udfsalvage writes no titles: the title is kept in FOLDER/state alone.'
+    has reread no-witnesses || fail 'udfsalvage is too old for this script: its reread cannot ask for known blocks' 'Without them, a wrong disc in the drive would go unnoticed. Install both from the same version.'
+    has reread group || fail 'udfsalvage is too old for this script: its reread cannot ask for whole groups of blocks' 'Install both from the same version.'
+    [ -z "$only" ] || has reread only || fail 'this udfsalvage does not know reread --only' 'Leave out --only, or install a newer udfsalvage.'
+    [ -z "$title" ] || has page title || tell 'Note: this udfsalvage writes no titles: the title is only kept in FOLDER/state.'
 }
 
 # has COMMAND OPTION: whether the program knows it
@@ -138,12 +138,12 @@ has() {
 
 # Whether the device can be read at all, its size, and which drive it is.
 check_device() {
-    [ -e "$device" ] || [ ! -e "$folder" ] || [ -d "$folder" ] || wrong 'the DEVICE comes first, and then the FOLDER'
-    [ -e "$device" ] || fail "$device is not there" 'Discs are mostly /dev/sr0, a second drive is /dev/sr1. Is the drive plugged in?'
-    [ ! -d "$device" ] || fail "$device is a folder" 'Give the drive itself, such as /dev/sr0, and not the place where the disc is mounted.'
+    [ -e "$device" ] || [ ! -e "$folder" ] || [ -d "$folder" ] || wrong 'the DEVICE comes first, then the FOLDER'
+    [ -e "$device" ] || fail "$device does not exist" 'The first drive is usually /dev/sr0, a second one /dev/sr1. Is the drive plugged in?'
+    [ ! -d "$device" ] || fail "$device is a folder" 'Give the drive itself, such as /dev/sr0, not the folder where the disc is mounted.'
     if [ ! -r "$device" ]; then
         group=$(stat -Lc %G "$device" 2> /dev/null)
-        fail "you may not read $device" "It is for the group ${group:=cdrom}: sudo usermod -aG $group $(id -un), and then log in again."
+        fail "you may not read $device" "The group ${group:=cdrom} may: sudo usermod -aG $group $(id -un), and then log in again."
     fi
     case $device in /*) ;; *) device=$PWD/$device ;; esac
     direct=''
@@ -152,9 +152,9 @@ check_device() {
         wait_for_disc
     fi
     read_size
-    [ "$size" -gt 0 ] || fail "the disc in $device has no size: it is blank, or the drive does not take it"
+    [ "$size" -gt 0 ] || fail "the disc in $device has no size: it is blank, or the drive does not recognize it"
     if [ $((size % 2048)) != 0 ] || [ "$size" -lt 1052672 ] || [ "$size" -gt 8589934592 ]; then
-        fail "$device has $(grouped "$size") bytes: no size of a disc that udfsalvage reads" 'It reads blocks of 2048 bytes, from 514 of them (1 MB) to 4,194,304 (8.6 GB).'
+        fail "$device has $(grouped "$size") bytes: udfsalvage does not read discs of this size" 'It reads discs of 514 blocks of 2048 bytes (1 MB) to 4,194,304 blocks (8.6 GB).'
     fi
     blocks=$((size / 2048))
     at=/sys/class/block/$(basename "$(readlink -f "$device")")/device
@@ -180,8 +180,8 @@ wait_for_disc() {
         sleep 2
     done
     case $why in
-        *medium*) fail "no disc in $device" 'Put the disc in, and start the same command again.' ;;
-        '') fail "the disc in $device has no size: it is blank, or the drive does not take it" ;;
+        *medium*) fail "no disc in $device" 'Insert the disc, and start the same command again.' ;;
+        '') fail "the disc in $device has no size: it is blank, or the drive does not recognize it" ;;
         *) fail "$device is not ready: ${why##*: }" 'Take the disc out and put it in again, and start the same command again.' ;;
     esac
 }
@@ -191,7 +191,7 @@ open_folder() {
     shown=$folder
     case $to in '' | /*) ;; *) to=$PWD/$to ;; esac
     if [ -d "$folder" ] && [ ! -f "$folder/state" ] && [ ! -e "$folder/lock" ] && [ -n "$(ls -A "$folder")" ]; then
-        fail "$folder has other files in it, and is no rescue" 'Give the name of a new folder.'
+        fail "$folder has other files in it, and is not the folder of a rescue" 'Give the name of a new folder.'
     fi
     mkdir -p -- "$folder" 2> /dev/null
     cd -- "$folder" 2> /dev/null || fail "cannot make the folder $folder"
@@ -201,8 +201,8 @@ open_folder() {
     known=0
     [ -n "$(get size)" ] || is_new=1
     if [ -z "${is_new:-}" ] && [ "$(get size)" != "$size" ]; then
-        fail "the disc in $device has $(grouped "$size") bytes, and that of $folder has $(grouped "$(get size)")" 'Is it another disc? Put the right one in, or give another folder.' \
-            "If it is the same disc, and only the drives differ about its end: write the larger number into $folder/state."
+        fail "the disc in $device has $(grouped "$size") bytes, and that of $folder has $(grouped "$(get size)")" 'Is it another disc? Insert the right one, or give another folder.' \
+            "If it is the same disc, and two drives disagree about its end: write the larger number into $folder/state."
     fi
     put size "$size"
     [ -z "$title" ] || put title "$title"
@@ -222,9 +222,9 @@ take_lock() {
         # shellcheck disable=SC2086
         set -- $holder
         if [ $# -ge 3 ] && [ "$3" = "$(cat /proc/sys/kernel/random/boot_id)" ] && [ "$(began "$1")" = "$2" ]; then
-            fail "another rescue works in $folder (process $1)" 'Wait until it has ended, or end it by Ctrl-C where it runs.'
+            fail "another rescue is running in $folder (process $1)" 'Wait until it has ended, or end it with Ctrl-C where it runs.'
         elif [ $# -ge 4 ] && [ "$4" != "$(uname -n)" ]; then
-            fail "a rescue on the machine $4 works in $folder, or was killed there" "If it does not run any more: rm $(quoted "$folder/lock")"
+            fail "a rescue is running in $folder on the machine $4, or was killed there" "If it no longer runs: rm $(quoted "$folder/lock")"
         fi
         mv lock "work/lock.$$" 2> /dev/null || mv lock "lock.$$"
         if [ "$(cat "work/lock.$$" "lock.$$" 2> /dev/null)" != "$holder" ] || ! (set -C; echo "$here" > lock) 2> /dev/null; then
@@ -255,11 +255,11 @@ name_drive() {
 # Whether the folder of --to may be made, which is better known before hours of reading.
 check_target() {
     [ -n "$to" ] || return 0
-    [ ! -e "$to" ] || [ "$(get extracted)" = "$to" ] || fail "$to is there already" '--to wants the name of a new folder.'
+    [ ! -e "$to" ] || [ "$(get extracted)" = "$to" ] || fail "$to already exists" '--to needs the name of a new folder.'
     [ -d "$(dirname "$to")" ] || fail "there is no folder $(dirname "$to") for $to"
     part=$to.unfinished
     if [ -e "$part" ]; then
-        [ "$(get extracting)" = "$part" ] || fail "$part is there already, and is in the way" 'Move it away, or give another --to.'
+        [ "$(get extracting)" = "$part" ] || fail "$part already exists, and is in the way" 'Move it away, or give another --to.'
         rm -rf -- "$part"
     fi
 }
@@ -268,7 +268,7 @@ check_target() {
 check_room() {
     free=$(($(df -Pk . | awk 'NR > 1 { print $4 }') * 1024))
     if [ -f disc.tab ]; then needs=$(($(stat -c %s disc.tab) + 4194304)); elif [ "$mode" = full ]; then needs=$((2 * size)); else needs=$size; fi
-    [ "$free" -ge "$needs" ] || fail "no room in $shown: $(bytes "$free") free, and $(bytes "$needs") needed" 'Make room, or take a folder on a larger disk, and start the same command again.'
+    [ "$free" -ge "$needs" ] || fail "no room in $shown: $(bytes "$free") free, and $(bytes "$needs") needed" 'Make room, or use a folder on a larger disk, and start the same command again.'
 }
 
 # A file system without holes gives each pass as much room as its last block is far; that is better known at the beginning.
@@ -276,6 +276,6 @@ check_holes() {
     dd if=/dev/zero of=work/hole bs=1 count=1 seek=4194303 2> /dev/null
     taken=$(du -k work/hole | cut -f 1)
     rm -f work/hole
-    [ "${taken:-0}" -lt 4000 ] || tell 'Note: this file system keeps no holes (exFAT, FAT): each pass may take as much room as the whole disc.'
+    [ "${taken:-0}" -lt 4000 ] || tell 'Note: this file system has no sparse files (as FAT and exFAT): each pass may take as much room as the whole disc.'
 }
 

@@ -44,9 +44,9 @@ watch() {
         [ ! -t 3 ] || printf '\r       %s blocks read, %s not, of %s   %s\033[K' "$(grouped "$good")" "$(grouped "$bad")" "$(grouped "$(runs_of + "work/$1.map" | blocks_in -)")" "$(lasted $((now - start)))" >&3
         if [ "$1" != first ] || [ "$mode" != full ] || [ "$given" = full ] || [ $((now - mark)) -lt "$patience" ]; then continue; fi
         if [ $((bad * 20)) -gt $((good + bad)) ]; then
-            echo "$(grouped "$bad") of the first $(grouped $((good + bad))) blocks did not come" > work/poor
+            echo "$(grouped "$bad") of the first $(grouped $((good + bad))) blocks could not be read" > work/poor
         elif [ $(((good - before) * 2048)) -lt $(((now - mark) * 1000000)) ]; then
-            echo "less than 1 MB a second comes" > work/poor
+            echo "less than 1 MB a second was read" > work/poor
         fi
         if [ -s work/poor ]; then kill -INT "$2" 2> /dev/null; return; fi
         mark=$now before=$good
@@ -64,8 +64,8 @@ end_pass() {
     without work/lacking work/untouched > work/missed
     if [ "$ended" != 0 ] && [ "$ended" -lt 128 ]; then
         free=$(df -Pk . | awk 'NR > 1 { print $4 }')
-        [ "$free" -ge 1024 ] || fail "no room in $shown: ddrescue could not go on" "Make room, and start the same command again: it goes on from the pass $pass."
-        [ -n "$(runs_of '+-*/' "passes/$pass.map")" ] || fail "ddrescue ended with status $ended: $(tail -n 1 work/ddrescue)" 'Start the same command again when that is mended.'
+        [ "$free" -ge 1024 ] || fail "no room in $shown: ddrescue could not continue" "Make room, and start the same command again: it continues from the pass $pass."
+        [ -n "$(runs_of '+-*/' "passes/$pass.map")" ] || fail "ddrescue ended with status $ended: $(tail -n 1 work/ddrescue)" 'Start the same command again when that is solved.'
     fi
     [ "$stop" != 0 ] || drive_is_there || gone=1
     [ -z "$gone" ] || put "pass $pass" gone
@@ -74,7 +74,7 @@ end_pass() {
     survey
     [ -z "$gone" ] || lost_drive
     if [ "$ended" != 0 ] && [ "$ended" -lt 128 ] && [ "$stop" = 0 ]; then
-        fail "ddrescue ended with status $ended: $(tail -n 1 work/ddrescue)" "What it had read is merged. Start the same command again to go on."
+        fail "ddrescue ended with status $ended: $(tail -n 1 work/ddrescue)" "What it had read is merged. Start the same command again to continue."
     fi
     [ "$ended" -lt 128 ] || [ "$stop" != 0 ] || [ -s work/poor ] || stop=1
 }
@@ -105,10 +105,10 @@ drive_is_there() {
 
 lost_drive() {
     if [ ! -s "drives/$drive.read" ]; then
-        fail "$device reads nothing of this disc" 'Clean the disc, take it out and put it in again, or take another drive.' "Then start the same command again, with the other DEVICE if there is one."
+        fail "$device reads nothing of this disc" 'Clean the disc, take it out and put it in again, or use another drive.' "Then start the same command again, with the other DEVICE if there is one."
     fi
-    fail "$device does not read any more what it has read before" 'Was the disc taken out, or the drive unplugged? Or it is stuck: take the disc out, and switch the drive off and on.' \
-        'What it did not read in this pass is not counted as unreadable. Start the same command again to go on.'
+    fail "$device no longer reads what it has read before" 'Was the disc taken out, or the drive unplugged? If the drive hangs, take the disc out, and switch the drive off and on.' \
+        'What it did not read in this pass is not counted as unreadable. Start the same command again to continue.'
 }
 
 # settle PASS: a pass that has ended: its SHA-256, then into the table, then what it says of the drive. It can be done again at any moment.
@@ -121,7 +121,7 @@ settle() {
     if [ ! -s "passes/$1.sha256" ]; then
         touch "passes/$1.img"
         # shellcheck disable=SC2016
-        attend sh -c 'cd passes && exec sha256sum "$1.img" "$1.map"' sh "$1" > "passes/$1.sums" 2> work/error || fail "no sum of the pass $1: $(cat work/error)"
+        attend sh -c 'cd passes && exec sha256sum "$1.img" "$1.map"' sh "$1" > "passes/$1.sums" 2> work/error || fail "cannot compute the SHA-256 of the pass $1: $(cat work/error)"
         mv "passes/$1.sums" "passes/$1.sha256" || no_room "$1"
     fi
     runs_of + "passes/$1.map" > work/came
@@ -152,7 +152,7 @@ merge() {
         *cannot\ write\ output*) no_room "$1" ;;
         *mapfile\ line* | *image\ ends*)
             put_aside "$1"
-            say "The pass $1 is damaged, and goes aside: $(head -n 1 work/error)"
+            say "The pass $1 is damaged, and was moved to aside: $(head -n 1 work/error)"
             return 1
             ;;
     esac
@@ -168,14 +168,14 @@ put_aside() {
 set_aside() {
     put_aside "$1"
     differ=$(sed -n 's/.*disagrees in \([0-9,]*\) of \([0-9,]*\) blocks.*/\1 of \2/p' work/error | head -n 1)
-    fail "the disc in $device is another one than that of $shown" \
-        "$differ blocks that were read before have other bytes now." \
-        "Nothing of this pass is taken: it is kept in $shown/aside." \
-        "Put the right disc in, and start the same command again."
+    fail "the disc in $device is not the disc of $shown" \
+        "$differ blocks that were read before now have other bytes." \
+        "Nothing of this pass is used: it is kept in $shown/aside." \
+        "Insert the right disc, and start the same command again."
 }
 
 no_room() {
     fail "no room in $shown: $(bytes $(($(df -Pk . | awk 'NR > 1 { print $4 }') * 1024))) free" \
-        "The pass $1 is kept, and the table is as it was. It needs room for a second table beside the old one." 'Make room, and start the same command again.'
+        "The pass $1 is kept, and the table is as it was. There must be room for a second table next to the old one." 'Make room, and start the same command again.'
 }
 

@@ -27,8 +27,8 @@ survey() {
 failed_command() {
     case $(cat work/error) in
         *is\ no\ node*) fail "the disc has no such path: $(head -n 1 work/error)" 'A path begins with /, and upper and lower case differ. The files are in files.tsv once the disc opens.' ;;
-        *out\ of\ memory*) fail "udfsalvage $1 is out of memory" 'All blocks that are known are held in memory: close other programs, or move the folder to a larger machine.' ;;
-        *PastEnd*) fail "the table has a block behind the end of the disc: $(head -n 1 work/error)" 'Was the size in state changed, or a pass of another disc merged by hand?' ;;
+        *out\ of\ memory*) fail "udfsalvage $1 is out of memory" 'It can take as much memory as the disc is large: close other programs, or move the folder to a machine with more.' ;;
+        *PastEnd*) fail "the table has a block after the end of the disc: $(head -n 1 work/error)" 'Was the size in state changed, or a pass of another disc merged by hand?' ;;
     esac
     fail "udfsalvage $1 failed: $(head -n 1 work/error)"
 }
@@ -50,7 +50,7 @@ try_wide() {
         put profile wide
         revision=$(sed -n 's/^volume ok revision \([0-9.]*\).*/UDF \1/p' work/report)
         case $why in UDF*) why=${revision:-$why} ;; esac
-        say "$why: taking the wide rules"
+        say "$why: using the wide rules"
     else
         profile=''
         mv work/strict work/report
@@ -110,7 +110,7 @@ first_pass() {
         [ -s work/poor ] || return 0
         mode=needed
         put mode needed
-        say "This disc reads badly: $(cat work/poor). From here on only what its files need."
+        say "This disc reads badly: $(cat work/poor). From now on, only what its files need is read."
     done
 }
 
@@ -123,7 +123,7 @@ take() {
     without work/ask work/came > work/lacking
     asked=$(blocks_in work/ask) came=$(($(blocks_in work/ask) - $(blocks_in work/lacking)))
     seconds=$(($(date +%s) - start))
-    line=$(printf '%-11s %s asked, %s came' "$3" "$(plural "$asked" block blocks)" "$(grouped "$came")")
+    line=$(printf '%-11s %s asked for, %s read' "$3" "$(plural "$asked" block blocks)" "$(grouped "$came")")
     [ "$files" -le "$old_files" ] || line="$line   +$(plural $((files - old_files)) file files)"
     [ "$seconds" -lt 60 ] || line="$line   $(lasted "$seconds")"
     say "$line"
@@ -160,7 +160,7 @@ rounds() {
             return 0
         fi
         after=$known:$(blocks_in "drives/$drive.failed"):$(blocks_in "drives/$drive.hard"):$(blocks_in "drives/$drive.retried")
-        [ "$after" != "$before" ] || [ "$stop" != 0 ] || fail "ddrescue did not try what it was asked for" "$(tail -n 1 work/ddrescue)"
+        [ "$after" != "$before" ] || [ "$stop" != 0 ] || fail "ddrescue did not try the blocks that it was asked for" "$(tail -n 1 work/ddrescue)"
     done
 }
 

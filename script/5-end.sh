@@ -10,7 +10,7 @@ closed() {
     done
     if [ -n "$has_iso" ]; then
         tell 'This is an ISO 9660 disc without UDF, which udfsalvage does not read.'
-        tell "  Other programs do. An image for them:"
+        tell "  Other programs do. To write an image for them:"
         tell "    $(command_line image "--out $(quoted "$folder/disc.img") --mapfile $(quoted "$folder/disc.map")")"
         return
     fi
@@ -18,14 +18,14 @@ closed() {
         holes\ *\ *) tell "The disc does not open yet. It needs one of these blocks:${volume#holes}." ;;
         holes*) tell "The disc does not open yet. It needs block${volume#holes}." ;;
         *NoAnchor*) tell 'There is no UDF on this disc: it is blank, or of another kind, such as audio or video.' ;;
-        *Domain*) tell 'UDF 2.50 or later, as on Blu-ray discs, is not read.' ;;
+        *Domain*) tell 'udfsalvage does not read UDF 2.50 or later, as on Blu-ray discs.' ;;
         *MapKind*)
             tell 'This is a write-once disc with a virtual partition (VAT), or a disc with a'
-            tell 'metadata partition: these are not read.'
+            tell 'metadata partition: udfsalvage does not read these.'
             ;;
         *)
             tell "The disc does not open: $(printf '%s' "$volume" | sed 's/fault \([0-9]*\) \(.*\)/fault \1, \2/')."
-            tell 'man udfsalvage-errors says what this fault means.'
+            tell 'man udfsalvage-errors explains this fault.'
             ;;
     esac
 }
@@ -53,7 +53,7 @@ count_files() {
             if (torn) print torn " damaged: " human(lost) " of " (torn == 1 ? "it is" : "them are") " missing."
             if (unread) print unread " unread: files or whole folders of which only the name is known."
             if (folders) print "Names are missing in " folders (folders == 1 ? " folder" : " folders") ": there may be more files."
-            if (odd) print odd " not understood: read, but not as a file should be."
+            if (odd) print odd " not understood: read, but faulty."
         }' files.tsv
     # the worst: most of it missing
     awk -F '\t' 'NR > 1 && $1 == "torn" && $2 == "file" && $4 > 0 { printf "%.1f\t%s\n", 100 * $3 / $4, $6 }' files.tsv |
@@ -71,7 +71,7 @@ units() {
 conflicts() {
     [ -s work/disputed ] || return 0
     tell "$(plural "$(blocks_in work/disputed)" 'block that a file needs was' 'blocks that files need were') read with different bytes."
-    tell '  Nobody can know which are right. What they damage:'
+    tell '  Nothing shows which bytes are right. These files are damaged by them:'
     awk 'NR == FNR { for (i = $1; i < $2; i++) disputed[i] = 1; next }
         /^node / { node = $2 }
         /^unnamed / { node = -1 }
@@ -114,7 +114,7 @@ write_report() {
 write_files() {
     [ -n "$to" ] || return 0
     if [ -e "$to" ]; then
-        tell "$(quoted "$to") was written before. For what came since, give another --to."
+        tell "$(quoted "$to") was already written. To write what was read since, give another --to."
         return
     fi
     put extracting "$to.unfinished"
@@ -122,7 +122,7 @@ write_files() {
     extracted=$?
     # (reread has judged the paths: one that is no node's may be hidden by a folder that is not whole)
     if [ "$extracted" = 2 ] && grep -q 'is no node$' work/error; then
-        tell "Nothing is written to $(quoted "$to"), since a path is not found yet: $(sed 's/^udfsalvage: //; q' work/error)"
+        tell "Nothing was written to $(quoted "$to"), because a path was not found yet: $(sed 's/^udfsalvage: //; q' work/error)"
         return
     fi
     [ "$extracted" -le 1 ] || failed_command extract
@@ -138,7 +138,7 @@ write_files() {
 # What is whole, damaged and unread, and how to go on.
 finish() {
     if [ ! -f disc.tab ]; then
-        tell "Nothing was read of this disc."
+        tell "Nothing of this disc was read."
         [ "$stop" = 0 ] || leave 130
         leave 1
     fi
@@ -160,17 +160,17 @@ finish() {
 # The lines to go on with.
 ways() {
     if [ "$stop" != 0 ]; then
-        tell "  Go on:"
+        tell "  To continue:"
         tell "    $(again "$words_given" "$device")"
     elif [ -s work/needed ]; then
-        tell "  Clean the disc and start again, or take another drive than $(sed -n 's/^drive \([^ ]*\) is .*/\1/p' state | sort -u | paste -s -d , | sed 's/,/, /g'):"
+        tell "  Clean the disc and start again, or use another drive than $(sed -n 's/^drive \([^ ]*\) is .*/\1/p' state | sort -u | paste -s -d , | sed 's/,/, /g'):"
         tell "    $(again "$only" "$(other_drive)")"
     fi
     if [ "$files" != 0 ] && [ -z "$to" ]; then
-        tell "  Take what is whole:"
+        tell "  To write the whole files:"
         tell "    $(command_line extract "--to $(quoted "$folder/files")")"
     fi
-    tell "  Look:"
+    tell "  To look at the report:"
     tell "    $folder/report.html"
 }
 
@@ -180,7 +180,7 @@ ways() {
 take_up() {
     left=$(cat work/reader 2> /dev/null)
     if [ -n "$left" ] && [ "$(readlink "/proc/$left/cwd" 2> /dev/null)" = "$(pwd -P)" ] && tr '\0' '\n' < "/proc/$left/cmdline" | grep -q '^passes/'; then
-        say "A ddrescue of an earlier run still reads (process $left): ending it"
+        say "A ddrescue of an earlier run is still reading (process $left): ending it"
         kill -INT "$left" 2> /dev/null
         # (one that has ended and is not waited for by its parent has no folder any more)
         while [ "$(readlink "/proc/$left/cwd" 2> /dev/null)" = "$(pwd -P)" ]; do sleep 1; done
@@ -212,7 +212,7 @@ main() {
         say "A new rescue in $shown: $(bytes "$size") in $device${model:+ ($model)}"
         check_holes
     else
-        say "Going on in $shown: $(bytes "$size") in $device${model:+ ($model)}"
+        say "Continuing in $shown: $(bytes "$size") in $device${model:+ ($model)}"
         check_room
     fi
     take_up

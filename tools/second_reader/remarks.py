@@ -1,10 +1,10 @@
-"""What a person is told of copies that differ and of tags of another place, which a report says nothing of."""
+"""What a person is told of copies that differ and of tags that name another place, which a report says nothing of."""
 from descriptors import tag_of
 from volume import Holes, VolumeFault
 
 ANCHORS = "anchors differ: block %d opens another state of the disc than block %d"
 DESCRIPTORS = "copies of the volume's descriptors differ"
-FOLDERS = "{:,} folder{} tags of another place"
+FOLDERS = "{:,} folder{} tags that name another place"
 
 
 def of_folders(count):

@@ -1,4 +1,4 @@
-//! The program over files in memory. What is expected comes from the formats' description, byte by byte.
+//! The program over the machine's files, whose system calls are on files in memory. What is expected comes from the formats' description, byte by byte.
 
 mod closing;
 mod copies;
@@ -51,22 +51,22 @@ use std::process::Abort;
 use std::test::Fail;
 use test_runs::{Program, Taker, faults};
 use udfs_commands::run;
-use udfs_memory::Memory;
+use udfs_files::Files;
 use udfs_reading::Writer;
 
 /// The program's commands.
 pub struct Commands;
 
 impl Program for Commands {
-    fn run(
+    fn run<F: Files>(
         &self,
         alloc: Global,
         words: &[String],
-        memory: &mut Memory,
+        files: &mut F,
         out: &mut Writer<Taker>,
         err: &mut Writer<Taker>,
     ) -> u8 {
-        run(alloc, words, memory, out, err)
+        run(alloc, words, files, out, err)
     }
 }
 

@@ -76,9 +76,9 @@ fn give_zone(trial: &mut Trial, rest: &str) -> Result<bool, AllocError> {
 /// The paths of scripts of which no time can be set.
 fn give_timeless(trial: &mut Trial, rest: &str) -> Result<bool, AllocError> {
     match rest {
-        "out" => trial.memory.timeless = "out",
-        "out/A" => trial.memory.timeless = "out/A",
-        "lost/3" => trial.memory.timeless = "lost/3",
+        "out" => trial.memory.setting.timeless = "out",
+        "out/A" => trial.memory.setting.timeless = "out/A",
+        "lost/3" => trial.memory.setting.timeless = "lost/3",
         _ => return Err(AllocError),
     }
     Ok(true)
@@ -89,8 +89,8 @@ fn give_calls(trial: &mut Trial, rest: &str) -> Result<(), AllocError> {
     let (from, to) = first_word(rest);
     let from = trial.text(from)?;
     let to = trial.text(to)?;
-    trial.memory.fails_from = number_of(from.as_str())? as u64;
-    trial.memory.fails_to = match to.as_str() {
+    trial.memory.setting.fails_from = number_of(from.as_str())? as u64;
+    trial.memory.setting.fails_to = match to.as_str() {
         "on" => u64::MAX,
         digits => number_of(digits)? as u64,
     };
@@ -116,11 +116,11 @@ fn give_limit(trial: &mut Trial, word: &str, rest: &str) -> Result<bool, AllocEr
     let digits = trial.text(rest)?;
     let number = digits.parse::<usize>().unwrap_or(usize::MAX);
     match word {
-        "inputs-fail" => trial.memory.inputs.good = number,
-        "inputs-move" => trial.memory.inputs.most = number,
-        "outputs-fail" => trial.memory.outputs.good = number,
-        "outputs-move" => trial.memory.outputs.most = number,
-        "outputs-take-none" => trial.memory.outputs.takes_none = number % 2 == 1,
+        "inputs-fail" => trial.memory.setting.inputs.good = number,
+        "inputs-move" => trial.memory.setting.inputs.most = number,
+        "outputs-fail" => trial.memory.setting.outputs.good = number,
+        "outputs-move" => trial.memory.setting.outputs.most = number,
+        "outputs-take-none" => trial.memory.setting.outputs.takes_none = number % 2 == 1,
         "terminal-fails" => trial.memory.terminal.good = number,
         _ => trial.memory.terminal.takes_none = number % 2 == 1,
     }

@@ -1,25 +1,32 @@
-//! A run of the program over files in memory, and files to run it on.
+//! A run of the program over the machine's files, whose system calls are on files in memory, and files to run it on.
+
+ghost use Rattle.udfs_calls.specs.Log.{IsFresh};
 
 use std::alloc::{AllocError, Global};
 use std::cell::RefCell;
 use std::io;
 use std::io::Write;
 use std::rc::Rc;
+use udfs_calls::Calls;
+use udfs_files::{Files, Machine};
 use udfs_lattice::BlockTable;
-use udfs_memory::{Device, Memory, SOUND};
+use udfs_memory::{Device, Memory, MemoryCalls, SOUND};
 use udfs_reading::{Writer, write_table};
+
+/// How many bytes a path has at most, with the zero byte at its end.
+const PATH_ROOM: usize = 4_096;
 
 /// What was printed, which the test and the run share.
 pub type Shared = Rc<RefCell<Vec<u8>>>;
 
 /// What is run: the program, with its name and its arguments.
 pub trait Program {
-    /// Runs it over files in memory, and returns its status.
-    fn run(
+    /// Runs it over these files, and returns its status.
+    fn run<F: Files>(
         &self,
         alloc: Global,
         words: &[String],
-        memory: &mut Memory,
+        files: &mut F,
         out: &mut Writer<Taker>,
         err: &mut Writer<Taker>,
     ) -> u8;
@@ -98,19 +105,47 @@ pub fn ran<P: Program>(
     }
     let out = Rc::new(alloc, RefCell::new(Vec::with_capacity(alloc, 4096)?))?;
     let err = Rc::new(alloc, RefCell::new(Vec::with_capacity(alloc, 4096)?))?;
-    let terminal = memory.terminal;
-    let status = program.run(
-        alloc,
-        list.as_slice(),
-        memory,
-        &mut sink(&out, terminal)?,
-        &mut sink(&err, SOUND)?,
-    );
+    memory.begin()?;
+    let status = run_on(alloc, program, memory, list.as_slice(), &out, &err)?;
+    memory.settle()?;
     Ok(Outcome {
         status,
         out: text_of(alloc, &out)?,
         err: text_of(alloc, &err)?,
     })
+}
+
+/// Runs the program with these words on a disk, of which the run's calls are noted.
+fn run_on<P: Program>(
+    alloc: Global,
+    program: &P,
+    memory: &Memory,
+    words: &[String],
+    out: &Shared,
+    err: &Shared,
+) -> Result<u8, AllocError> {
+    let calls = MemoryCalls::new(alloc, memory.stored(), memory.setting, memory.notes());
+    let mut out = sink(out, memory.terminal)?;
+    let mut err = sink(err, SOUND)?;
+    run_over(program, memory, calls, words, &mut out, &mut err)
+}
+
+/// Runs the program with these words over the machine's files, which these calls reach.
+fn run_over<P: Program, C: Calls + Drop>(
+    program: &P,
+    memory: &Memory,
+    calls: C,
+    words: &[String],
+    out: &mut Writer<Taker>,
+    err: &mut Writer<Taker>,
+) -> Result<u8, AllocError>
+    requires { IsFresh (C.log calls) }
+{
+    let clockwork = memory.clockwork();
+    let alloc = clockwork.1;
+    let room = String::with_capacity(alloc, PATH_ROOM)?;
+    let mut files = Machine::new(calls, &clockwork, memory.witness(), room);
+    Ok(program.run(alloc, words, &mut files, out, err))
 }
 
 fn sink(bytes: &Shared, device: Device) -> Result<Writer<Taker>, AllocError> {

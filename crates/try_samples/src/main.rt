@@ -2,14 +2,18 @@
 //! Runs over the sample discs, for `tools/refuse-memory`, which fails one of a run's allocations, and for
 //! `tools/mutate`: `try_samples RUN DISC [UNREAD]`, where UNREAD is a block that no pass has read.
 //!
+//! `try_samples calls PLACE SCRIPT` makes system calls for `tools/try-same-calls`, where PLACE is `host` or `memory`.
+//!
 //! Standard output has what the run prints, and the status says how it ended (`Ending`).
 #![tactic(auto)]
 
+mod calls;
 mod discs;
 mod mutations;
 mod runs;
 mod tables;
 
+use calls::make_calls;
 use discs::table_file;
 use mutations::mutate;
 use runs::{extract_a, json, read_inputs, report, run_report};
@@ -33,10 +37,17 @@ pub enum Ending {
 }
 
 /// The run with this name.
-fn run<W: Sink>(alloc: Global, words: &[String], out: &mut W) -> Ending {
+fn run<W: Sink>(rt: &HostRuntime, alloc: Global, words: &[String], out: &mut W) -> Ending {
     let (Some(name), Some(disc)) = (words.get(1), words.get(2)) else {
         return Ending::Wrong;
     };
+    if name.as_str() == "calls" {
+        let script = match words.get(3) {
+            Some(script) => script.as_str(),
+            None => "",
+        };
+        return make_calls(rt, alloc, disc, script, out);
+    }
     let unread: u32 = match words.get(3) {
         Some(word) => word.parse().unwrap_or(u32::MAX),
         None => u32::MAX,
@@ -63,7 +74,7 @@ fn main(rt: HostRuntime) -> ExitCode {
     let alloc = rt.alloc();
     let mut out = Writer::new(rt.stdout());
     let ending = match words_of(&rt, alloc) {
-        Ok(words) => run(alloc, words.as_slice(), &mut out),
+        Ok(words) => run(&rt, alloc, words.as_slice(), &mut out),
         Err(_) => Ending::Unready,
     };
     ExitCode::from(ending as u8)

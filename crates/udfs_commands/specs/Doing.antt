@@ -22,7 +22,7 @@ use Rattle.udfs_reports.specs.Paging.{IsPage, IsPageFree}
 use Rattle.udfs_reports.specs.Reporting.{form_text}
 use Rattle.udfs_reports.specs.Summarizing.{PrintsSummary}
 use Rattle.udfs_reports.specs.Rereading.{IsMap, IsMapFree, IsSomeMap, PrintsNumbers}
-use Rattle.udfs_reports.specs.Telling.{PrintsText}
+use Rattle.udfs_reports.specs.Telling.{IsThe, PrintsText}
 use Rattle.udfs_extraction.specs.ByRequest.{IsExtracted}
 use Rattle.udfs_extraction.specs.Sparing.{LeavesExtract}
 
@@ -41,7 +41,7 @@ module _ {F I M S W : Type 0} (reach : Reach F I M S W) (old : F) where
   Does stream (request.Merge r) new before after whole = (whole ≡ true) × IsPut reach (IsMerged reach old r) r.out.now old new × IsOutFree reach old r.inputs r.force r.out.now
   Does stream (request.Forget r) new before after whole = (whole ≡ true) × IsPut reach (IsForgotten reach old r) r.out.now old new × IsOutFree reach old r.inputs r.force r.out.now
   Does stream (request.Image r) new before after whole = (whole ≡ true) × IsPairPut reach (IsImaged reach old r) r.image.now r.mapfile.now old new × IsPairFree reach old r
-  Does stream (request.Report r) new before after whole = PrintsText reach old (form_text r.form) r.volume (stream before) (stream after) whole
+  Does stream (request.Report r) new before after whole = PrintsText reach old (IsThe (form_text r.form)) r.volume (stream before) (stream after) whole
   Does stream (request.Reread r) new before after whole = MatchOption r.mapfile (PrintsNumbers reach old r (stream before) (stream after) whole)
       (λ path. IsPut reach (IsMap reach old r (stream before) (stream after) whole) path.now old new × IsMapFree reach old r path.now)
   Does stream (request.List r) new before after whole = PrintsList reach old (form_of r) r (stream before) (stream after) whole

@@ -34,7 +34,7 @@ impl fmt::Display for Foreign {
                 "has sectors of 2352 bytes: cut them to 2048 first, as READING.md shows under Passes of other tools"
             }
             Foreign::Iso9660 => {
-                "is an image of ISO 9660 without UDF, which is not read: mount it, or unpack it with bsdtar"
+                "is an ISO 9660 image without UDF, which udfsalvage does not read: mount it, or unpack it with bsdtar"
             }
         })
     }

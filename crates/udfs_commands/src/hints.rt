@@ -50,17 +50,15 @@ fn of_file<F: Files>(
             }
             let map = MapBeside(path);
             format!(in alloc;
-                "{file} is no reading and no table; an image wants its map: --ddrescue {file} {map}"
+                "{file} is neither a reading nor a table; an image needs its mapfile: --ddrescue {file} {map}"
             )
         }
         ReadingFault::Truncated => of_cut(alloc, path, error.number, files),
-        ReadingFault::Trailing => { format!(in alloc; "{file} goes on after its last record") }
-        ReadingFault::Io => format!(in alloc; "{file}: {}", Said(files.reason())),
-        _ => {
-            format!(in alloc;
-                "{file} is damaged, or was not written as it should be: use another copy of it"
-            )
+        ReadingFault::Trailing => {
+            format!(in alloc; "{file} has more data after its last record")
         }
+        ReadingFault::Io => format!(in alloc; "{file}: {}", Said(files.reason())),
+        _ => { format!(in alloc; "{file} is damaged or malformed: use another copy of it") }
     }
 }
 
@@ -84,7 +82,7 @@ fn of_input<F: Files>(
             }
             _ => {
                 format!(in alloc;
-                    "{} is the map of something larger than such a disc",
+                    "{} is the mapfile of something larger than such a disc",
                     Shown(map)
                 )
             }
@@ -110,10 +108,10 @@ fn of_unopened<F: Files>(
     let reason = files.reason();
     let more = match reason {
         Some(error) if error.raw_os_error() == Some(TOO_MANY_OPEN) => {
-            ": ulimit -n is how many may be open at once; merge in groups, and then their tables"
+            ": ulimit -n limits how many can be open at once; merge in groups, and then merge the tables"
         }
         Some(error) if error.raw_os_error() == Some(NO_POSITIONS) => {
-            ": the image has to be a file or a device, and no pipe"
+            ": the image must be a file or a device, not a pipe"
         }
         _ => "",
     };
@@ -121,7 +119,7 @@ fn of_unopened<F: Files>(
     match input {
         InputPath::File("-") => {
             format!(in alloc;
-                "-: {said}: this command takes it as a path; standard input is /dev/stdin"
+                "-: {said}: for this command, - is a file name; standard input is /dev/stdin"
             )
         }
         InputPath::File(path) => format!(in alloc; "{}: {said}{more}", Shown(path)),
@@ -143,14 +141,14 @@ fn of_map(alloc: Global, input: InputPath<'_>, fault: MapFault) -> Result<String
         InputPath::File(path) => format!(in alloc; "{}", Shown(path)),
         InputPath::Pair(image, map) if fault == MapFault::NotPass => {
             format!(in alloc;
-                "{} lists blocks that are to be read: take the mapfile that ddrescue wrote of {}",
+                "{} lists blocks to read: use the mapfile that ddrescue wrote for {}",
                 Shown(map),
                 Shown(image)
             )
         }
         InputPath::Pair(image, map) => {
             format!(in alloc;
-                "{} is no mapfile of GNU ddrescue; the image comes first: --ddrescue IMAGE MAPFILE, here {} and {}",
+                "{} is not a mapfile of GNU ddrescue; the image comes first: --ddrescue IMAGE MAPFILE, here {} and {}",
                 Shown(map),
                 Shown(image),
                 Shown(map)
@@ -173,7 +171,7 @@ fn of_short_image<F: Files>(
                 return format!(in alloc; "{} {foreign}", Shown(image));
             }
             format!(in alloc;
-                "{} says that block {block} was read, and {} ends before it: are they of one pass?",
+                "{} says that block {block} was read, but {} ends before it: are they from the same pass?",
                 Shown(map),
                 Shown(image)
             )
@@ -186,7 +184,7 @@ fn of_reread(alloc: Global, input: InputPath<'_>) -> Result<String, AllocError> 
     match input {
         InputPath::File(path) | InputPath::Pair(path, _) => {
             format!(in alloc;
-                "{} could not be read a second time, or was changed meanwhile",
+                "{} could not be read a second time, or has changed in the meantime",
                 Shown(path)
             )
         }
@@ -198,7 +196,7 @@ fn of_other_disc(alloc: Global, input: InputPath<'_>) -> Result<String, AllocErr
     match input {
         InputPath::File(path) | InputPath::Pair(path, _) => {
             format!(in alloc;
-                "{} is of another disc than the inputs before it; if it is not, --force joins it, and the blocks that differ are in conflict then",
+                "{} seems to be of another disc than the inputs before it; if it is not, add --force: blocks that differ will be in conflict",
                 Shown(path)
             )
         }
@@ -274,13 +272,13 @@ fn of_output(
 ) -> Result<Option<String>, AllocError> {
     let Some(out) = asked_output(request) else {
         return Ok(Some(format!(in alloc;
-            "standard output does not take all of the text: its device is full, or what reads it has ended"
+            "standard output did not accept all of the text: its device is full, or the program that reads it has ended"
         )?));
     };
     let mut line = format!(in alloc; "{}: {}", Shown(out), Said(reason))?;
     if is_there(reason) {
         let more = format!(in alloc;
-            "; new files that ended runs left can be removed: {}.unfinished, and the same with ~ added",
+            "; files that interrupted runs left can be removed: {}.unfinished, and the same with ~ added",
             Shown(out)
         )?;
         line.push_str(more.as_str())?;
@@ -304,7 +302,7 @@ fn of_folder(
 ) -> Result<Option<String>, AllocError> {
     let folder = Shown(request.folder);
     let line = if is_there(reason) {
-        format!(in alloc; "{folder} exists already; extract wants a new folder")?
+        format!(in alloc; "{folder} already exists; extract needs a new folder")?
     } else {
         format!(in alloc; "{folder}: {}", Said(reason))?
     };
@@ -317,17 +315,17 @@ fn of_lost_place(
     request: &ExtractRequest<'_>,
 ) -> Result<Option<String>, AllocError> {
     let text =
-        "exists already, or is where another output goes, or the folder that it is in does not exist";
+        "already exists, or is where another output goes, or is in a folder that does not exist";
     let line = match (request.lost, request.trees) {
         (Some(lost), None) => {
-            format!(in alloc; "{} {text}; --unnamed wants a new folder", Shown(lost))?
+            format!(in alloc; "{} {text}; --unnamed needs a new folder", Shown(lost))?
         }
         (None, Some(trees)) => {
-            format!(in alloc; "{} {text}; --lost wants a new folder", Shown(trees))?
+            format!(in alloc; "{} {text}; --lost needs a new folder", Shown(trees))?
         }
         (Some(lost), Some(trees)) => {
             format!(in alloc;
-                "{} or {} {text}; --unnamed and --lost want new folders",
+                "{} or {} {text}; --unnamed and --lost need new folders",
                 Shown(lost),
                 Shown(trees)
             )?
@@ -347,13 +345,13 @@ fn of_lost_folder(
     let line = match (request.lost, request.trees) {
         (Some(folder), None) | (None, Some(folder)) => {
             format!(in alloc;
-                "{}: {reason}; the files that have a name are written",
+                "{}: {reason}; the files that have names were written",
                 Shown(folder)
             )?
         }
         (Some(lost), Some(trees)) => {
             format!(in alloc;
-                "{} or {}: {reason}; the files that have a name are written",
+                "{} or {}: {reason}; the files that have names were written",
                 Shown(lost),
                 Shown(trees)
             )?
@@ -367,7 +365,7 @@ fn of_lost_folder(
 fn of_no_node(alloc: Global, only: &[&str], number: usize) -> Result<Option<String>, AllocError> {
     match only.get(number.saturating_sub(1)) {
         Some(path) if !path.starts_with('/') => Ok(Some(format!(in alloc;
-            "{} does not begin with /: the paths are those that list --paths prints",
+            "{} does not begin with /: use a path that list --paths prints",
             Shown(path)
         )?)),
         Some(path) => Ok(Some(format!(in alloc;
@@ -394,7 +392,7 @@ fn of_list<F: Files>(
             return format!(in alloc; "{}: {}", Shown(list), Said(reason));
         }
     }
-    format!(in alloc; "a list of --blocks: {}", Said(reason))
+    format!(in alloc; "a list for --blocks: {}", Said(reason))
 }
 
 /// What is said of an error of `extract` alone; `None` of any other.
@@ -449,12 +447,12 @@ fn of_no_size<F: Files>(
     };
     let line = match (files.resolve(alloc, map, Aim::Reading)?, reason) {
         (Ok(target), _) if target.kind == Kind::Absent => {
-            format!(in alloc; "{} is not there", Shown(map))?
+            format!(in alloc; "{} does not exist", Shown(map))?
         }
         (_, Some(error)) => format!(in alloc; "{}: {error}", Shown(map))?,
         (_, None) => {
             format!(in alloc;
-                "{} is no mapfile of GNU ddrescue, or has no run",
+                "{} is not a mapfile of GNU ddrescue, or has no runs",
                 Shown(map)
             )?
         }
@@ -480,17 +478,17 @@ fn of_other<F: Files>(
         }
         (Refusal::ListLine(_), _) => {
             format!(in alloc;
-                "a list of --blocks has one decimal number a line, from 0 to 4194303"
+                "a list for --blocks has one decimal number per line, from 0 to 4194303"
             )?
         }
         (Refusal::LastRange, _) => {
             format!(in alloc;
-                "the last block is from 513 to 4194303: give the disc's size by --size, in bytes, or in blocks with s after it"
+                "the last block must be from 513 to 4194303: give the disc's size with --size, in bytes, or in blocks with s after the number"
             )?
         }
         (Refusal::Memory(_), _) => {
             format!(in alloc;
-                "each known block is held in memory, 2048 bytes of it: free some, or take a larger machine"
+                "free some memory, or use a machine with more: known blocks can take 2048 bytes each"
             )?
         }
         (Refusal::NoNode(number), Request::Reread(reread)) => {

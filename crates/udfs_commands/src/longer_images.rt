@@ -68,9 +68,9 @@ fn of_pair<F: Files>(
     }
     let mut line = format!(in alloc; "{} ends at ", Shown(map))?;
     push_bytes(&mut line, end)?;
-    write!(line, ", and {} has ", Shown(image))?;
+    write!(line, ", but {} has ", Shown(image))?;
     push_bytes(&mut line, size)?;
-    line.push_str(": are they of one pass?")?;
+    line.push_str(": are they from the same pass?")?;
     Ok(Some(line))
 }
 

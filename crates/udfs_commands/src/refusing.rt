@@ -37,7 +37,7 @@ const FIND_INPUT: &str =
 const BARE_WIDE: &str = "unexpected argument '--wide' found";
 
 /// What it is.
-const SAY_WIDE: &str = "  the wide rules are --profile wide\n";
+const SAY_WIDE: &str = "  for the wide rules, add --profile wide\n";
 
 /// How clap lists that a list of blocks is missing.
 const NO_BLOCKS: &str = "\n  --blocks <LIST>\n";

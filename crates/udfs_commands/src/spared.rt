@@ -17,7 +17,7 @@ fn leads_there<F: Files>(
     let Ok(target) = files.resolve(alloc, out, Aim::Reading)? else {
         return Ok(false);
     };
-    match is_among(alloc, paths, target.path.as_str(), files)? {
+    match is_among(alloc, paths, &target, files)? {
         Ok(leads) => Ok(leads),
         Err(_) => Ok(false),
     }
@@ -55,7 +55,7 @@ fn of_table<F: Files>(
         return of_input(alloc, out);
     }
     format!(in alloc;
-        "{} is no table file, and none of the inputs: take another name, or give --force",
+        "{} is neither a table file nor an input: use another name, or add --force",
         Shown(out)
     )
 }
@@ -71,7 +71,7 @@ fn of_page<F: Files>(
         return of_input(alloc, out);
     }
     format!(in alloc;
-        "{} is no page of udfsalvage: take another name",
+        "{} is not a page that udfsalvage wrote: use another name",
         Shown(out)
     )
 }
@@ -87,7 +87,7 @@ fn of_map<F: Files>(
         return of_input(alloc, out);
     }
     format!(in alloc;
-        "{} is no map of blocks to read again that this udfsalvage wrote: take another name",
+        "{} is not a mapfile that reread of this udfsalvage wrote: use another name",
         Shown(out)
     )
 }
@@ -95,7 +95,7 @@ fn of_map<F: Files>(
 /// What is said of an input that is to be written over.
 fn of_input(alloc: Global, out: &str) -> Result<String, AllocError> {
     format!(in alloc;
-        "{} is an input, and never written over: take another name",
+        "{} is an input, which is never overwritten: use another name",
         Shown(out)
     )
 }
@@ -114,7 +114,7 @@ fn of_part<F: Files>(
         return Ok(None);
     }
     Ok(Some(format!(in alloc;
-        "{} is there already: take another name, or give --force",
+        "{} already exists: use another name, or add --force",
         Shown(out)
     )?))
 }
@@ -132,7 +132,7 @@ fn of_pair<F: Files>(
         return Ok(line);
     }
     format!(in alloc;
-        "{} and {} have to be two files, neither in the other's way, and no folders or devices",
+        "{} and {} must be two different files, neither in the way of the other, and not folders or devices",
         Shown(request.image),
         Shown(request.mapfile)
     )
@@ -150,11 +150,11 @@ fn of_manifest<F: Files>(
     }
     if is_absent(alloc, out, files)? {
         return format!(in alloc;
-            "{} is in the new folder's way: take another name",
+            "{} is in the way of the new folder: use another name",
             Shown(out)
         );
     }
-    format!(in alloc; "{} is no manifest: take another name", Shown(out))
+    format!(in alloc; "{} is not a manifest: use another name", Shown(out))
 }
 
 /// Why what is there is not written over, for a person; `None` where no output was asked for.

@@ -1,6 +1,8 @@
 -- What an output may not take the place of.
 --     begins kind bytes          the bytes begin with these
---     SomeLeads, NoneLeads       one of some paths leads to a place, or none
+--     AreOne, AreTwo             two paths lead to one file, or to two
+--     OfFollowed                 this holds of each path that was followed to a target
+--     SomeLeads, NoneLeads       one of some paths leads to the file that another leads to, or none
 --     SomeShut                   one of some paths may fail to open
 --     IsTable                    a table file, or an empty one
 --     IsFree                     an output takes the place of no image and no mapfile, and of no file but an input or a table file, or by force
@@ -13,9 +15,12 @@
 --     AreInTheWay                one of them is
 --     IsFreePair                 what an image and its mapfile take the place of
 --     IsSparedPair               why they are not written
-use Rattle.std.specs.Prelude.{◌≡◌, ◌≢◌, ◌⊎◌, ⊤, ℕ, List, [], ◌∷◌, Bool, true, false, Option, Some, IfSome, ◌++◌, codes, nat_eq, if◌then◌else◌, None}
+use Rattle.std.specs.Prelude.{◌≡◌, ◌≢◌, ◌⊎◌, ⊤, ℕ, List, [], ◌∷◌, Bool, true, false, Option, Some, IfSome, ◌++◌, codes, nat_eq, if◌then◌else◌, None, string_bytes}
 use Rattle.udfs_rescue.specs.Writing.{made_by, mark_line}
 use Rattle.udfs_files.specs.Disk.{IsOwn}
+use Rattle.udfs_files.specs.Identities.{HaveOne, IsFileOf}
+use Rattle.udfs_files.specs.declared.files.Files.{Ghosts}
+use Rattle.udfs_files.specs.declared.files.Target.{Target}
 
 -- whether the second list starts with all bytes of the first
 abbrev pub begins : List ℕ → List ℕ → Bool
@@ -31,15 +36,28 @@ MayBegin kind held = IfSome held (λ file. (bytes : List ℕ) × (file ≡ Some 
 abbrev pub BeginsOtherwise : List ℕ → Option (Option (List ℕ)) → Type 0
 BeginsOtherwise kind held = (bytes : List ℕ) → held ≡ Some (Some bytes) → begins kind bytes ≡ false
 
--- at least one of the paths leads to this place
-abbrev pub SomeLeads : (List ℕ → List ℕ) → List ℕ → List (List ℕ) → Type 0
-SomeLeads real place [] = ⊥
-SomeLeads real place (path ∷ paths) = (real path ≡ place) ⊎ SomeLeads real place paths
+-- two paths lead to one place, or to files of the same numbers
+abbrev pub AreOne : {F I M S W : Type 0} → Ghosts F I M S W → F → List ℕ → List ℕ → Type 0
+AreOne known at p q = (known.real at p ≡ known.real at q) ⊎ HaveOne (known.identity at (known.real at p)) (known.identity at (known.real at q))
 
--- each of the paths leads to some other place
-abbrev pub NoneLeads : (List ℕ → List ℕ) → List ℕ → List (List ℕ) → Type 0
-NoneLeads real place [] = ⊤
-NoneLeads real place (path ∷ paths) = (real path ≢ place) × NoneLeads real place paths
+-- they lead to two places; and, unless what is at one of them may be no file, to no files of the same numbers
+pub record AreTwo {F I M S W : Type 0} (known : Ghosts F I M S W) (at : F) (p q : List ℕ) : Type 0 where
+  pub places : known.real at p ≢ known.real at q
+  pub files : (known.in_place at p → ⊥) → (known.in_place at q → ⊥) → ¬ HaveOne (known.identity at (known.real at p)) (known.identity at (known.real at q))
+
+-- this holds of each path that was followed to this target
+abbrev pub OfFollowed : {F I M S W : Type 0} → Ghosts F I M S W → F → Target → (List ℕ → Type 0) → Type 0
+OfFollowed known at target Holds = (to : List ℕ) → string_bytes target.path ≡ known.real at to → IsFileOf (known.identity at (known.real at to)) (known.in_place at to) target.identity → Holds to
+
+-- at least one of the paths leads to the file that this one leads to
+abbrev pub SomeLeads : {F I M S W : Type 0} → Ghosts F I M S W → F → List ℕ → List (List ℕ) → Type 0
+SomeLeads known at to [] = ⊥
+SomeLeads known at to (path ∷ paths) = AreOne known at path to ⊎ SomeLeads known at to paths
+
+-- each of the paths leads to some other
+abbrev pub NoneLeads : {F I M S W : Type 0} → Ghosts F I M S W → F → List ℕ → List (List ℕ) → Type 0
+NoneLeads known at to [] = ⊤
+NoneLeads known at to (path ∷ paths) = AreTwo known at path to × NoneLeads known at to paths
 
 -- opening at least one of the paths may fail
 abbrev pub SomeShut : (List ℕ → Type 0) → List (List ℕ) → Type 0
@@ -55,45 +73,45 @@ abbrev pub IsTable : List ℕ → Type 0
 IsTable bytes = (begins table_kind bytes ≡ true) ⊎ (bytes ≡ [])
 
 -- an output takes the place of no image or mapfile of the inputs (`parts`); and, without force, unless what is there may be no file (`in_place`), of no file but an input (`files`), a table file or an empty one
-pub record IsFree (holds : List ℕ → Option (Option (List ℕ))) (real : List ℕ → List ℕ) (in_place : List ℕ → Type 0) (files parts : List (List ℕ)) (force : Bool) (out : List ℕ) : Type 0 where
-  pub apart : NoneLeads real (real out) parts
-  pub a_table : force ≡ false → (in_place out → ⊥) → SomeLeads real (real out) files ⊎ ((bytes : List ℕ) → holds (real out) ≡ Some (Some bytes) → IsTable bytes)
+pub record IsFree {F I M S W : Type 0} (known : Ghosts F I M S W) (at : F) (files parts : List (List ℕ)) (force : Bool) (out : List ℕ) : Type 0 where
+  pub apart : NoneLeads known at out parts
+  pub a_table : force ≡ false → (known.in_place at out → ⊥) → SomeLeads known at out files ⊎ ((bytes : List ℕ) → known.holds at (known.real at out) ≡ Some (Some bytes) → IsTable bytes)
 
 -- a file that is no input and no table file is there, and it is not empty
-pub record IsOtherFile (holds : List ℕ → Option (Option (List ℕ))) (real : List ℕ → List ℕ) (files : List (List ℕ)) (force : Bool) (out : List ℕ) : Type 0 where
+pub record IsOtherFile {F I M S W : Type 0} (known : Ghosts F I M S W) (at : F) (files : List (List ℕ)) (force : Bool) (out : List ℕ) : Type 0 where
   pub unforced : force ≡ false
-  pub no_input : NoneLeads real (real out) files
-  pub no_table : (bytes : List ℕ) → holds (real out) ≡ Some (Some bytes) → ¬ IsTable bytes
+  pub no_input : NoneLeads known at out files
+  pub no_table : (bytes : List ℕ) → known.holds at (known.real at out) ≡ Some (Some bytes) → ¬ IsTable bytes
 
 -- why an output is not written: an image or a mapfile of the inputs is there, or, without force, a file that is no input and no table file
-abbrev pub IsSpared : (List ℕ → Option (Option (List ℕ))) → (List ℕ → List ℕ) → List (List ℕ) → List (List ℕ) → Bool → List ℕ → Type 0
-IsSpared holds real files parts force out = SomeLeads real (real out) parts ⊎ IsOtherFile holds real files force out
+abbrev pub IsSpared : {F I M S W : Type 0} → Ghosts F I M S W → F → List (List ℕ) → List (List ℕ) → Bool → List ℕ → Type 0
+IsSpared known at files parts force out = SomeLeads known at out parts ⊎ IsOtherFile known at files force out
 
 -- the beginning of a map of blocks to read again, which no pass's mapfile has: who made it, and the mark
 unfoldable pub domain_kind : List ℕ
 domain_kind = made_by ++ mark_line
 
 -- an output takes the place of no input (`files`, and `parts`: the images and mapfiles among them), and, unless what is there may be no file (`in_place`), of no file but one that begins so
-pub record IsFreeOwn (kind : List ℕ) (holds : List ℕ → Option (Option (List ℕ))) (real : List ℕ → List ℕ) (in_place : List ℕ → Type 0) (files parts : List (List ℕ)) (out : List ℕ) : Type 0 where
-  pub no_input : NoneLeads real (real out) files
-  pub apart : NoneLeads real (real out) parts
-  pub of_kind : (in_place out → ⊥) → (bytes : List ℕ) → holds (real out) ≡ Some (Some bytes) → begins kind bytes ≡ true
+pub record IsFreeOwn {F I M S W : Type 0} (kind : List ℕ) (known : Ghosts F I M S W) (at : F) (files parts : List (List ℕ)) (out : List ℕ) : Type 0 where
+  pub no_input : NoneLeads known at out files
+  pub apart : NoneLeads known at out parts
+  pub of_kind : (known.in_place at out → ⊥) → (bytes : List ℕ) → known.holds at (known.real at out) ≡ Some (Some bytes) → begins kind bytes ≡ true
 
 -- why such an output is not written: one of the inputs is there, or no file that begins so is
-abbrev pub IsSparedOwn : List ℕ → (List ℕ → Option (Option (List ℕ))) → (List ℕ → List ℕ) → List (List ℕ) → List (List ℕ) → List ℕ → Type 0
-IsSparedOwn kind holds real files parts out = SomeLeads real (real out) files ⊎ SomeLeads real (real out) parts ⊎ BeginsOtherwise kind (holds (real out))
+abbrev pub IsSparedOwn : {F I M S W : Type 0} → List ℕ → Ghosts F I M S W → F → List (List ℕ) → List (List ℕ) → List ℕ → Type 0
+IsSparedOwn kind known at files parts out = SomeLeads known at out files ⊎ SomeLeads known at out parts ⊎ BeginsOtherwise kind (known.holds at (known.real at out))
 
 -- its path, or that of an input, may fail to open, or a read failed
 abbrev pub MayNotBeSeen : (List ℕ → Type 0) → Type 0 → List (List ℕ) → List (List ℕ) → List ℕ → Type 0
 MayNotBeSeen shut Failed files parts out = shut out ⊎ SomeShut shut files ⊎ SomeShut shut parts ⊎ Failed
 
 -- a map of blocks to read again takes the place of no image or mapfile of the inputs (`parts`), and, unless what is there may be no file (`in_place`), of no file but such a map
-abbrev pub IsFreeMap : (List ℕ → Option (Option (List ℕ))) → (List ℕ → List ℕ) → (List ℕ → Type 0) → List (List ℕ) → List ℕ → Type 0
-IsFreeMap holds real in_place parts out = IsFreeOwn domain_kind holds real in_place [] parts out
+abbrev pub IsFreeMap : {F I M S W : Type 0} → Ghosts F I M S W → F → List (List ℕ) → List ℕ → Type 0
+IsFreeMap known at parts out = IsFreeOwn domain_kind known at [] parts out
 
 -- why a map of blocks to read again is not written: an image or a mapfile of the inputs is there, or no such map is
-abbrev pub IsSparedMap : (List ℕ → Option (Option (List ℕ))) → (List ℕ → List ℕ) → List (List ℕ) → List ℕ → Type 0
-IsSparedMap holds real parts out = IsSparedOwn domain_kind holds real [] parts out
+abbrev pub IsSparedMap : {F I M S W : Type 0} → Ghosts F I M S W → F → List (List ℕ) → List ℕ → Type 0
+IsSparedMap known at parts out = IsSparedOwn domain_kind known at [] parts out
 
 -- two paths, neither of which is that of a new file for the other
 pub record IsApart (image mapfile : List ℕ) : Type 0 where
@@ -106,20 +124,21 @@ abbrev pub AreInTheWay : List ℕ → List ℕ → Type 0
 AreInTheWay image mapfile = (image ≡ mapfile) ⊎ IsOwn image mapfile ⊎ IsOwn mapfile image
 
 -- they are two, none of the inputs (`files` are those that are files, `parts` the images and mapfiles among them), and where nothing is written over by force nothing is there
-pub record IsFreePair (holds : List ℕ → Option (Option (List ℕ))) (real : List ℕ → List ℕ) (files parts : List (List ℕ)) (force : Bool) (image mapfile : List ℕ) : Type 0 where
-  pub apart : IsApart (real image) (real mapfile)
-  pub image_is_no_file : NoneLeads real (real image) files
-  pub image_is_no_part : NoneLeads real (real image) parts
-  pub mapfile_is_no_file : NoneLeads real (real mapfile) files
-  pub mapfile_is_no_part : NoneLeads real (real mapfile) parts
-  pub no_image : force ≡ false → holds (real image) ≡ Some None
-  pub no_mapfile : force ≡ false → holds (real mapfile) ≡ Some None
+pub record IsFreePair {F I M S W : Type 0} (known : Ghosts F I M S W) (at : F) (files parts : List (List ℕ)) (force : Bool) (image mapfile : List ℕ) : Type 0 where
+  pub apart : IsApart (known.real at image) (known.real at mapfile)
+  pub two : AreTwo known at image mapfile
+  pub image_is_no_file : NoneLeads known at image files
+  pub image_is_no_part : NoneLeads known at image parts
+  pub mapfile_is_no_file : NoneLeads known at mapfile files
+  pub mapfile_is_no_part : NoneLeads known at mapfile parts
+  pub no_image : force ≡ false → known.holds at (known.real at image) ≡ Some None
+  pub no_mapfile : force ≡ false → known.holds at (known.real at mapfile) ≡ Some None
 
--- files may not be written over, or something that is no file may be there, or they are in each other's way
-abbrev pub HaveNoPlace : (List ℕ → List ℕ) → (List ℕ → Type 0) → Bool → List ℕ → List ℕ → Type 0
-HaveNoPlace real in_place force image mapfile = (force ≡ false) ⊎ in_place image ⊎ in_place mapfile ⊎ AreInTheWay (real image) (real mapfile)
+-- files may not be written over, or something that is no file may be there, or they are in each other's way or one file
+abbrev pub HaveNoPlace : {F I M S W : Type 0} → Ghosts F I M S W → F → Bool → List ℕ → List ℕ → Type 0
+HaveNoPlace known at force image mapfile = (force ≡ false) ⊎ known.in_place at image ⊎ known.in_place at mapfile ⊎ AreInTheWay (known.real at image) (known.real at mapfile) ⊎ AreOne known at image mapfile
 
 -- why a pair is not written: it has no place, or one of its two paths is that of an input
-abbrev pub IsSparedPair : (List ℕ → List ℕ) → (List ℕ → Type 0) → List (List ℕ) → List (List ℕ) → Bool → List ℕ → List ℕ → Type 0
-IsSparedPair real in_place files parts force image mapfile = HaveNoPlace real in_place force image mapfile ⊎
-    SomeLeads real (real image) parts ⊎ SomeLeads real (real image) files ⊎ SomeLeads real (real mapfile) parts ⊎ SomeLeads real (real mapfile) files
+abbrev pub IsSparedPair : {F I M S W : Type 0} → Ghosts F I M S W → F → List (List ℕ) → List (List ℕ) → Bool → List ℕ → List ℕ → Type 0
+IsSparedPair known at files parts force image mapfile = HaveNoPlace known at force image mapfile ⊎
+    SomeLeads known at image parts ⊎ SomeLeads known at image files ⊎ SomeLeads known at mapfile parts ⊎ SomeLeads known at mapfile files

@@ -1,12 +1,13 @@
 //! What an output may not take the place of: a pass can not be had again.
 
-ghost use Rattle.std.specs.Prelude.{◌≡◌, ◌≢◌, ◌⊎◌, ℕ, List, [], true, false, Some, IfOk, OnErr, map};
+ghost use Rattle.std.specs.Prelude.{◌≡◌, ◌≢◌, ◌⊎◌, ℕ, List, [], true, false, Some, IfOk, OnErr, map, string_bytes};
 ghost use Rattle.udfs_files.specs.Disk.{Fails};
-ghost use Rattle.udfs_common.specs.Guarding.{BeginsOtherwise, IsFree, IsFreeMap, IsFreeOwn, IsSpared, IsSparedMap, IsSparedOwn, IsTable, MayBegin, MayNotBeSeen, NoneLeads, SomeLeads, SomeShut, begins};
+ghost use Rattle.udfs_files.specs.Identities.{HaveOne};
+ghost use Rattle.udfs_common.specs.Guarding.{AreOne, AreTwo, BeginsOtherwise, IsFree, IsFreeMap, IsFreeOwn, IsSpared, IsSparedMap, IsSparedOwn, IsTable, MayBegin, MayNotBeSeen, NoneLeads, OfFollowed, SomeLeads, SomeShut, begins};
 
 use crate::files::Files;
 use std::alloc::{AllocError, Global};
-use udfs_files::{Aim, Kind};
+use udfs_files::{Aim, Identity, Kind, Target};
 use udfs_reading::{DeviceFault, Source};
 
 /// The bytes with which a table file begins, in either version.
@@ -91,43 +92,66 @@ fn is_table<F: Files>(path: &str, files: &F) -> Result<bool, DeviceFault>
     }
 }
 
-/// Whether a path leads to this place. A path that could not be followed is a fault: it may lead there.
+/// Whether both are known, and are the same.
+fn is_one_file(one: Option<Identity>, other: Option<Identity>) -> bool
+    ensures yes { result ≡ true → HaveOne one other }
+    ensures no { result ≡ false → ¬ HaveOne one other }
+{
+    match (one, other) {
+        (Some(one), Some(other)) => one.device == other.device && one.inode == other.inode,
+        _ => false,
+    }
+}
+
+/// Whether two paths that were followed lead to one file: to one place, as by links, or to two names of a file, as on a disk that does not tell upper case from
+/// lower, or where a disk is seen at two places.
+pub fn are_one(one: &Target, other: &Target) -> bool
+    ensures yes { result ≡ true → (string_bytes one.now.path ≡ string_bytes other.now.path) ⊎ HaveOne one.now.identity other.now.identity }
+    ensures no { result ≡ false → (string_bytes one.now.path ≢ string_bytes other.now.path) × (¬ HaveOne one.now.identity other.now.identity) }
+{
+    if one.path.as_str() == other.path.as_str() {
+        return true;
+    }
+    is_one_file(one.identity, other.identity)
+}
+
+/// Whether a path leads to the file that another leads to, which was followed to this target. A path that could not be followed is a fault: it may lead there.
 fn leads_to<F: Files>(
     alloc: Global,
     path: &str,
-    place: &str,
+    target: &Target,
     files: &F,
 ) -> Result<Result<bool, DeviceFault>, AllocError>
-    ensures yes { IfOk result (λ found. IfOk found (λ leads. leads ≡ true → F.tells → F.real files.now path.now ≡ place.now)) }
-    ensures no { IfOk result (λ found. IfOk found (λ leads. leads ≡ false → F.tells → F.real files.now path.now ≢ place.now)) }
+    ensures yes { IfOk result (λ found. IfOk found (λ leads. leads ≡ true → F.tells → OfFollowed F.Files files.now target.now (λ to. AreOne F.Files files.now path.now to))) }
+    ensures no { IfOk result (λ found. IfOk found (λ leads. leads ≡ false → F.tells → OfFollowed F.Files files.now target.now (λ to. AreTwo F.Files files.now path.now to))) }
     ensures fault { IfOk result (λ found. OnErr found (F.shut files.now path.now)) }
 {
     match files.resolve(alloc, path, Aim::Reading)? {
-        Ok(target) => Ok(Ok(target.path.as_str() == place)),
+        Ok(found) => Ok(Ok(are_one(&found, target))),
         Err(DeviceFault) => Ok(Err(DeviceFault)),
     }
 }
 
-/// Whether one of these paths leads to this place; or a fault, where one before it could not be followed.
+/// Whether one of these paths leads to the file that another leads to, which was followed to this target; or a fault, where one before it could not be followed.
 pub fn is_among<F: Files>(
     alloc: Global,
     paths: &[&str],
-    place: &str,
+    target: &Target,
     files: &F,
 ) -> Result<Result<bool, DeviceFault>, AllocError>
-    ensures yes { IfOk result (λ found. IfOk found (λ leads. leads ≡ true → F.tells → SomeLeads (F.real files.now) place.now (map (λ path. path.now) paths.now))) }
-    ensures no { IfOk result (λ found. IfOk found (λ leads. leads ≡ false → F.tells → NoneLeads (F.real files.now) place.now (map (λ path. path.now) paths.now))) }
+    ensures yes { IfOk result (λ found. IfOk found (λ leads. leads ≡ true → F.tells → OfFollowed F.Files files.now target.now (λ to. SomeLeads F.Files files.now to (map (λ path. path.now) paths.now)))) }
+    ensures no { IfOk result (λ found. IfOk found (λ leads. leads ≡ false → F.tells → OfFollowed F.Files files.now target.now (λ to. NoneLeads F.Files files.now to (map (λ path. path.now) paths.now)))) }
     ensures fault { IfOk result (λ found. OnErr found (SomeShut (F.shut files.now) (map (λ path. path.now) paths.now))) }
 {
     match paths {
         [] => Ok(Ok(false)),
         [first, rest @ ..] => {
-            match leads_to(alloc, first, place, files)? {
+            match leads_to(alloc, first, target, files)? {
                 Ok(false) => {}
                 Ok(true) => return Ok(Ok(true)),
                 Err(DeviceFault) => return Ok(Err(DeviceFault)),
             }
-            match is_among(alloc, rest, place, files) {
+            match is_among(alloc, rest, target, files) {
                 Ok(found) => Ok(found),
                 Err(AllocError) => Err(AllocError),
             }
@@ -156,14 +180,14 @@ pub fn look_at<F: Files>(
     out: &str,
     files: &F,
 ) -> Result<Outlook, AllocError>
-    ensures free { IfOk result (λ found. found ≡ Outlook.Free → F.tells → IsFree (F.holds files.now) (F.real files.now) (F.in_place files.now) (map (λ path. path.now) inputs.now) (map (λ path. path.now) parts.now) force out.now) }
-    ensures spared { IfOk result (λ found. found ≡ Outlook.Spared → F.tells → IsSpared (F.holds files.now) (F.real files.now) (map (λ path. path.now) inputs.now) (map (λ path. path.now) parts.now) force out.now) }
+    ensures free { IfOk result (λ found. found ≡ Outlook.Free → F.tells → IsFree F.Files files.now (map (λ path. path.now) inputs.now) (map (λ path. path.now) parts.now) force out.now) }
+    ensures spared { IfOk result (λ found. found ≡ Outlook.Spared → F.tells → IsSpared F.Files files.now (map (λ path. path.now) inputs.now) (map (λ path. path.now) parts.now) force out.now) }
     ensures unknown { IfOk result (λ found. found ≡ Outlook.Unknown → F.shut files.now out.now ⊎ SomeShut (F.shut files.now) (map (λ path. path.now) parts.now) ⊎ SomeShut (F.shut files.now) (map (λ path. path.now) inputs.now) ⊎ Fails F.Input.faults) }
 {
     let Ok(target) = files.resolve(alloc, out, Aim::Writing)? else {
         return Ok(Outlook::Unknown);
     };
-    match is_among(alloc, parts, target.path.as_str(), files)? {
+    match is_among(alloc, parts, &target, files)? {
         Ok(false) => {}
         Ok(true) => return Ok(Outlook::Spared),
         Err(DeviceFault) => return Ok(Outlook::Unknown),
@@ -171,7 +195,7 @@ pub fn look_at<F: Files>(
     if force || target.kind != Kind::Regular {
         return Ok(Outlook::Free);
     }
-    match is_among(alloc, inputs, target.path.as_str(), files)? {
+    match is_among(alloc, inputs, &target, files)? {
         Ok(false) => {}
         Ok(true) => return Ok(Outlook::Free),
         Err(DeviceFault) => return Ok(Outlook::Unknown),
@@ -193,19 +217,19 @@ pub fn look_at_own<F: Files>(
     out: &str,
     files: &F,
 ) -> Result<Outlook, AllocError>
-    ensures free { IfOk result (λ found. found ≡ Outlook.Free → F.tells → IsFreeOwn kind.now (F.holds files.now) (F.real files.now) (F.in_place files.now) (map (λ path. path.now) inputs.now) (map (λ path. path.now) parts.now) out.now) }
-    ensures spared { IfOk result (λ found. found ≡ Outlook.Spared → F.tells → IsSparedOwn kind.now (F.holds files.now) (F.real files.now) (map (λ path. path.now) inputs.now) (map (λ path. path.now) parts.now) out.now) }
+    ensures free { IfOk result (λ found. found ≡ Outlook.Free → F.tells → IsFreeOwn kind.now F.Files files.now (map (λ path. path.now) inputs.now) (map (λ path. path.now) parts.now) out.now) }
+    ensures spared { IfOk result (λ found. found ≡ Outlook.Spared → F.tells → IsSparedOwn kind.now F.Files files.now (map (λ path. path.now) inputs.now) (map (λ path. path.now) parts.now) out.now) }
     ensures unknown { IfOk result (λ found. found ≡ Outlook.Unknown → MayNotBeSeen (F.shut files.now) (Fails F.Input.faults) (map (λ path. path.now) inputs.now) (map (λ path. path.now) parts.now) out.now) }
 {
     let Ok(place) = files.resolve(alloc, out, Aim::Writing)? else {
         return Ok(Outlook::Unknown);
     };
-    match is_among(alloc, inputs, place.path.as_str(), files)? {
+    match is_among(alloc, inputs, &place, files)? {
         Ok(false) => {}
         Ok(true) => return Ok(Outlook::Spared),
         Err(DeviceFault) => return Ok(Outlook::Unknown),
     }
-    match is_among(alloc, parts, place.path.as_str(), files)? {
+    match is_among(alloc, parts, &place, files)? {
         Ok(false) => {}
         Ok(true) => return Ok(Outlook::Spared),
         Err(DeviceFault) => return Ok(Outlook::Unknown),
@@ -228,8 +252,8 @@ pub fn look_at_map<F: Files>(
     out: &str,
     files: &F,
 ) -> Result<Outlook, AllocError>
-    ensures free { IfOk result (λ found. found ≡ Outlook.Free → F.tells → IsFreeMap (F.holds files.now) (F.real files.now) (F.in_place files.now) (map (λ path. path.now) parts.now) out.now) }
-    ensures spared { IfOk result (λ found. found ≡ Outlook.Spared → F.tells → IsSparedMap (F.holds files.now) (F.real files.now) (map (λ path. path.now) parts.now) out.now) }
+    ensures free { IfOk result (λ found. found ≡ Outlook.Free → F.tells → IsFreeMap F.Files files.now (map (λ path. path.now) parts.now) out.now) }
+    ensures spared { IfOk result (λ found. found ≡ Outlook.Spared → F.tells → IsSparedMap F.Files files.now (map (λ path. path.now) parts.now) out.now) }
     ensures unknown { IfOk result (λ found. found ≡ Outlook.Unknown → MayNotBeSeen (F.shut files.now) (Fails F.Input.faults) [] (map (λ path. path.now) parts.now) out.now) }
 {
     let found = look_at_own(alloc, &[], parts, DOMAIN, out, files)?;

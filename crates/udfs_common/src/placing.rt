@@ -2,11 +2,12 @@
 
 ghost use Rattle.std.specs.Prelude.{◌≡◌, ◌≢◌, ◌⊎◌, ◌++◌, ◌≤◌, ℕ, List, true, false, Some, None, IfOk, IfErr, OnOk, IsErrOf, length, map, string_bytes, alloc_error};
 ghost use Rattle.udfs_files.specs.Disk.{Fails, IsOwn};
+ghost use Rattle.udfs_files.specs.Identities.{HaveOne, IsFileOf};
 ghost use Rattle.udfs_files.specs.declared.files.Kind.{Kind};
-ghost use Rattle.udfs_common.specs.Guarding.{AreInTheWay, HaveNoPlace, NoneLeads, IsApart, IsFreePair, IsSparedPair, SomeLeads, SomeShut};
+ghost use Rattle.udfs_common.specs.Guarding.{AreInTheWay, AreTwo, HaveNoPlace, NoneLeads, IsApart, IsFreePair, IsSparedPair, OfFollowed, SomeLeads, SomeShut};
 
 use crate::files::Files;
-use crate::guard::is_among;
+use crate::guard::{are_one, is_among};
 use crate::refusal::Refusal;
 use std::alloc::{AllocError, Global};
 use udfs_files::{Aim, Kind, Target};
@@ -15,12 +16,10 @@ use udfs_reading::DeviceFault;
 /// Where an image and its mapfile go, every link followed.
 #[derive(Drop)]
 pub struct Places {
-    /// The image's path.
-    pub image: String,
-    /// The mapfile's path.
-    pub mapfile: String,
-    /// What is at the mapfile's path.
-    pub old: Kind,
+    /// Where the image goes.
+    pub image: Target,
+    /// Where the mapfile goes.
+    pub mapfile: Target,
 }
 
 /// Whether `bytes` starts with `front`.
@@ -42,17 +41,24 @@ fn is_own(path: &str, name: &str) -> bool
     begin_so(name, path) && begin_so(&name[path.len()..], b".unfinished")
 }
 
-/// Whether two paths differ, and neither is that of a new file for the other.
-fn is_apart(image: &str, mapfile: &str) -> bool
-    ensures yes { result ≡ true → IsApart image.now mapfile.now }
-    ensures no { result ≡ false → AreInTheWay image.now mapfile.now }
+/// Whether two places are those of two files, and neither is that of a new file for the other.
+fn is_apart(image: &Target, mapfile: &Target) -> bool
+    ensures yes { result ≡ true → IsApart (string_bytes image.now.path) (string_bytes mapfile.now.path) }
+    ensures two { result ≡ true → ¬ HaveOne image.now.identity mapfile.now.identity }
+    ensures no { result ≡ false → AreInTheWay (string_bytes image.now.path) (string_bytes mapfile.now.path) ⊎ HaveOne image.now.identity mapfile.now.identity }
 {
-    image != mapfile && !is_own(image, mapfile) && !is_own(mapfile, image)
+    if are_one(image, mapfile) {
+        return false;
+    }
+    let image = image.path.as_str();
+    let mapfile = mapfile.path.as_str();
+    !is_own(image, mapfile) && !is_own(mapfile, image)
 }
 
 /// Where an output goes. Something that is there stays, but a file by force.
 fn place<F: Files>(alloc: Global, out: &str, force: bool, files: &F) -> Result<Target, Refusal>
     ensures leads { IfOk result (λ target. F.tells → string_bytes target.path ≡ F.real files.now out.now) }
+    ensures same { IfOk result (λ target. F.tells → IsFileOf (F.identity files.now (F.real files.now out.now)) (F.in_place files.now out.now) target.identity) }
     ensures absent { IfOk result (λ target. target.kind ≡ Kind.Absent → F.tells → F.holds files.now (F.real files.now out.now) ≡ Some None) }
     ensures free { OnOk result (force ≡ false → F.tells → F.holds files.now (F.real files.now out.now) ≡ Some None) }
     ensures told { IfErr result (λ refusal. (refusal ≡ Refusal.Output) ⊎ (refusal ≡ Refusal.Spared) ⊎ (refusal ≡ Refusal.Memory alloc_error)) }
@@ -79,15 +85,18 @@ pub fn find_places<F: Files>(
     force: bool,
     files: &F,
 ) -> Result<Places, Refusal>
-    ensures image { IfOk result (λ places. F.tells → string_bytes places.image ≡ F.real files.now image.now) }
-    ensures mapfile { IfOk result (λ places. F.tells → string_bytes places.mapfile ≡ F.real files.now mapfile.now) }
-    ensures apart { IfOk result (λ places. IsApart (string_bytes places.image) (string_bytes places.mapfile)) }
-    ensures absent { IfOk result (λ places. places.old ≡ Kind.Absent → F.tells → F.holds files.now (string_bytes places.mapfile) ≡ Some None) }
+    ensures image { IfOk result (λ places. F.tells → string_bytes places.image.path ≡ F.real files.now image.now) }
+    ensures mapfile { IfOk result (λ places. F.tells → string_bytes places.mapfile.path ≡ F.real files.now mapfile.now) }
+    ensures image_same { IfOk result (λ places. F.tells → IsFileOf (F.identity files.now (F.real files.now image.now)) (F.in_place files.now image.now) places.image.identity) }
+    ensures mapfile_same { IfOk result (λ places. F.tells → IsFileOf (F.identity files.now (F.real files.now mapfile.now)) (F.in_place files.now mapfile.now) places.mapfile.identity) }
+    ensures apart { IfOk result (λ places. IsApart (string_bytes places.image.path) (string_bytes places.mapfile.path)) }
+    ensures two { OnOk result (F.tells → AreTwo F.Files files.now image.now mapfile.now) }
+    ensures absent { IfOk result (λ places. places.mapfile.kind ≡ Kind.Absent → F.tells → F.holds files.now (string_bytes places.mapfile.path) ≡ Some None) }
     ensures no_image { OnOk result (force ≡ false → F.tells → F.holds files.now (F.real files.now image.now) ≡ Some None) }
     ensures no_mapfile { OnOk result (force ≡ false → F.tells → F.holds files.now (F.real files.now mapfile.now) ≡ Some None) }
     ensures told { IfErr result (λ refusal. (refusal ≡ Refusal.Output) ⊎ (refusal ≡ Refusal.Spared) ⊎ (refusal ≡ Refusal.Memory alloc_error)) }
     ensures cause { IsErrOf result Refusal.Output → F.shut files.now image.now ⊎ F.shut files.now mapfile.now }
-    ensures spared { IsErrOf result Refusal.Spared → F.tells → HaveNoPlace (F.real files.now) (F.in_place files.now) force image.now mapfile.now }
+    ensures spared { IsErrOf result Refusal.Spared → F.tells → HaveNoPlace F.Files files.now force image.now mapfile.now }
 {
     let image = match place(alloc, image, force, files) {
         Ok(target) => target,
@@ -97,29 +106,25 @@ pub fn find_places<F: Files>(
         Ok(target) => target,
         Err(refusal) => return Err(refusal),
     };
-    if !is_apart(image.path.as_str(), mapfile.path.as_str()) {
+    if !is_apart(&image, &mapfile) {
         return Err(Refusal::Spared);
     }
-    Ok(Places {
-        image: image.path,
-        mapfile: mapfile.path,
-        old: mapfile.kind,
-    })
+    Ok(Places { image, mapfile })
 }
 
-/// That none of these paths leads to a place.
+/// That none of these paths leads to the file that another leads to, which was followed to this target.
 fn none_leads<F: Files>(
     alloc: Global,
     paths: &[&str],
-    place: &str,
+    target: &Target,
     files: &F,
 ) -> Result<(), Refusal>
-    ensures none { OnOk result (F.tells → NoneLeads (F.real files.now) place.now (map (λ path. path.now) paths.now)) }
-    ensures some { IsErrOf result Refusal.Spared → F.tells → SomeLeads (F.real files.now) place.now (map (λ path. path.now) paths.now) }
+    ensures none { OnOk result (F.tells → OfFollowed F.Files files.now target.now (λ to. NoneLeads F.Files files.now to (map (λ path. path.now) paths.now))) }
+    ensures some { IsErrOf result Refusal.Spared → F.tells → OfFollowed F.Files files.now target.now (λ to. SomeLeads F.Files files.now to (map (λ path. path.now) paths.now)) }
     ensures told { IfErr result (λ refusal. (refusal ≡ Refusal.Output) ⊎ (refusal ≡ Refusal.Spared) ⊎ (refusal ≡ Refusal.Memory alloc_error)) }
     ensures cause { IsErrOf result Refusal.Output → SomeShut (F.shut files.now) (map (λ path. path.now) paths.now) }
 {
-    match is_among(alloc, paths, place, files) {
+    match is_among(alloc, paths, target, files) {
         Ok(Ok(false)) => Ok(()),
         Ok(Ok(true)) => Err(Refusal::Spared),
         Ok(Err(DeviceFault)) => Err(Refusal::Output),
@@ -127,25 +132,25 @@ fn none_leads<F: Files>(
     }
 }
 
-/// That no input leads to a place: neither a file, nor an image or a mapfile.
+/// That no input leads to the file that another path leads to, which was followed to this target: neither a file, nor an image or a mapfile.
 pub fn is_no_input<F: Files>(
     alloc: Global,
     inputs: &[&str],
     parts: &[&str],
-    place: &str,
+    target: &Target,
     files: &F,
 ) -> Result<(), Refusal>
-    ensures inputs { OnOk result (F.tells → NoneLeads (F.real files.now) place.now (map (λ path. path.now) inputs.now)) }
-    ensures parts { OnOk result (F.tells → NoneLeads (F.real files.now) place.now (map (λ path. path.now) parts.now)) }
-    ensures some { IsErrOf result Refusal.Spared → F.tells → SomeLeads (F.real files.now) place.now (map (λ path. path.now) parts.now) ⊎ SomeLeads (F.real files.now) place.now (map (λ path. path.now) inputs.now) }
+    ensures inputs { OnOk result (F.tells → OfFollowed F.Files files.now target.now (λ to. NoneLeads F.Files files.now to (map (λ path. path.now) inputs.now))) }
+    ensures parts { OnOk result (F.tells → OfFollowed F.Files files.now target.now (λ to. NoneLeads F.Files files.now to (map (λ path. path.now) parts.now))) }
+    ensures some { IsErrOf result Refusal.Spared → F.tells → OfFollowed F.Files files.now target.now (λ to. SomeLeads F.Files files.now to (map (λ path. path.now) parts.now) ⊎ SomeLeads F.Files files.now to (map (λ path. path.now) inputs.now)) }
     ensures told { IfErr result (λ refusal. (refusal ≡ Refusal.Output) ⊎ (refusal ≡ Refusal.Spared) ⊎ (refusal ≡ Refusal.Memory alloc_error)) }
     ensures cause { IsErrOf result Refusal.Output → SomeShut (F.shut files.now) (map (λ path. path.now) parts.now) ⊎ SomeShut (F.shut files.now) (map (λ path. path.now) inputs.now) }
 {
-    match none_leads(alloc, parts, place, files) {
+    match none_leads(alloc, parts, target, files) {
         Ok(()) => {}
         Err(refusal) => return Err(refusal),
     }
-    match none_leads(alloc, inputs, place, files) {
+    match none_leads(alloc, inputs, target, files) {
         Ok(()) => Ok(()),
         Err(refusal) => Err(refusal),
     }
@@ -162,8 +167,8 @@ pub fn look_at_both<F: Files>(
     force: bool,
     files: &F,
 ) -> Result<(), Refusal>
-    ensures free { OnOk result (F.tells → IsFreePair (F.holds files.now) (F.real files.now) (map (λ path. path.now) inputs.now) (map (λ path. path.now) parts.now) force image.now mapfile.now) }
-    ensures spared { IsErrOf result Refusal.Spared → F.tells → IsSparedPair (F.real files.now) (F.in_place files.now) (map (λ path. path.now) inputs.now) (map (λ path. path.now) parts.now) force image.now mapfile.now }
+    ensures free { OnOk result (F.tells → IsFreePair F.Files files.now (map (λ path. path.now) inputs.now) (map (λ path. path.now) parts.now) force image.now mapfile.now) }
+    ensures spared { IsErrOf result Refusal.Spared → F.tells → IsSparedPair F.Files files.now (map (λ path. path.now) inputs.now) (map (λ path. path.now) parts.now) force image.now mapfile.now }
     ensures told { IfErr result (λ refusal. (refusal ≡ Refusal.Output) ⊎ (refusal ≡ Refusal.Spared) ⊎ (refusal ≡ Refusal.Memory alloc_error)) }
     ensures cause { IsErrOf result Refusal.Output → F.shut files.now image.now ⊎ F.shut files.now mapfile.now ⊎ SomeShut (F.shut files.now) (map (λ path. path.now) parts.now) ⊎ SomeShut (F.shut files.now) (map (λ path. path.now) inputs.now) }
 {
@@ -171,11 +176,11 @@ pub fn look_at_both<F: Files>(
         Ok(places) => places,
         Err(refusal) => return Err(refusal),
     };
-    match is_no_input(alloc, inputs, parts, places.image.as_str(), files) {
+    match is_no_input(alloc, inputs, parts, &places.image, files) {
         Ok(()) => {}
         Err(refusal) => return Err(refusal),
     }
-    match is_no_input(alloc, inputs, parts, places.mapfile.as_str(), files) {
+    match is_no_input(alloc, inputs, parts, &places.mapfile, files) {
         Ok(()) => Ok(()),
         Err(refusal) => Err(refusal),
     }

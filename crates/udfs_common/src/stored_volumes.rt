@@ -3,6 +3,7 @@
 ghost use Rattle.std.specs.Prelude.{◌≡◌, IfOk, IfErr, IfSome};
 ghost use Rattle.udfs_lattice.specs.Tables.{IsTable, Table};
 ghost use Rattle.udfs_common.specs.Blaming.{stored_reason};
+ghost use Rattle.udfs_common.specs.Indexing.{Indexed};
 ghost use Rattle.udfs_common.specs.Volumes.{IsNoVolume, IsStoredDisc, IsVolumeUnread, OfToldVolume};
 
 use crate::ends::last_block;
@@ -71,6 +72,8 @@ pub fn indexed_volume<'a, F: Files>(
     requires { IsStoredDisc ⟦<F as Known>⟧.reach files.now volume.now ⟦<AnyStored<F::Stored> as Stored>⟧.content stored_reason disc.now.stored.items disc.now.last }
     // It has taken the join of what the inputs hold.
     ensures index { IfOk result (λ index. OfToldVolume ⟦<F as Known>⟧.reach files.now volume.now (λ last table. (last ≡ disc.now.last) × IsTable table × ⟦<Index<'a, AnyStored<F::Stored>> as Taker<Cursor<'a, AnyStored<F::Stored>>>>⟧.took index table)) }
+    // Where it is not known what an input holds, some table is taken for its own.
+    ensures taken { IfOk result (λ index. Indexed ⟦<AnyStored<F::Stored> as Stored>⟧.content volume.now.inputs.paths.items disc.now.stored.items volume.now.force (⟦<Index<'a, AnyStored<F::Stored>> as Taker<Cursor<'a, AnyStored<F::Stored>>>>⟧.took index)) }
     ensures refused { IfErr result (IsVolumeUnread ⟦<F as Known>⟧.reach files.now volume.now) }
 {
     let _ = files;

@@ -2,7 +2,7 @@
 use Rattle.std.proofs.Common.{◌≡◌, ◌≢◌, ℕ, suc, ◌+◌, ◌≤◌, ◌<◌, List, [], ◌∷◌, ◌++◌, true, false, length, take, drop, get_or, Some, None, MatchOption, Bor, refl, sym, ap, subst, ◌∙◌, arith, ne_eqb, take-append-drop}
 use Rattle.std.proofs.lemmas.Bool.{cond-true, cond-false, cond_both}
 use Rattle.std.proofs.lemmas.Str.Pattern.{NoCharPasses-char, drop_at_char}
-use Rattle.std.specs.Prelude.{⊤, Option, nat_eq}
+use Rattle.std.specs.Prelude.{Option, nat_eq}
 use Rattle.std.specs.Str.Pattern.{RFindsChar}
 use Rattle.udfs_files.specs.Disk.{folder_of, has_slash}
 

@@ -1,5 +1,5 @@
 -- Where what is lost is looked for.
-use Rattle.std.proofs.Common.{◌≡◌, ◌∙◌, ap, refl, subst, sym, Bool, Bor, List, ℕ, Option, Some, None}
+use Rattle.std.proofs.Common.{◌≡◌, ◌∙◌, ap, subst, sym, Bool, Bor, List, ℕ, Option, Some, None}
 use Rattle.std.specs.Prelude.{⊤, Result, Ok, Err, IfErr, IfOk, MatchOption}
 use Rattle.udfs_files.specs.declared.files.Files.{Ghosts}
 use Rattle.udfs_reading.specs.Device.{Stream}

@@ -10,10 +10,10 @@ use Rattle.udfs_salvage.specs.Choosing.{is_chosen}
 use Rattle.udfs_salvage.specs.Reports.{Report}
 use Rattle.udfs_salvage.specs.declared.extraction.Fill.{Fill}
 use Rattle.udfs_walk.specs.NodeFields.{NodeFields}
-use Rattle.udfs_extraction.specs.Extracting.{Each, IsDone, IsElsewhere, IsFateOf, IsIn, IsPutAt, IsPutBy, IsSafe, Puts, Spares, SparesNodes, Stay, TellsLines, TellsOn, all_good, deed, fate_line, fate_lines, is_good, node_line, path_below}
+use Rattle.udfs_extraction.specs.Extracting.{Each, IsDone, IsElsewhere, IsFateOf, IsIn, IsPutAt, IsPutBy, Puts, Spares, SparesNodes, Stay, TellsLines, TellsOn, all_good, deed, fate_lines, is_good, path_below}
 use Rattle.udfs_extraction.specs.Manifests.{AreLines, IsLine, IsManifest, IsNoted}
 use Rattle.udfs_extraction.specs.Runs.{AreFresh, AreHeld, IsEnd, IsHeld, IsOfPut, RunsOn, SameButPuts, SparesRun}
-use Rattle.udfs_extraction.specs.ShortNames.{own_name, placed}
+use Rattle.udfs_extraction.specs.ShortNames.{placed}
 use Rattle.udfs_extraction.specs.declared.naming.Put.{Put}
 use Rattle.udfs_extraction.specs.declared.nodes.Deed.{Deed}
 use Rattle.udfs_extraction.specs.declared.nodes.Deed.TheVariants.{Folder, File, Skip}

@@ -66,15 +66,15 @@ module _ {F I M S W : Type 0} (reach : Reach F I M S W) (old : F) (r : ExtractRe
 
   -- where it is known what files hold: it takes the place of no file but a manifest, and never that of an input, nor of a file that is written
   abbrev pub IsManifestFree : Type 0
-  IsManifestFree = MatchOption r.manifest ⊤ (λ path. reach.files.tells → IsFreeManifest (reach.files.holds old) (reach.files.real old) (texts r.volume.inputs.files.items) (texts r.volume.inputs.parts.items) r.folder.now path.now)
+  IsManifestFree = MatchOption r.manifest ⊤ (λ path. reach.files.tells → IsFreeManifest reach.files old (texts r.volume.inputs.files.items) (texts r.volume.inputs.parts.items) r.folder.now path.now)
 
   -- where it is known what files hold: nothing is where the folder for lost files is to be, and the other paths do not lead there
   abbrev pub IsLostFree : Type 0
-  IsLostFree = MatchOption r.lost ⊤ (λ path. reach.files.tells → IsNewFolder (reach.files.holds old) (reach.files.real old) (others r) (bare path.now))
+  IsLostFree = MatchOption r.lost ⊤ (λ path. reach.files.tells → IsNewFolder reach.files old (others r) (bare path.now))
 
   -- the same of the folder for lost folders
   abbrev pub IsTreesFree : Type 0
-  IsTreesFree = MatchOption r.trees ⊤ (λ path. reach.files.tells → IsNewFolder (reach.files.holds old) (reach.files.real old) (more_others r) (bare path.now))
+  IsTreesFree = MatchOption r.trees ⊤ (λ path. reach.files.tells → IsNewFolder reach.files old (more_others r) (bare path.now))
 
   -- all of them
   abbrev pub HaveFreePlaces : Type 0

@@ -103,6 +103,6 @@ pub record PutsLost (P : Unnamed → Fate → Type 0) (two : Bool) (us : List Un
 -- ---- its place
 
 -- nothing is where the folder's path leads, and these paths lead elsewhere
-pub record IsNewFolder (holds : List ℕ → Option (Option (List ℕ))) (real : List ℕ → List ℕ) (others : List (List ℕ)) (folder : List ℕ) : Type 0 where
-  pub absent : holds (real folder) ≡ Some None
-  pub apart : NoneLeads real (real folder) others
+pub record IsNewFolder {F I M S W : Type 0} (known : Ghosts F I M S W) (at : F) (others : List (List ℕ)) (folder : List ℕ) : Type 0 where
+  pub absent : known.holds at (known.real at folder) ≡ Some None
+  pub apart : NoneLeads known at folder others

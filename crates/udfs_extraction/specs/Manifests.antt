@@ -127,12 +127,12 @@ abbrev pub IsBeside : List ℕ → List ℕ → Type 0
 IsBeside folder place = (q : List ℕ) → IsIn folder q → (q ≢ place) × (¬ IsOwn place q)
 
 -- `files` are the inputs that are files, and `parts` the images and mapfiles among the inputs; it is beside the folder by its path as it is given, and by where that leads
-pub record IsFreeManifest (holds : List ℕ → Option (Option (List ℕ))) (real : List ℕ → List ℕ) (files parts : List (List ℕ)) (folder out : List ℕ) : Type 0 where
-  pub no_input : NoneLeads real (real out) files
-  pub apart : NoneLeads real (real out) parts
-  pub beside : IsBeside folder (real out)
-  pub away : IsBeside (real (bare folder)) (real out)
-  pub of_kind : (bytes : List ℕ) → holds (real out) ≡ Some (Some bytes) → begins_as_sums bytes ≡ true
+pub record IsFreeManifest {F I M S W : Type 0} (known : Ghosts F I M S W) (at : F) (files parts : List (List ℕ)) (folder out : List ℕ) : Type 0 where
+  pub no_input : NoneLeads known at out files
+  pub apart : NoneLeads known at out parts
+  pub beside : IsBeside folder (known.real at out)
+  pub away : IsBeside (known.real at (bare folder)) (known.real at out)
+  pub of_kind : (bytes : List ℕ) → known.holds at (known.real at out) ≡ Some (Some bytes) → begins_as_sums bytes ≡ true
 
 -- it is the folder or in it, or a new file that is to go there may be, whose name begins with this
 abbrev pub IsNear : List ℕ → List ℕ → List ℕ → Type 0
@@ -143,6 +143,6 @@ abbrev pub IsNoManifest : Option (Option (List ℕ)) → Type 0
 IsNoManifest held = (held ≢ Some None) × ((bytes : List ℕ) → held ≡ Some (Some bytes) → begins_as_sums bytes ≡ false)
 
 -- an input leads there, or it is near the folder, or near where the folder's path leads, or what is no file may be there, or a file that does not begin as a manifest is
-abbrev pub IsSparedManifest : (List ℕ → Option (Option (List ℕ))) → (List ℕ → List ℕ) → (List ℕ → Type 0) → List (List ℕ) → List (List ℕ) → List ℕ → List ℕ → Type 0
-IsSparedManifest holds real in_place files parts folder out = SomeLeads real (real out) parts ⊎ SomeLeads real (real out) files ⊎ IsNear folder (real out) (real out ++ codes ".unfinished") ⊎
-    IsNear (real (bare folder)) (real out) (real out ++ codes ".unfinished") ⊎ in_place out ⊎ IsNoManifest (holds (real out))
+abbrev pub IsSparedManifest : {F I M S W : Type 0} → Ghosts F I M S W → F → List (List ℕ) → List (List ℕ) → List ℕ → List ℕ → Type 0
+IsSparedManifest known at files parts folder out = SomeLeads known at out parts ⊎ SomeLeads known at out files ⊎ IsNear folder (known.real at out) (known.real at out ++ codes ".unfinished") ⊎
+    IsNear (known.real at (bare folder)) (known.real at out) (known.real at out ++ codes ".unfinished") ⊎ known.in_place at out ⊎ IsNoManifest (known.holds at (known.real at out))

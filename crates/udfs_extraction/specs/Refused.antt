@@ -171,7 +171,7 @@ module _ {F I M S W : Type 0} (reach : Reach F I M S W) (old : F) (r : ExtractRe
   -- the manifest's place was spared, or what is there could not be seen, or the folder's path leads nowhere
   abbrev pub IsPlaceRefused : Refusal → Type 0
   IsPlaceRefused refusal = MatchOption r.manifest ⊥ (λ path.
-      ((refusal ≡ Spared) × (reach.files.tells → IsSparedManifest (reach.files.holds old) (reach.files.real old) (reach.files.in_place old) (texts r.volume.inputs.files.items) (texts r.volume.inputs.parts.items) r.folder.now path.now)) ⊎
+      ((refusal ≡ Spared) × (reach.files.tells → IsSparedManifest reach.files old (texts r.volume.inputs.files.items) (texts r.volume.inputs.parts.items) r.folder.now path.now)) ⊎
       ((refusal ≡ Output) × MayNotBeSeen (reach.files.shut old) (Fails reach.read_faults) (texts r.volume.inputs.files.items) (texts r.volume.inputs.parts.items) path.now) ⊎
       ((refusal ≡ Folder) × reach.files.shut old (bare r.folder.now)))
 

@@ -9,7 +9,7 @@
 --     IsOfPut puts q                  the path of a file among these that was written
 --     SparesRun .. before after       no file that was there changes, nor any path but those of nodes that are asked for, whatever crashes
 --     RunsOn .. first before after    nodes from some index on have their fates, and their lines where the output took all before them
-use Rattle.std.specs.Prelude.{◌≡◌, ◌≢◌, ◌⊎◌, ℕ, ◌+◌, Bool, true, false, List, Option, Some, drop, length, slice_get, string_bytes}
+use Rattle.std.specs.Prelude.{◌≡◌, ◌≢◌, ◌⊎◌, ℕ, ◌+◌, Bool, true, false, List, Option, Some, drop, slice_get, string_bytes}
 use Rattle.udfs_common.specs.Keeping.{IsKept}
 use Rattle.udfs_files.specs.Disk.{Disk, Fails, Goes, SinkFails, folder_of}
 use Rattle.udfs_files.specs.declared.files.Files.{Ghosts}

@@ -188,9 +188,9 @@ pub fn find_manifest<F: Files>(
     files: &F,
 ) -> Result<String, Refusal>
     ensures leads { IfOk result (λ place. F.tells → string_bytes place ≡ F.real files.now out.now) }
-    ensures free { IfOk result (λ place. F.tells → IsFreeManifest (F.holds files.now) (F.real files.now) (map (λ path. path.now) inputs.now) (map (λ path. path.now) parts.now) folder.now out.now) }
+    ensures free { IfOk result (λ place. F.tells → IsFreeManifest F.Files files.now (map (λ path. path.now) inputs.now) (map (λ path. path.now) parts.now) folder.now out.now) }
     ensures told { IfErr result (λ refusal. (refusal ≡ Refusal.Output) ⊎ (refusal ≡ Refusal.Spared) ⊎ (refusal ≡ Refusal.Folder) ⊎ (refusal ≡ Refusal.Memory alloc_error)) }
-    ensures spared { IsErrOf result Refusal.Spared → F.tells → IsSparedManifest (F.holds files.now) (F.real files.now) (F.in_place files.now) (map (λ path. path.now) inputs.now) (map (λ path. path.now) parts.now) folder.now out.now }
+    ensures spared { IsErrOf result Refusal.Spared → F.tells → IsSparedManifest F.Files files.now (map (λ path. path.now) inputs.now) (map (λ path. path.now) parts.now) folder.now out.now }
     ensures cause { IsErrOf result Refusal.Output → MayNotBeSeen (F.shut files.now) (Fails F.Input.faults) (map (λ path. path.now) inputs.now) (map (λ path. path.now) parts.now) out.now }
     ensures unmade { IsErrOf result Refusal.Folder → F.shut files.now (bare folder.now) }
 {
@@ -199,7 +199,7 @@ pub fn find_manifest<F: Files>(
         Ok(Err(DeviceFault)) => return Err(Refusal::Output),
         Err(AllocError) => return Err(Refusal::Memory(AllocError)),
     };
-    match is_no_input(alloc, inputs, parts, target.path.as_str(), files) {
+    match is_no_input(alloc, inputs, parts, &target, files) {
         Ok(()) => {}
         Err(refusal) => return Err(refusal),
     }

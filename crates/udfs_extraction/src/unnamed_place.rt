@@ -17,7 +17,7 @@ pub fn find_new_folder<F: Files>(
     folder: &str,
     files: &F,
 ) -> Result<(), Refusal>
-    ensures free { OnOk result (F.tells → IsNewFolder (F.holds files.now) (F.real files.now) (map (λ path. path.now) others.now) folder.now) }
+    ensures free { OnOk result (F.tells → IsNewFolder F.Files files.now (map (λ path. path.now) others.now) folder.now) }
     ensures told { IfErr result (λ refusal. (refusal ≡ Refusal.LostSpared) ⊎ (refusal ≡ Refusal.Memory alloc_error)) }
 {
     let target = match files.resolve(alloc, folder, Aim::Writing) {
@@ -29,7 +29,7 @@ pub fn find_new_folder<F: Files>(
         Kind::Absent => {}
         Kind::Regular | Kind::Other => return Err(Refusal::LostSpared),
     }
-    match is_among(alloc, others, target.path.as_str(), files) {
+    match is_among(alloc, others, &target, files) {
         Ok(Ok(false)) => Ok(()),
         Ok(_) => Err(Refusal::LostSpared),
         Err(AllocError) => Err(Refusal::Memory(AllocError)),

@@ -1,5 +1,5 @@
 -- Names behind a hole: what is behind the front of a directory, and the entries at each multiple of 4.
-use Rattle.std.proofs.Common.{◌≡◌, refl, sym, ◌∙◌, ap, ℕ, ◌+◌, ◌*◌, ◌-◌, ◌<◌, ◌≤◌, Bool, true, false, List, [], ◌∷◌, length, take, drop, map, arith, Option, Some, None, cond, nat_lt, nat_le}
+use Rattle.std.proofs.Common.{◌≡◌, refl, sym, ◌∙◌, ap, ℕ, ◌+◌, ◌*◌, ◌-◌, ◌<◌, ◌≤◌, true, false, List, [], ◌∷◌, length, take, drop, map, arith, Option, Some, None, cond, nat_lt, nat_le}
 use Rattle.std.specs.Prelude.{zero, suc, sum_by, filter_map, Result, Ok, Err, OnErr}
 use Rattle.std.specs.List.{AllZip, cons_option, range_with_len}
 use Rattle.std.proofs.lemmas.List.{drop-drop, length-drop}
@@ -14,7 +14,7 @@ use Rattle.udfs_file.specs.Fronts.{directory, step, step_by, value}
 use Rattle.udfs_file.specs.FoundNames.{FoundNamesAreThere, behind_front, covered_entry, crc_length, entries_in, entry_in}
 use Rattle.udfs_file.specs.Laws.{IsCellOf}
 use Rattle.udfs_file.specs.Identifiers.{Identifier, Rest, Step, AtRest, One, Stopped}
-use Rattle.udfs_file.specs.Steps.{HasFirstBytes, IsDescriptor, IsListedIn, IsStep, StepIs, StepsTo, bytes_of, is_id}
+use Rattle.udfs_file.specs.Steps.{HasFirstBytes, IsListedIn, IsStep, StepIs, StepsTo, bytes_of, is_id}
 use Rattle.udfs_file.proofs.PartFronts.{AllZip-drop, AllZip-take, none_missing, step_is, step_same, step_stop}
 use Rattle.udfs_file.proofs.PartFronts as parts
 use Rattle.udfs_file.proofs.Reached.{step_clear, step_one as clean_one}

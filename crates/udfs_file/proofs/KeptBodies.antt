@@ -5,7 +5,7 @@ use Rattle.udfs_tag.specs.declared.layouts.LongAd.{LongAd}
 use Rattle.udfs_space.specs.Places.{View}
 use Rattle.udfs_volume.specs.declared.profiles.Profile.{Profile}
 use Rattle.udfs_volume.specs.declared.profiles.Profile.TheVariants.{Strict, Wide}
-use Rattle.udfs_file.specs.Bodies.{descriptors_in, up_to_next, next_descriptor, next_of, joined, chain, cells, listed_body, extents_body, extents_body_by, embedded_body, body}
+use Rattle.udfs_file.specs.Bodies.{Descriptors, descriptors_in, up_to_next, next_descriptor, next_of, joined, chain, cells, listed_body, extents_body, extents_body_by, embedded_body, body}
 use Rattle.udfs_file.specs.Laws.{TailKeepsBodies, by_profile}
 use Rattle.udfs_file.specs.declared.cells.Cell.{Cell}
 use Rattle.udfs_file.proofs.Tails.{tail_same}
@@ -17,9 +17,17 @@ chain_kept t s u v form r zero area = refl
 chain_kept t s u v form r (suc left) area = let ds : List LongAd = descriptors_in t form r area in
     λ i. joined (up_to_next ds) (next_of (by_profile s v) form false (next_descriptor ds)) (λ a. chain_kept t s u v form r left a i)
 
+-- nor does what they give (the number of continuations is left open here, since 256 of them would be computed where it is not)
+extents_same : (v : View) (size : ℕ) (ds : Descriptors) → extents_body (by_profile Strict v) size ds ≡ extents_body (by_profile Wide v) size ds
+extents_same v size ds = refl
+
+chained_kept : (v : View) (form r size most : ℕ) (area : List ℕ) → extents_body (by_profile Strict v) size (chain false (by_profile Strict v) form r most area) ≡ extents_body (by_profile Wide v) size (chain false (by_profile Wide v) form r most area)
+chained_kept v form r size most area =
+    ap (extents_body (by_profile Strict v) size) (chain_kept false Strict Wide v form r most area) ∙ extents_same v size (chain false (by_profile Wide v) form r most area)
+
 listed_kept : (v : View) (form r size : ℕ) (area : List ℕ) → listed_body false (by_profile Strict v) form r size area ≡ listed_body false (by_profile Wide v) form r size area
 unfolding listed_body
-listed_kept v form r size area = ap (extents_body (by_profile Strict v) size) (chain_kept false Strict Wide v form r 256 area)
+listed_kept v form r size area = chained_kept v form r size 256 area
 
 extents_kept : (v : View) (form r size : ℕ) (area : List ℕ) (cs : List Cell) → extents_body_by (by_profile Strict v) form r size area ≡ cells cs → extents_body_by (by_profile Wide v) form r size area ≡ cells cs
 extents_kept v form r size area cs e = tails.with_tail (by_profile Wide v) form r size area cs refl

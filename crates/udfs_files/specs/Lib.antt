@@ -1,4 +1,5 @@
 pub mod Disk
+pub mod Identities
 pub mod Jobs
 pub mod Leading
 pub mod Opened

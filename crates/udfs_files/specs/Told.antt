@@ -5,15 +5,18 @@
 --     LogGoes old new step            from an old log to a new one a crash leaves what it might have left before, after this step
 --     Settles old new folder          whatever a crash leaves now, each path of this folder has what was held there before
 --     IsLedInPlace .. path            some path that leads to the same says that it is no regular file
+--     identity_by log numbers path    the numbers of the file that a path names
+--     NameOneFile log p q             two paths name one file
 --     path_of last                    the path of the folder that was made last, where its name may not be on the disk
 use Rattle.std.proofs.Common.{inl, ⊎_elim, subst, arith}
 use Rattle.std.specs.Coded.{Coded-set, coded_bool, Π_prop, Unit-prop}
-use Rattle.std.specs.Prelude.{◌≡◌, ℕ, List, [], ◌∷◌, length, Option, Some, None, string_bytes, true, if◌then◌else◌, ⊤}
+use Rattle.std.specs.Prelude.{◌≡◌, ℕ, List, [], ◌∷◌, length, Option, Some, None, option_map, string_bytes, true, if◌then◌else◌, ⊤}
 use Rattle.udfs_calls.proofs.PublicLaws.{a_crash_leaves_something}
 use Rattle.udfs_calls.specs.Lawful.{IsLawfulLog}
-use Rattle.udfs_calls.specs.Log.{AreNamed, Call, Start, Log, holds, is_named, kept_of, moment_of, outcome, outcome_since}
+use Rattle.udfs_calls.specs.Log.{AreNamed, Call, Names, Node, Start, Log, holds, is_named, kept_of, moment_of, node_at, outcome, outcome_since}
 use Rattle.udfs_calls.specs.Paths.{parent}
 use Rattle.udfs_files.specs.Disk.{Disk, Goes}
+use Rattle.udfs_files.specs.declared.files.Identity.{Identity}
 use Rattle.udfs_files.specs.declared.folders.LastFolder.{LastFolder}
 
 -- what a crash may leave of what is at a path, were its name on the disk: what it holds, and anything where that is not known
@@ -42,6 +45,19 @@ Settles old new folder = (c : Disk) (q : List ℕ) → left_by new c → parent 
 abbrev pub IsLedInPlace : (List ℕ → List ℕ) → (List ℕ → Type 0) → List ℕ → Type 0
 IsLedInPlace real in_place path = (q : List ℕ) × (real q ≡ real path) × in_place q
 
+-- the numbers of a file's device and of the file on it, as an identity
+abbrev pub identity_of : ℕ × ℕ → Identity
+identity_of numbers = record { device = numbers.0; inode = numbers.1 }
+
+-- the numbers of the file that a path names, where the log is known
+abbrev pub identity_by : Option Log → (Node → ℕ × ℕ) → List ℕ → Option Identity
+identity_by None numbers p = None
+identity_by (Some log) numbers p = option_map (λ node. identity_of (numbers node)) (node_at log.start log.calls p)
+
+-- two paths name one file
+abbrev pub NameOneFile : Option Log → List ℕ → List ℕ → Type 0
+NameOneFile log p q = (node : Node) × Names log p (Some node) × Names log q (Some node)
+
 -- the path of the folder that was made last, where its name may not be on the disk
 abbrev pub path_of : LastFolder → Option (List ℕ)
 path_of last = if last.waits then Some (string_bytes last.path) else None
@@ -69,6 +85,7 @@ now_counts : (start : Start) (calls : List Call) (t : ℕ) (c : Disk) → outcom
 now_counts start [] t c now = now
 now_counts start (call ∷ calls) t c now = inl now
 
+-- what a crash may leave now is among what one might have left since an earlier moment
 pub log_counts_now : (log : Option Log) (t : ℕ) (c : Disk) → left_by log c → left_since_by log t c
 log_counts_now None t c now = tt
 log_counts_now (Some log) t c now = now_counts log.start log.calls t c now
@@ -78,6 +95,7 @@ now_only : (start : Start) (calls : List Call) (c : Disk) → outcome_since star
 now_only start [] c left = left
 now_only start (call ∷ calls) c left = ⊎_elim (λ now. now) (λ before. absurd (let le = before.0 in omega (arith, le))) left
 
+-- what a crash might have left since the present moment is what it may leave now
 pub log_only_now : (log : Option Log) (c : Disk) → left_since_by log (moment_of log) c → left_by log c
 log_only_now None c left = tt
 log_only_now (Some log) c left = now_only log.start log.calls c left

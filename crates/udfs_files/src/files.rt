@@ -3,7 +3,9 @@
 ghost use Rattle.std.specs.Prelude.{◌≡◌, ◌≢◌, ◌+◌, ◌%◌, ◌^◌, ℕ, ◌≤◌, ◌<◌, List, Option, length, IfOk, IfSome, OnOk, OnErr, Some, None, [], string_bytes};
 ghost use Rattle.std.specs.Io.KnownBytes.{WriteAppends};
 ghost use Rattle.udfs_files.specs.Disk.{Disk, Gone, Same, SameBut, Moved, Goes, folder_of};
+ghost use Rattle.udfs_files.specs.Identities.{IsFileOf};
 ghost use Rattle.udfs_files.specs.Telling.{ToldOrSilent};
+ghost use Rattle.udfs_files.specs.declared.files.Identity.{Identity};
 ghost use Rattle.udfs_files.specs.declared.files.Kind.{Kind};
 ghost use Rattle.udfs_index.specs.Copying.{AreAllTold};
 ghost use Rattle.udfs_reading.specs.Device.{CountsFault};
@@ -45,6 +47,15 @@ pub enum Kind {
     Other,
 }
 
+/// Which file it is, whatever path leads to it: two files have not the same numbers.
+#[derive(Clone, Copy, Debug)]
+pub struct Identity {
+    /// The number of the device that it is on.
+    pub device: u64,
+    /// Its number on that device.
+    pub inode: u64,
+}
+
 /// Where a path leads, every link followed.
 #[derive(Debug, Drop)]
 pub struct Target {
@@ -52,6 +63,8 @@ pub struct Target {
     pub path: String,
     /// What is there.
     pub kind: Kind,
+    /// Which file is there, where it is a regular one and its numbers are known.
+    pub identity: Option<Identity>,
 }
 
 /// What a path is followed for.
@@ -88,6 +101,9 @@ pub trait Files {
 
     /// Where a path leads, every link followed.
     ghost real: { Self → List ℕ → List ℕ };
+
+    /// Which file is at a path without links, where its numbers are known.
+    ghost identity: { Self → List ℕ → Option Identity };
 
     /// The new file of this number is the one at this path, as far as is known: nothing else was put there since it was made.
     ghost is_at: { Self → List ℕ → Option ℕ → Type 0 };
@@ -160,6 +176,7 @@ pub trait Files {
         aim: Aim,
     ) -> Result<Result<Target, DeviceFault>, AllocError>
         ensures leads { IfOk result (λ found. IfOk found (λ target. tells → string_bytes target.path ≡ real self.now path.now)) }
+        ensures same { IfOk result (λ found. IfOk found (λ target. tells → IsFileOf (identity self.now (real self.now path.now)) (in_place self.now path.now) target.identity)) }
         ensures other { IfOk result (λ found. IfOk found (λ target. target.kind ≡ Kind.Other → in_place self.now path.now)) }
         ensures absent { IfOk result (λ found. IfOk found (λ target. target.kind ≡ Kind.Absent → tells → holds self.now (real self.now path.now) ≡ Some None)) }
         ensures fails { IfOk result (λ found. OnErr found (shut self.now path.now)) };

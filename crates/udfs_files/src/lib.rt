@@ -5,6 +5,7 @@
 mod files;
 mod filling;
 mod folders;
+pub mod laws;
 mod machine;
 mod opened;
 mod output;
@@ -14,7 +15,7 @@ mod replacing;
 mod resolving;
 mod watch;
 
-pub use files::{Aim, Files, Handle, Kind, Target};
+pub use files::{Aim, Files, Handle, Identity, Kind, Target};
 pub(crate) use filling::ContentJob;
 pub use filling::{Content, Job, fill, fill_by};
 pub use machine::Machine;

@@ -3,7 +3,7 @@
 ghost use Rattle.std.proofs.Common.{inl, inr, refl, ⊎_elim};
 ghost use Rattle.udfs_calls.specs.Log.{AreNamed, IsAt, IsFresh, holds, moment_of};
 ghost use Rattle.udfs_files.specs.Opened.{all_before, contents_of, told_bytes, told_contents, untold_contents};
-ghost use Rattle.udfs_files.specs.Told.{AreNamed-prop, IsLedInPlace, kept_by, kept_held, kept_none, left_by, left_since_by, log_counts_now, log_only_now, path_of, some_left};
+ghost use Rattle.udfs_files.specs.Told.{AreNamed-prop, IsLedInPlace, identity_by, kept_by, kept_held, kept_none, left_by, left_since_by, log_counts_now, log_only_now, path_of, some_left};
 ghost use Rattle.udfs_reading.specs.Device.{CountsFault};
 ghost use Rattle.std.specs.Prelude.{◌≡◌, Some, None, Ok, IfOk, IsErr, OnErr, ⊤};
 
@@ -100,6 +100,8 @@ impl<'a, C: Calls, R: std::rt::Files + Env + Clock + AllocGlobal, N: Watch> File
     ghost holds = { λ m. holds (C.log m.calls) };
 
     ghost real = { λ m. C.real m.calls };
+
+    ghost identity = { λ m. identity_by (C.log m.calls) (C.identity m.calls) };
 
     ghost is_at = { λ m. IsAt (C.log m.calls) };
 

@@ -3,9 +3,10 @@
 ghost use Rattle.std.specs.Prelude.{◌≡◌, ◌≢◌, None, IfOk, IfSome, IsNone, OnErr, string_bytes};
 ghost use Rattle.udfs_calls.specs.Log.{Names, NamesSome};
 ghost use Rattle.udfs_files.specs.Leading.{LeadsTo};
+ghost use Rattle.udfs_files.specs.Told.{identity_by};
 ghost use Rattle.udfs_files.specs.declared.files.Kind.{Kind};
 
-use crate::files::{Aim, Kind, Target};
+use crate::files::{Aim, Identity, Kind, Target};
 use crate::places::{is_device, is_part, name_in, split};
 use crate::reaching::link_at;
 use crate::watch::{Watch, heeded};
@@ -16,6 +17,14 @@ use udfs_reading::DeviceFault;
 
 /// How many links are followed one after the other, as the system does.
 const LINKS: usize = 40;
+
+/// What is at a path.
+#[derive(Drop)]
+struct There {
+    kind: Kind,
+    /// Which file it is, where it is a regular one.
+    identity: Option<Identity>,
+}
 
 /// Whether a regular file serves what its path is followed for: one that may not be written is a fault where it is to be.
 fn serves<C: Calls, N: Watch>(calls: &C, watch: &N, path: &str, aim: Aim) -> Result<(), DeviceFault>
@@ -31,24 +40,39 @@ fn serves<C: Calls, N: Watch>(calls: &C, watch: &N, path: &str, aim: Aim) -> Res
 }
 
 /// What is at a path. A regular file that may not be written is a fault where it is to be.
-fn kind_at<C: Calls, N: Watch>(
+#[tactic(auto, using(crate::proofs::Leading::no_file))]
+fn what_is_at<C: Calls, N: Watch>(
     calls: &C,
     watch: &N,
     path: &str,
     aim: Aim,
-) -> Result<Kind, DeviceFault>
-    ensures absent { IfOk result (λ kind. kind ≡ Kind.Absent → Names (C.log calls.now) (C.real calls.now path.now) None) }
-    ensures regular { IfOk result (λ kind. kind ≡ Kind.Regular → NamesSome (C.log calls.now) (C.real calls.now path.now)) }
-    ensures other { IfOk result (λ kind. kind ≡ Kind.Other → C.in_place calls.now path.now) }
+) -> Result<There, DeviceFault>
+    ensures absent { IfOk result (λ there. there.kind ≡ Kind.Absent → Names (C.log calls.now) (C.real calls.now path.now) None) }
+    ensures regular { IfOk result (λ there. there.kind ≡ Kind.Regular → NamesSome (C.log calls.now) (C.real calls.now path.now)) }
+    ensures other { IfOk result (λ there. there.kind ≡ Kind.Other → C.in_place calls.now path.now) }
+    ensures file { IfOk result (λ there. there.kind ≢ Kind.Other → C.tells → there.identity ≡ identity_by (C.log calls.now) (C.identity calls.now) (C.real calls.now path.now)) }
+    ensures no_file { IfOk result (λ there. there.kind ≡ Kind.Other → there.identity ≡ None) }
     ensures shut { OnErr result (C.shut calls.now path.now) }
 {
     match calls.about(path) {
         Ok(about) if about.is_file => match serves(calls, watch, path, aim) {
-            Ok(()) => Ok(Kind::Regular),
+            Ok(()) => Ok(There {
+                kind: Kind::Regular,
+                identity: Some(Identity {
+                    device: about.device,
+                    inode: about.inode,
+                }),
+            }),
             Err(fault) => Err(fault),
         },
-        Ok(_) => Ok(Kind::Other),
-        Err(error) if error.kind() == ErrorKind::NotFound => Ok(Kind::Absent),
+        Ok(_) => Ok(There {
+            kind: Kind::Other,
+            identity: None,
+        }),
+        Err(error) if error.kind() == ErrorKind::NotFound => Ok(There {
+            kind: Kind::Absent,
+            identity: None,
+        }),
         Err(error) => {
             watch.failed(error);
             Err(DeviceFault)
@@ -101,18 +125,22 @@ fn settled<C: Calls, N: Watch>(
     path: &str,
     aim: Aim,
 ) -> Result<Result<Target, DeviceFault>, AllocError>
-    ensures { IfOk result (λ found. IfOk found (λ target. C.tells → C.link_at calls.now path.now ≡ None → LeadsTo (C.log calls.now) (C.real calls.now) (C.in_place calls.now) path.now target)) }
+    ensures { IfOk result (λ found. IfOk found (λ target. C.tells → C.link_at calls.now path.now ≡ None → LeadsTo (C.log calls.now) (C.real calls.now) (C.identity calls.now) (C.in_place calls.now) path.now target)) }
 {
-    let kind = match kind_at(calls, watch, path, aim) {
-        Ok(kind) => kind,
+    let there = match what_is_at(calls, watch, path, aim) {
+        Ok(there) => there,
         Err(fault) => return Ok(Err(fault)),
     };
-    let found = match kind {
+    let found = match there.kind {
         Kind::Absent => absent_path(calls, watch, alloc, path)?,
         Kind::Regular | Kind::Other => real_path(calls, watch, alloc, path)?,
     };
     match found {
-        Ok(path) => Ok(Ok(Target { path, kind })),
+        Ok(path) => Ok(Ok(Target {
+            path,
+            kind: there.kind,
+            identity: there.identity,
+        })),
         Err(fault) => Ok(Err(fault)),
     }
 }
@@ -151,7 +179,7 @@ pub(crate) fn resolve<C: Calls, N: Watch>(
     path: &str,
     aim: Aim,
 ) -> Result<Result<Target, DeviceFault>, AllocError>
-    ensures { IfOk result (λ found. IfOk found (λ target. C.tells → LeadsTo (C.log calls.now) (C.real calls.now) (C.in_place calls.now) path.now target)) }
+    ensures { IfOk result (λ found. IfOk found (λ target. C.tells → LeadsTo (C.log calls.now) (C.real calls.now) (C.identity calls.now) (C.in_place calls.now) path.now target)) }
 {
     let mut at = String::from_str(alloc, path)?;
     for _ in 0..LINKS {
@@ -159,6 +187,7 @@ pub(crate) fn resolve<C: Calls, N: Watch>(
             return Ok(Ok(Target {
                 path: at,
                 kind: Kind::Other,
+                identity: None,
             }));
         }
         match next(calls, watch, alloc, at.as_str())? {

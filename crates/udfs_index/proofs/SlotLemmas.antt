@@ -89,6 +89,16 @@ set_in ps n p new slot within was says q false is =
     ap (λ (o : Option Packet). slot_found o (q % 32)) (got_other ps (n / 32) (q / 32) new other)
     ∙ ap (λ (b : Bool). cond b slot (slot_at ps q)) (sym (other_place q n other (q == n) refl))
 
+-- the blocks behind n in its packet
+pub ahead_in : (ps : List Packet) (p : Packet) (n j : ℕ) → slice_get ps (n / 32) ≡ Some p → n % 32 + j < 32 → slot_in p (n % 32 + j) ≡ Unknown → slot_at ps (n + j) ≡ Unknown
+ahead_in ps p n j was near none =
+    let packet : (n + j) / 32 ≡ n / 32 = omega (arith, near) in
+    let place : (n + j) % 32 ≡ n % 32 + j = omega (arith, near) in
+    ap (λ (k : ℕ). slot_found (slice_get ps k) ((n + j) % 32)) packet
+    ∙ ap (λ (o : Option Packet). slot_found o ((n + j) % 32)) was
+    ∙ ap (slot_in p) place
+    ∙ none
+
 -- the packet of block n has changed
 pub slots_set : (old ps : List Packet) (n : ℕ) (p new : Packet) (slot : Slot) → AreSlotsSame old ps → n / 32 < length ps → slice_get ps (n / 32) ≡ Some p → IsSlotSet p (n % 32) slot new → AreSlotsSet old n slot (set ps (n / 32) new)
 slots_set old ps n p new slot same within was says q = set_in ps n p new slot within was says q (q / 32 == n / 32) refl ∙ ap (cond (q == n) slot) (same q)
@@ -144,6 +154,10 @@ none_there [] zero i past = refl
 none_there [] (suc k) i past = refl
 none_there (x ∷ ps) zero i past = absurd (omega (arith, past))
 none_there (x ∷ ps) (suc k) i past = none_there ps k i (omega (arith, past))
+
+-- the blocks behind n, where its packet is not there
+pub ahead_of : (ps : List Packet) (n j : ℕ) → length ps ≤ n / 32 → slot_at ps (n + j) ≡ Unknown
+ahead_of ps n j past = none_there ps ((n + j) / 32) ((n + j) % 32) (omega (arith, past))
 
 unsaid_by : (ps : List Packet) (n q : ℕ) (b : Bool) → (q == n) ≡ b → length ps ≤ n / 32 → slot_at ps q ≡ cond b Unknown (slot_at ps q)
 unsaid_by ps n q true is past = ap (slot_at ps) (eqb-true q n is) ∙ none_there ps (n / 32) (n % 32) past

@@ -27,10 +27,7 @@ impl<'a, S: Stored> BlockStore for Index<'a, S> {
     }
 
     fn unknown_ahead(&self, n: u32) -> u32 {
-        match self.slot(n) {
-            Fact::Unknown => 1,
-            _ => 0,
-        }
+        self.unknown_from(n)
     }
 
     fn read(&self, n: u32) -> Result<Fact<[u8; 2048]>, ReadFault>

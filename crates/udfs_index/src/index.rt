@@ -23,7 +23,7 @@ use crate::places::{NOWHERE, Places, end_of};
 use crate::recorded::{RecordTaker, take_records};
 use crate::stamp::Stamp;
 use crate::stored::{Stored, block_at, fill};
-use crate::{counting, entries, imaging, packing};
+use crate::{counting, entries, imaging, packing, places};
 use std::alloc::{AllocError, Global};
 use udfs_lattice::Fact;
 use udfs_reading::{NotTaken, Sink, Taker};
@@ -85,6 +85,13 @@ impl<'a, S: Stored> Index<'a, S> {
         ensures rest { (n : ℕ) → result ≤ n → n < 4194304 → slot_at self.now.places.packets.items n ≡ Unknown }
     {
         end_of(&self.places.packets)
+    }
+
+    /// A number of consecutive blocks from block `n` on, of none of which anything is said, as many as are seen at one look.
+    pub fn unknown_from(&self, n: u32) -> u32
+        ensures { (j : ℕ) → j < result → slot_at self.now.places.packets.items (n + j) ≡ Unknown }
+    {
+        places::unknown_from(&self.places.packets, n)
     }
 
     /// How many blocks are known.

@@ -1,6 +1,6 @@
 //! The places of 32 blocks.
 
-ghost use Rattle.std.specs.Prelude.{◌≡◌, ◌<◌, ◌==◌, ℕ};
+ghost use Rattle.std.specs.Prelude.{◌≡◌, ◌+◌, ◌<◌, ◌≤◌, ◌==◌, ℕ};
 ghost use Rattle.std.specs.Int.{bit_at};
 ghost use Rattle.udfs_lattice.specs.declared.facts.Fact.TheVariants.{Unknown, Known, Conflict};
 ghost use Rattle.udfs_index.specs.Slots.{IsSlotSet, slot_in, is_placed, is_disputed, settled};
@@ -43,6 +43,25 @@ impl Packet {
             return Fact::Conflict;
         }
         Fact::Unknown
+    }
+
+    /// The number of consecutive unknown blocks from block `i` on, up to the end of the packet.
+    pub fn unknown_from(&self, i: u32) -> u32
+        requires { i < 32 }
+        ensures unknown { (j : ℕ) → j < result → slot_in self.now (i + j) ≡ Unknown }
+        ensures most { i + result ≤ 32 }
+    {
+        if self.known == 0 && self.conflict == 0 {
+            return 32 - i;
+        }
+        let mut count = 0;
+        'slots: while i + count < 32 {
+            if is_set(self.known, i + count) || is_set(self.conflict, i + count) {
+                break 'slots;
+            }
+            count += 1;
+        }
+        count
     }
 
     /// The mask of the known blocks, and that of the blocks in conflict.

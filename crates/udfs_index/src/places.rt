@@ -1,6 +1,6 @@
 //! The places of all blocks.
 
-ghost use Rattle.std.specs.Prelude.{◌≡◌, ◌≤◌, ◌<◌, ℕ, length, [], IfOk, OnOk, OnErr};
+ghost use Rattle.std.specs.Prelude.{◌≡◌, ◌+◌, ◌≤◌, ◌<◌, ℕ, length, [], IfOk, OnOk, OnErr};
 ghost use Rattle.udfs_lattice.specs.declared.facts.Fact.TheVariants.{Unknown, Known, Conflict};
 ghost use Rattle.udfs_index.specs.Slots.{AreSlotsForgotten, AreSlotsSame, AreSlotsSet, AreSlotsSettled, slot_at};
 
@@ -43,6 +43,18 @@ pub fn end_of(packets: &[Packet]) -> u32
         packets.len() as u32 * 32
     } else {
         BLOCKS
+    }
+}
+
+/// A number of consecutive blocks from block `n` on, of none of which packets say anything: up to the end of a packet, or, where
+/// there is none, of the numbers.
+pub fn unknown_from(packets: &[Packet], n: u32) -> u32
+    ensures { (j : ℕ) → j < result → slot_at packets.now (n + j) ≡ Unknown }
+{
+    let number = (n / 32) as usize;
+    match packets.get(number) {
+        Some(packet) => packet.unknown_from(n % 32),
+        None => u32::MAX - n,
     }
 }
 

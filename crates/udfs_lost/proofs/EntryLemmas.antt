@@ -16,6 +16,9 @@ use Rattle.udfs_walk.specs.UnnamedEntries.{address_of}
 use Rattle.udfs_walk.specs.Visits.{AreRefused}
 use Rattle.udfs_walk.specs.declared.answers.NodesError.{NodesError}
 use Rattle.udfs_walk.specs.declared.answers.NodesError.TheVariants.{TooManyPaths, OutOfMemory}
+use Rattle.udfs_walk.specs.GivingUp.{IfTold}
+use Rattle.udfs_walk.specs.declared.answers.NodesGaveUp.{NodesGaveUp}
+use Rattle.udfs_walk.specs.declared.answers.NodesGaveUp.TheVariants as gave_up
 use Rattle.udfs_lost.specs.Entries.{AreEntriesRefused, IsEntryAt, entries_at}
 use Rattle.udfs_lost.specs.Links.{links_at, links_in}
 use Rattle.udfs_lost.specs.Parents.{kind_parent, parent_at, target_parent}
@@ -89,13 +92,21 @@ pub listing_refused : (v : View) (icb : Icb) (bytes : List ℕ) (error : NodesEr
 listing_refused v icb bytes TooManyPaths h x = subst (λ z. 65535 < length z) (something_listed v icb bytes h) x
 listing_refused v icb bytes OutOfMemory h x = tt
 
--- what an error says where it is handed on
-pub refused_by : {A : Type 0} (P : NodesError → Type 0) (r : Result A NodesError) (error : NodesError) → IsErrAnd r (λ e. e ≡ error) → P error → IfErr r P
-refused_by P r error h p = let x = err_from_is_err_and r h in subst (λ z. IfErr z P) (sym (x.1 ∙ ap Err x.2)) p
+-- what holds of an error of a table's walk, where something else holds of it
+pub told_more : (P Q : NodesError → Type 0) → ((e : NodesError) → P e → Q e) → (error : NodesGaveUp) → IfTold P error → IfTold Q error
+told_more P Q f gave_up.TooManyPaths p = f TooManyPaths p
+told_more P Q f gave_up.OutOfMemory p = f OutOfMemory p
+told_more P Q f gave_up.Unread p = tt
+
+-- what an error says where it is handed on, of what a store tells only under a condition
+pub refused_on : {A : Type 0} (Told : Type 0) (P Q : NodesError → Type 0) (r : Result A NodesGaveUp) (error : NodesGaveUp) → IsErrAnd r (λ e. e ≡ error)
+    → (Told → (e : NodesError) → P e → Q e) → (Told → IfTold P error) → IfErr r (λ e. Told → IfTold Q e)
+refused_on Told P Q r error h f p = let x = err_from_is_err_and r h in subst (λ z. IfErr z (λ e. Told → IfTold Q e)) (sym (x.1 ∙ ap Err x.2)) (λ told. told_more P Q (f told) error (p told))
 
 -- the same where the other outcome has a clause too
-pub refused_in : {A : Type 0} (T : A → Type 0) (P : NodesError → Type 0) (r : Result A NodesError) (error : NodesError) → IsErrAnd r (λ e. e ≡ error) → P error → MatchResult r T P
-refused_in T P r error h p = let x = err_from_is_err_and r h in subst (λ z. MatchResult z T P) (sym (x.1 ∙ ap Err x.2)) p
+pub refused_in : {A : Type 0} (T : A → Type 0) (P Q : NodesError → Type 0) (r : Result A NodesGaveUp) (error : NodesGaveUp) → IsErrAnd r (λ e. e ≡ error)
+    → ((e : NodesError) → P e → Q e) → IfTold P error → MatchResult r T (IfTold Q)
+refused_in T P Q r error h f p = let x = err_from_is_err_and r h in subst (λ z. MatchResult z T (IfTold Q)) (sym (x.1 ∙ ap Err x.2)) (told_more P Q f error p)
 
 -- ---- the parent
 pub no_parent : (v : View) (icb : Icb) → IsEntryAt v icb None → None ≡ parent_at v icb

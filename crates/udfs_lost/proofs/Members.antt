@@ -126,6 +126,10 @@ no_items (x ∷ xs) e = absurd (let z : ⊥ = omega (arith, e) in z)
 pub popped : {A : Type 0} (left less : List A) (y x : A) → left ≡ less ++ y ∷ [] → Contains less x → Contains left x
 popped left less y x e c = contained left x (subst (λ z. Includes z x) (sym e) (in_front less (y ∷ []) x (included less x c)))
 
+-- what was taken from the end was in the whole
+pub last_in : {A : Type 0} (left less : List A) (y : A) → left ≡ less ++ y ∷ [] → Contains left y
+last_in left less y e = contained left y (subst (λ z. Includes z y) (sym e) (in_last less y))
+
 -- ---- each is so to each later one
 abbrev pub Rises : {A : Type 0} → (A → A → Type 0) → List A → Type 0
 Rises R [] = ⊤

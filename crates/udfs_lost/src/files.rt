@@ -1,10 +1,10 @@
 //! Lost files: files that no known name leads to, not even in a lost folder.
 
-ghost use Rattle.std.specs.Prelude.{◌≡◌, ◌&&◌, ◌||◌, IfOk, map, not};
+ghost use Rattle.std.specs.Prelude.{◌≡◌, ◌&&◌, ◌||◌, IfOk, IsErrOf, OnErr, map, not};
 ghost use Rattle.std.specs.List.{list_any};
 ghost use Rattle.udfs_lattice.specs.Volumes.{Blocks};
 ghost use Rattle.udfs_space.specs.Places.{view};
-ghost use Rattle.udfs_space.specs.Views.{view_now};
+ghost use Rattle.udfs_space.specs.Views.{view_by, view_now};
 ghost use Rattle.udfs_walk.specs.Targets.{Icb, is_icb};
 ghost use Rattle.udfs_walk.specs.UnnamedEntries.{names};
 ghost use Rattle.udfs_lost.specs.Folders.{icb_of_entry, is_taken};
@@ -16,8 +16,9 @@ use crate::trees::LostTree;
 use std::alloc::{AllocError, Global};
 use udfs_file::Kind;
 use udfs_file::file_sets::address_fault;
+use udfs_lattice::{BlockStore, GaveUp, ReadFault};
 use udfs_osta::OutOfMemory;
-use udfs_space::{Space, View};
+use udfs_space::{Space, StoreView, View};
 use udfs_tag::LbAddr;
 use udfs_walk::{Node, Unnamed};
 
@@ -57,10 +58,20 @@ fn named_in(alloc: Global, space: &Space, trees: &[LostTree]) -> Result<Met, All
 }
 
 /// Whether an entry that no name leads to is a lost file, where these are the information control blocks that lost trees name.
-fn is_lost(view: View<'_>, deleted: bool, named: &Met, entry: &Unnamed) -> bool
-    ensures { result ≡ (is_file entry.now.kind && is_taken (view_now view.entry) deleted entry.now && not (list_any (is_icb (icb_of_entry entry.now)) named.now)) }
+fn is_lost<B: BlockStore>(
+    view: StoreView<'_, B>,
+    deleted: bool,
+    named: &Met,
+    entry: &Unnamed,
+) -> Result<bool, ReadFault>
+    ensures value { IfOk result (λ lost. B.tells → lost ≡ (is_file entry.now.kind && is_taken (view_by B.states view.entry) deleted entry.now && not (list_any (is_icb (icb_of_entry entry.now)) named.now))) }
+    ensures fails { OnErr result B.fails }
 {
-    is_file(entry.kind) && is_taken(view, deleted, entry) && !named.contains(entry.address())
+    if !is_file(entry.kind) {
+        return Ok(false);
+    }
+    let taken = is_taken(view, deleted, entry)?;
+    Ok(taken && !named.contains(entry.address()))
 }
 
 /// The lost files among entries that no name leads to: files of link count above 0, or, with `deleted`, of any, that no node of
@@ -78,10 +89,37 @@ pub fn lost_files<'a>(
 ) -> Result<Vec<&'a Unnamed>, OutOfMemory>
     ensures { IfOk result (λ files. map (λ file. file.now) files.items ≡ lost_files (view_now view.entry) deleted trees.now entries.now) }
 {
+    let stored = StoreView {
+        blocks: view.table,
+        space: view.space,
+    };
+    match lost_files_by(alloc, stored, deleted, trees, entries) {
+        Ok(files) => Ok(files),
+        Err(GaveUp::OutOfMemory) => Err(AllocError),
+        Err(GaveUp::Unread) => unreachable!(),
+    }
+}
+
+/// The same as [`lost_files`], by any store of blocks.
+///
+/// # Errors
+///
+/// `OutOfMemory` where memory runs out, and `Unread` where the bytes of a known block could not be read.
+pub fn lost_files_by<'a, B: BlockStore>(
+    alloc: Global,
+    view: StoreView<'_, B>,
+    deleted: bool,
+    trees: &[LostTree],
+    entries: &'a [Unnamed],
+) -> Result<Vec<&'a Unnamed>, GaveUp>
+    ensures value { IfOk result (λ files. B.tells → map (λ file. file.now) files.items ≡ lost_files (view_by B.states view.entry) deleted trees.now entries.now) }
+    ensures fails { IsErrOf result GaveUp.Unread → B.fails }
+{
     let named = named_in(alloc, view.space, trees)?;
     let mut files = Vec::new(alloc);
     for entry in entries {
-        if is_lost(view, deleted, &named, entry) {
+        let lost = is_lost(view, deleted, &named, entry)?;
+        if lost {
             files.push(entry)?;
         }
     }

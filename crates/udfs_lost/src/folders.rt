@@ -1,16 +1,18 @@
 //! Lost folders: directories that no known name leads to.
 
-ghost use Rattle.std.specs.Prelude.{◌≡◌, IfErr, IfOk};
-ghost use Rattle.udfs_space.specs.Views.{view_now};
+ghost use Rattle.std.specs.Prelude.{◌≡◌, IfErr, IfOk, IsErrOf, OnErr};
+ghost use Rattle.udfs_space.specs.Views.{view_by, view_now};
+ghost use Rattle.udfs_walk.specs.GivingUp.{IfTold};
 ghost use Rattle.udfs_lost.specs.Folders.{AreLostRoots, IsRootsRefused, is_directory, is_lost_folder, lost_folders};
 
 use crate::links::is_taken;
 use crate::search::roots;
-use std::alloc::{AllocError, Global};
+use std::alloc::Global;
 use udfs_file::Kind;
-use udfs_space::View;
+use udfs_lattice::{BlockStore, GaveUp, ReadFault};
+use udfs_space::{StoreView, View};
 use udfs_tag::LbAddr;
-use udfs_walk::{NodesError, Unnamed};
+use udfs_walk::{NodesError, NodesGaveUp, Unnamed};
 
 /// Whether it is a directory.
 pub(crate) fn is_directory(kind: Kind) -> bool
@@ -24,24 +26,38 @@ pub(crate) fn is_directory(kind: Kind) -> bool
 
 /// Whether an entry that no name leads to is a lost folder: a directory of link count above 0, or, with deleted ones, any
 /// directory. It takes no memory.
-pub fn is_lost_folder(view: View<'_>, deleted: bool, entry: &Unnamed) -> bool
-    ensures { result ≡ is_lost_folder (view_now view.entry) deleted entry.now }
+///
+/// # Errors
+///
+/// `ReadFault` where the bytes of the entry's block could not be read.
+pub fn is_lost_folder<B: BlockStore>(
+    view: StoreView<'_, B>,
+    deleted: bool,
+    entry: &Unnamed,
+) -> Result<bool, ReadFault>
+    ensures value { IfOk result (λ lost. B.tells → lost ≡ is_lost_folder (view_by B.states view.entry) deleted entry.now) }
+    ensures fails { OnErr result B.fails }
 {
-    is_directory(entry.kind) && is_taken(view, deleted, entry)
+    if !is_directory(entry.kind) {
+        return Ok(false);
+    }
+    is_taken(view, deleted, entry)
 }
 
 /// The lost folders among entries that no name leads to.
-fn lost_folders(
+fn lost_folders<B: BlockStore>(
     alloc: Global,
-    view: View<'_>,
+    view: StoreView<'_, B>,
     deleted: bool,
     entries: &[Unnamed],
-) -> Result<Vec<LbAddr>, AllocError>
-    ensures { IfOk result (λ folders. folders.items ≡ lost_folders (view_now view.entry) deleted entries.now) }
+) -> Result<Vec<LbAddr>, GaveUp>
+    ensures value { IfOk result (λ folders. B.tells → folders.items ≡ lost_folders (view_by B.states view.entry) deleted entries.now) }
+    ensures fails { IsErrOf result GaveUp.Unread → B.fails }
 {
     let mut folders = Vec::new(alloc);
     for entry in entries {
-        if is_lost_folder(view, deleted, entry) {
+        let lost = is_lost_folder(view, deleted, entry)?;
+        if lost {
             folders.push(entry.address())?;
         }
     }
@@ -67,6 +83,33 @@ pub fn lost_roots(
 ) -> Result<Vec<LbAddr>, NodesError>
     ensures roots { IfOk result (λ roots. AreLostRoots (view_now view.entry) (lost_folders (view_now view.entry) deleted entries.now) roots.items) }
     ensures refused { IfErr result (IsRootsRefused (view_now view.entry) (lost_folders (view_now view.entry) deleted entries.now)) }
+{
+    let stored = StoreView {
+        blocks: view.table,
+        space: view.space,
+    };
+    match lost_roots_by(alloc, stored, deleted, entries) {
+        Ok(roots) => Ok(roots),
+        Err(NodesGaveUp::TooManyPaths) => Err(NodesError::TooManyPaths),
+        Err(NodesGaveUp::OutOfMemory) => Err(NodesError::OutOfMemory),
+        Err(NodesGaveUp::Unread) => unreachable!(),
+    }
+}
+
+/// The same as [`lost_roots`], by any store of blocks.
+///
+/// # Errors
+///
+/// As those of [`lost_roots`], and `Unread` where the bytes of a known block could not be read.
+pub fn lost_roots_by<B: BlockStore>(
+    alloc: Global,
+    view: StoreView<'_, B>,
+    deleted: bool,
+    entries: &[Unnamed],
+) -> Result<Vec<LbAddr>, NodesGaveUp>
+    ensures roots { IfOk result (λ roots. B.tells → AreLostRoots (view_by B.states view.entry) (lost_folders (view_by B.states view.entry) deleted entries.now) roots.items) }
+    ensures refused { IfErr result (λ e. B.tells → IfTold (IsRootsRefused (view_by B.states view.entry) (lost_folders (view_by B.states view.entry) deleted entries.now)) e) }
+    ensures fails { IsErrOf result NodesGaveUp.Unread → B.fails }
 {
     let mut folders = lost_folders(alloc, view, deleted, entries)?;
     folders.sort_unstable_by_key(|icb| icb.number());

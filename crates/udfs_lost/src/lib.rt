@@ -20,11 +20,11 @@ mod search;
 pub mod trees;
 pub mod unplaced_entries;
 
-pub use files::lost_files;
-pub use folders::lost_roots;
+pub use files::{lost_files, lost_files_by};
+pub use folders::{lost_roots, lost_roots_by};
 pub use links::link_count;
 pub use names_behind::{FoundName, found_names, torn_folders};
-pub use parents::parent;
-pub use placed::{PlacedVolume, placed_volume};
-pub use trees::{LostTree, lost_trees};
+pub use parents::{parent, parent_by};
+pub use placed::{PlacedVolume, placed_volume, placed_volume_by};
+pub use trees::{LostTree, lost_trees, lost_trees_by};
 pub use unplaced_entries::{Unplaced, unplaced_in};

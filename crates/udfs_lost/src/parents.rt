@@ -1,31 +1,41 @@
 //! The directory in which a directory is, as it says itself (ECMA-167 4/14.4.3).
 
-ghost use Rattle.std.specs.Prelude.{◌≡◌, ◌≤◌, MatchOption, None, Some, length, nat_le, ◌&&◌};
-ghost use Rattle.udfs_space.specs.Views.{view_now};
+ghost use Rattle.std.specs.Prelude.{◌≡◌, ◌≤◌, IfOk, MatchOption, None, OnErr, Some, length, nat_le, option_and_then, ◌&&◌};
+ghost use Rattle.udfs_space.specs.Views.{view_by, view_now};
 ghost use Rattle.udfs_tag.specs.Tags.{is_valid};
 ghost use Rattle.udfs_file.specs.Entries.{entry_of};
-ghost use Rattle.udfs_lost.specs.Parents.{body_front, extent_front, first_extent, is_parent, kind_parent, parent_at, parent_in, place_by};
+ghost use Rattle.udfs_lost.specs.Parents.{extent_front, first_extent, is_parent, kind_parent, parent_at, parent_in, place_by};
 
 use crate::entries::entry_at;
 use byteorder::{ByteOrder, LittleEndian};
 use udfs_file::{Entry, Kind};
-use udfs_lattice::Fact;
-use udfs_space::View;
+use udfs_lattice::{BlockStore, Fact, ReadFault};
+use udfs_space::{StoreView, View};
 use udfs_tag::{LbAddr, LongAd, ShortAd, Tag, extent_types, identifiers};
 use udfs_volume::Profile;
 
-/// The bytes of a logical block where an extent begins, if something is recorded there and the block is known.
-fn extent_front<'a>(view: View<'a>, extent: LongAd) -> Option<(u32, &'a [u8])>
-    ensures { MatchOption result (extent_front (view_now view.entry) extent ≡ None) (λ held. extent_front (view_now view.entry) extent ≡ Some (held.0, held.1.now)) }
+/// The bytes of a logical block where an extent begins, if something is recorded there and the block is known. They are lent from the
+/// store's memory, or from `room`.
+fn extent_front<'r, 'a, B: BlockStore>(
+    view: StoreView<'a, B>,
+    extent: LongAd,
+    room: &'r mut [u8; 2048],
+) -> Result<Option<(u32, &'r [u8])>, ReadFault>
+where
+    'a: 'r,
+    ensures value { IfOk result (λ found. B.tells → MatchOption found (extent_front (view_by B.states view.entry) extent ≡ None) (λ held. extent_front (view_by B.states view.entry) extent ≡ Some (held.0, held.1.now))) }
+    ensures fails { OnErr result B.fails }
 {
     if extent.kind != extent_types::RECORDED || extent.length == 0 {
-        return None;
+        return Ok(None);
     }
-    match view.block_at(extent.address()) {
-        Some((_, Fact::Known(bytes))) => Some((extent.block, bytes)),
-        Some((_, Fact::Unknown)) => None,
-        Some((_, Fact::Conflict)) => None,
-        None => None,
+    match view.block_at(extent.address(), room)? {
+        None => Ok(None),
+        Some((_, fact)) => match fact {
+            Fact::Unknown => Ok(None),
+            Fact::Conflict => Ok(None),
+            Fact::Known(bytes) => Ok(Some((extent.block, bytes))),
+        },
     }
 }
 
@@ -86,29 +96,39 @@ fn parent_in(profile: Profile, block: u32, bytes: &[u8]) -> Option<LongAd>
     }
 }
 
-/// The bytes with which the body of an entry begins, and the logical block that holds them.
-fn body_front<'a>(view: View<'a>, entry: &Entry<'a>, icb: LbAddr) -> Option<(u32, &'a [u8])>
-    ensures { MatchOption result (body_front (view_now view.entry) icb (entry_of entry.now) ≡ None) (λ held. body_front (view_now view.entry) icb (entry_of entry.now) ≡ Some (held.0, held.1.now)) }
+/// The address in the parent's descriptor at the beginning of an extent, if it is one.
+fn extent_parent<B: BlockStore>(
+    view: StoreView<'_, B>,
+    extent: LongAd,
+) -> Result<Option<LongAd>, ReadFault>
+    ensures value { IfOk result (λ found. B.tells → found ≡ option_and_then (parent_in (view_by B.states view.entry).profile) (extent_front (view_by B.states view.entry) extent)) }
+    ensures fails { OnErr result B.fails }
 {
-    if entry.form() == 3 {
-        return Some((icb.block, entry.area()));
-    }
-    match first_extent(entry, icb.reference) {
-        None => None,
-        Some(extent) => extent_front(view, extent),
+    let mut room = [0; 2048];
+    match extent_front(view, extent, &mut room)? {
+        None => Ok(None),
+        Some((block, bytes)) => Ok(parent_in(view.space.profile(), block, bytes)),
     }
 }
 
 /// The address in the parent's descriptor of an entry, if it is a directory's.
-fn entry_parent<'a>(view: View<'a>, entry: &Entry<'a>, icb: LbAddr) -> Option<LongAd>
-    ensures { result ≡ kind_parent (view_now view.entry) icb (entry_of entry.now) (entry_of entry.now).kind }
+fn entry_parent<B: BlockStore>(
+    view: StoreView<'_, B>,
+    entry: &Entry<'_>,
+    icb: LbAddr,
+) -> Result<Option<LongAd>, ReadFault>
+    ensures value { IfOk result (λ found. B.tells → found ≡ kind_parent (view_by B.states view.entry) icb (entry_of entry.now) (entry_of entry.now).kind) }
+    ensures fails { OnErr result B.fails }
 {
     let Kind::Directory = entry.kind() else {
-        return None;
+        return Ok(None);
     };
-    match body_front(view, entry, icb) {
-        None => None,
-        Some((block, bytes)) => parent_in(view.space.profile(), block, bytes),
+    if entry.form() == 3 {
+        return Ok(parent_in(view.space.profile(), icb.block, entry.area()));
+    }
+    match first_extent(entry, icb.reference) {
+        None => Ok(None),
+        Some(extent) => extent_parent(view, extent),
     }
 }
 
@@ -117,8 +137,31 @@ fn entry_parent<'a>(view: View<'a>, entry: &Entry<'a>, icb: LbAddr) -> Option<Lo
 pub fn parent(view: View<'_>, folder: LbAddr) -> Option<LongAd>
     ensures { result ≡ parent_at (view_now view.entry) folder }
 {
-    match entry_at(view, folder) {
-        None => None,
+    let stored = StoreView {
+        blocks: view.table,
+        space: view.space,
+    };
+    match parent_by(stored, folder) {
+        Ok(found) => found,
+        Err(_) => unreachable!(),
+    }
+}
+
+/// The same as [`parent`], by any store of blocks.
+///
+/// # Errors
+///
+/// `ReadFault` where the bytes of a known block could not be read.
+pub fn parent_by<B: BlockStore>(
+    view: StoreView<'_, B>,
+    folder: LbAddr,
+) -> Result<Option<LongAd>, ReadFault>
+    ensures value { IfOk result (λ found. B.tells → found ≡ parent_at (view_by B.states view.entry) folder) }
+    ensures fails { OnErr result B.fails }
+{
+    let mut room = [0; 2048];
+    match entry_at(view, folder, &mut room)? {
+        None => Ok(None),
         Some(entry) => entry_parent(view, &entry, folder),
     }
 }

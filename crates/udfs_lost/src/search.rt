@@ -1,7 +1,8 @@
 //! The search for the folders from which names lead to all lost folders.
 
-ghost use Rattle.std.specs.Prelude.{◌≡◌, ◌++◌, ◌∷◌, [], IfErr, IfOk, List};
-ghost use Rattle.udfs_space.specs.Views.{view_now};
+ghost use Rattle.std.specs.Prelude.{◌≡◌, ◌++◌, ◌∷◌, [], IfErr, IfOk, IsErrOf, List};
+ghost use Rattle.udfs_space.specs.Views.{view_by};
+ghost use Rattle.udfs_walk.specs.GivingUp.{IfTold};
 ghost use Rattle.udfs_walk.specs.Targets.{Icb};
 ghost use Rattle.udfs_lost.specs.Folders.{AreLostRoots, IsRootsRefused};
 ghost use Rattle.udfs_lost.specs.Met.{IsClosed, IsExplored};
@@ -10,15 +11,22 @@ ghost use Rattle.udfs_lost.specs.Starts.{AreRising, AreStarts, IsExploreRefused}
 use crate::entries::names_at;
 use crate::met::Met;
 use std::alloc::{AllocError, Global};
-use udfs_space::View;
+use udfs_lattice::BlockStore;
+use udfs_space::StoreView;
 use udfs_tag::LbAddr;
-use udfs_walk::NodesError;
+use udfs_walk::NodesGaveUp;
 
 /// Meets one more, and all that names lead to from it.
-fn explore(alloc: Global, view: View<'_>, met: Met, icb: LbAddr) -> Result<Met, NodesError>
-    requires { IsClosed (view_now view) met }
-    ensures explored { IfOk result (IsExplored (view_now view.entry) met icb) }
-    ensures refused { IfErr result (IsExploreRefused (view_now view.entry) icb) }
+fn explore<B: BlockStore>(
+    alloc: Global,
+    view: StoreView<'_, B>,
+    met: Met,
+    icb: LbAddr,
+) -> Result<Met, NodesGaveUp>
+    requires { B.tells → IsClosed (view_by B.states view) met }
+    ensures explored { IfOk result (λ found. B.tells → IsExplored (view_by B.states view.entry) met icb found) }
+    ensures refused { IfErr result (λ e. B.tells → IfTold (IsExploreRefused (view_by B.states view.entry) icb) e) }
+    ensures fails { IsErrOf result NodesGaveUp.Unread → B.fails }
 {
     let mut at = met.len();
     let mut met = met.meet(icb)?;
@@ -39,10 +47,15 @@ fn put(folders: &mut Vec<LbAddr>, folder: LbAddr) -> Result<(), AllocError>
 }
 
 /// The folders to which none before them leads.
-fn starts(alloc: Global, view: View<'_>, folders: &[LbAddr]) -> Result<Vec<LbAddr>, NodesError>
+fn starts<B: BlockStore>(
+    alloc: Global,
+    view: StoreView<'_, B>,
+    folders: &[LbAddr],
+) -> Result<Vec<LbAddr>, NodesGaveUp>
     requires { AreRising folders.now }
-    ensures starts { IfOk result (λ starts. AreStarts (view_now view.entry) folders.now starts.items) }
-    ensures refused { IfErr result (IsRootsRefused (view_now view.entry) folders.now) }
+    ensures starts { IfOk result (λ starts. B.tells → AreStarts (view_by B.states view.entry) folders.now starts.items) }
+    ensures refused { IfErr result (λ e. B.tells → IfTold (IsRootsRefused (view_by B.states view.entry) folders.now) e) }
+    ensures fails { IsErrOf result NodesGaveUp.Unread → B.fails }
 {
     let mut met = Met::none(alloc);
     let mut starts = Vec::new(alloc);
@@ -56,13 +69,14 @@ fn starts(alloc: Global, view: View<'_>, folders: &[LbAddr]) -> Result<Vec<LbAdd
 }
 
 /// Those of the starts to which none after them leads.
-fn last_starts(
+fn last_starts<B: BlockStore>(
     alloc: Global,
-    view: View<'_>,
+    view: StoreView<'_, B>,
     starts: Vec<LbAddr>,
-) -> Result<Vec<LbAddr>, NodesError>
-    ensures roots { IfOk result (λ roots. (folders : List Icb) → AreStarts (view_now view.entry) folders starts.items → AreLostRoots (view_now view.entry) folders roots.items) }
-    ensures refused { IfErr result (IsRootsRefused (view_now view.entry) starts.items) }
+) -> Result<Vec<LbAddr>, NodesGaveUp>
+    ensures roots { IfOk result (λ roots. B.tells → (folders : List Icb) → AreStarts (view_by B.states view.entry) folders starts.items → AreLostRoots (view_by B.states view.entry) folders roots.items) }
+    ensures refused { IfErr result (λ e. B.tells → IfTold (IsRootsRefused (view_by B.states view.entry) starts.items) e) }
+    ensures fails { IsErrOf result NodesGaveUp.Unread → B.fails }
 {
     let mut left = starts;
     let mut met = Met::none(alloc);
@@ -78,14 +92,15 @@ fn last_starts(
 }
 
 /// The roots among folders that ascend.
-pub(crate) fn roots(
+pub(crate) fn roots<B: BlockStore>(
     alloc: Global,
-    view: View<'_>,
+    view: StoreView<'_, B>,
     folders: &[LbAddr],
-) -> Result<Vec<LbAddr>, NodesError>
+) -> Result<Vec<LbAddr>, NodesGaveUp>
     requires { AreRising folders.now }
-    ensures roots { IfOk result (λ roots. AreLostRoots (view_now view.entry) folders.now roots.items) }
-    ensures refused { IfErr result (IsRootsRefused (view_now view.entry) folders.now) }
+    ensures roots { IfOk result (λ roots. B.tells → AreLostRoots (view_by B.states view.entry) folders.now roots.items) }
+    ensures refused { IfErr result (λ e. B.tells → IfTold (IsRootsRefused (view_by B.states view.entry) folders.now) e) }
+    ensures fails { IsErrOf result NodesGaveUp.Unread → B.fails }
 {
     let starts = starts(alloc, view, folders)?;
     let roots = last_starts(alloc, view, starts)?;

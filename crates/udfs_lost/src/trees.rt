@@ -1,14 +1,16 @@
 //! The trees of lost folders.
 
-ghost use Rattle.std.specs.Prelude.{◌≡◌, ◌++◌, ◌∷◌, [], IfOk, MatchResult};
-ghost use Rattle.udfs_space.specs.Views.{view_now};
+ghost use Rattle.std.specs.Prelude.{◌≡◌, ◌++◌, ◌∷◌, [], IfOk, IsErrOf, MatchResult};
+ghost use Rattle.udfs_space.specs.Views.{view_by, view_now};
+ghost use Rattle.udfs_walk.specs.GivingUp.{IfTold};
 ghost use Rattle.udfs_lost.specs.LostTrees.{AreLostTrees, IsTreesRefused};
 
 use crate::entries::entry_address;
 use std::alloc::{AllocError, Global};
-use udfs_space::View;
+use udfs_lattice::BlockStore;
+use udfs_space::{StoreView, View};
 use udfs_tag::LbAddr;
-use udfs_walk::{Node, NodesError, bare_nodes};
+use udfs_walk::{Node, NodesError, NodesGaveUp, bare_nodes_by};
 
 /// The nodes that all lost trees together may have.
 const MOST_NODES: usize = 65_536;
@@ -46,12 +48,38 @@ pub fn lost_trees(
     ensures { MatchResult result (λ trees. AreLostTrees (view_now view.entry) folders.now trees.items)
         (IsTreesRefused (view_now view.entry) folders.now) }
 {
+    let stored = StoreView {
+        blocks: view.table,
+        space: view.space,
+    };
+    match lost_trees_by(alloc, stored, folders) {
+        Ok(trees) => Ok(trees),
+        Err(NodesGaveUp::TooManyPaths) => Err(NodesError::TooManyPaths),
+        Err(NodesGaveUp::OutOfMemory) => Err(NodesError::OutOfMemory),
+        Err(NodesGaveUp::Unread) => unreachable!(),
+    }
+}
+
+/// The same as [`lost_trees`], by any store of blocks.
+///
+/// # Errors
+///
+/// As those of [`lost_trees`], and `Unread` where the bytes of a known block could not be read.
+pub fn lost_trees_by<B: BlockStore>(
+    alloc: Global,
+    view: StoreView<'_, B>,
+    folders: &[LbAddr],
+) -> Result<Vec<LostTree>, NodesGaveUp>
+    ensures value { B.tells → MatchResult result (λ trees. AreLostTrees (view_by B.states view.entry) folders.now trees.items)
+        (IfTold (IsTreesRefused (view_by B.states view.entry) folders.now)) }
+    ensures fails { IsErrOf result NodesGaveUp.Unread → B.fails }
+{
     let mut room = MOST_NODES;
     let mut trees = Vec::new(alloc);
     for folder in folders {
-        let nodes = bare_nodes(alloc, view, entry_address(*folder))?;
+        let nodes = bare_nodes_by(alloc, view, entry_address(*folder))?;
         if nodes.len() > room {
-            return Err(NodesError::TooManyPaths);
+            return Err(NodesGaveUp::TooManyPaths);
         }
         room -= nodes.len();
         put(&mut trees, *folder, nodes)?;

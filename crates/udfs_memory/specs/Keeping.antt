@@ -5,7 +5,7 @@
 --     content_in kept number          the bytes of a new file, by what is kept
 --     node_of found                   the file that a search found
 use Rattle.std.proofs.Common.{Bor}
-use Rattle.std.specs.Prelude.{ℕ, List, [], ◌∷◌, length, Option, Some, None, if◌then◌else◌, bytes_eq, nat_eq}
+use Rattle.std.specs.Prelude.{ℕ, List, [], ◌∷◌, length, Option, Some, None, if◌then◌else◌, bytes_eq, nat_eq, string_bytes}
 use Rattle.udfs_calls.specs.Log.{Call, Node, Start, node_at}
 use Rattle.udfs_calls.specs.Log.Call.{created, opened, synced, renamed, removed, folder_made, folder_synced, failed}
 use Rattle.udfs_calls.specs.Log.Node.{there, made, folder}
@@ -24,12 +24,16 @@ option_now (Some b) = Some b.now
 -- the number of the file of a path: how many come after it in the list
 abbrev pub number_in : List StoredFile → List ℕ → Option ℕ
 number_in [] p = None
-number_in (file ∷ rest) p = if bytes_eq p file.path.now then Some (length rest) else number_in rest p
+number_in (file ∷ rest) p = if bytes_eq p (string_bytes file.path) then Some (length rest) else number_in rest p
+
+-- the bytes of a file; not known of a folder or a device
+abbrev pub known_bytes : StoredFile → Option (List ℕ)
+known_bytes file = if file.is_file then Some file.bytes.items else None
 
 -- the bytes of the file of a number
 abbrev pub bytes_in : List StoredFile → ℕ → Option (List ℕ)
 bytes_in [] number = None
-bytes_in (file ∷ rest) number = if nat_eq number (length rest) then Some file.bytes.now else bytes_in rest number
+bytes_in (file ∷ rest) number = if nat_eq number (length rest) then known_bytes file else bytes_in rest number
 
 -- the disk when the run began
 abbrev pub start_of : List StoredFile → Start

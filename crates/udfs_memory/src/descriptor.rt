@@ -5,7 +5,9 @@ ghost use Rattle.udfs_calls.specs.Files.{written};
 ghost use Rattle.udfs_memory.specs.Bodies.{bytes_of};
 
 use crate::contents::{rest, with_piece, with_size};
+use crate::device::Device;
 use std::alloc::Global;
+use std::cell::Cell;
 use std::fs::Permissions;
 use std::io::{Error, ErrorKind};
 use std::os::unix::fs::PermissionsExt;
@@ -27,7 +29,12 @@ pub struct MemoryDescriptor<'a> {
     body: Body<'a>,
     at: u64,
     number: Option<u64>,
+    /// How many calls were made before it was opened in place, if it was.
+    place: Option<u64>,
     is_written: bool,
+    device: Device,
+    /// After how many more bytes its device fails.
+    good: Cell<usize>,
     ghost sound: { All (λ byte. byte < 256) (bytes_of body) },
 }
 
@@ -49,7 +56,7 @@ pub(crate) fn stored<'a>(bytes: &'a [u8]) -> Body<'a>
 
 impl<'a> MemoryDescriptor<'a> {
     /// One to read these bytes from their front.
-    pub(crate) fn reading(alloc: Global, body: Body<'a>) -> MemoryDescriptor<'a>
+    pub(crate) fn reading(alloc: Global, body: Body<'a>, device: Device) -> MemoryDescriptor<'a>
         requires { All (λ byte. byte < 256) (bytes_of body) }
         ensures bytes { bytes_of result.body ≡ bytes_of body.entry }
         ensures front { result.at ≡ 0 }
@@ -59,12 +66,20 @@ impl<'a> MemoryDescriptor<'a> {
             body,
             at: 0,
             number: None,
+            place: None,
             is_written: false,
+            device,
+            good: Cell::new(device.good),
         }
     }
 
-    /// One to write what has nothing in it, and is the new file of this number, if it is one.
-    pub(crate) fn writing(alloc: Global, number: Option<u64>) -> MemoryDescriptor<'a>
+    /// One to write what has nothing in it, and is the new file of the first number, or was opened in place by the call of the second.
+    pub(crate) fn writing(
+        alloc: Global,
+        number: Option<u64>,
+        place: Option<u64>,
+        device: Device,
+    ) -> MemoryDescriptor<'a>
         ensures bytes { bytes_of result.body ≡ [] }
         ensures front { result.at ≡ 0 }
         ensures number { result.number ≡ number }
@@ -74,7 +89,10 @@ impl<'a> MemoryDescriptor<'a> {
             body: Body::Own(Vec::new(alloc)),
             at: 0,
             number,
+            place,
             is_written: true,
+            device,
+            good: Cell::new(device.good),
         }
     }
 
@@ -95,25 +113,51 @@ impl<'a> MemoryDescriptor<'a> {
         self.number
     }
 
+    /// How many calls were made before it was opened in place, if it was.
+    pub(crate) fn place(&self) -> Option<u64> {
+        self.place
+    }
+
+    /// How many bytes the device moves in a call now.
+    fn most(&self) -> usize {
+        self.device.most.min(self.good.get())
+    }
+
+    /// So many bytes were moved.
+    fn moved(&self, count: usize) {
+        self.good.set(self.good.get().saturating_sub(count));
+    }
+
     /// Reads from a position on.
     fn take(&self, at: u64, buf: &mut [u8]) -> Result<usize, Error>
         ensures bound { IfOk result (λ n. n ≤ length buf.new) }
         ensures value { IfOk result (λ n. take n buf.new ≡ take n (drop at (bytes_of self.now.body))) }
         ensures end { IfOk result (λ n. n ≡ 0 → 0 < length buf.new → length (bytes_of self.now.body) ≤ at) }
     {
+        let most = self.most();
+        if most == 0 && !buf.is_empty() {
+            return Err(Error::from(ErrorKind::Other));
+        }
         let rest = rest(self.bytes(), at);
-        let count = rest.len().min(buf.len());
+        let count = rest.len().min(buf.len()).min(most);
         buf[..count].copy_from_slice(&rest[..count]);
+        self.moved(count);
         Ok(count)
     }
 
     /// Writes a piece at the position, which stays.
-    fn place(&mut self, piece: &[u8]) -> Result<(), Error>
+    fn put(&mut self, piece: &[u8]) -> Result<(), Error>
         ensures done { OnOk result (bytes_of self.new.body ≡ written self.old.at piece.now (bytes_of self.old.body)) }
         ensures failed { OnErr result (bytes_of self.new.body ≡ bytes_of self.old.body) }
         ensures at { self.new.at ≡ self.old.at }
         ensures number { self.new.number ≡ self.old.number }
     {
+        if self.at == self.bytes().len() as u64 {
+            if let Body::Own(bytes) = &mut self.body {
+                bytes.extend_from_slice(piece)?;
+                return Ok(());
+            }
+        }
         let after = with_piece(self.alloc, self.bytes(), self.at, piece)?;
         self.body = own(after);
         Ok(())
@@ -141,14 +185,18 @@ impl<'a> Opened for MemoryDescriptor<'a> {
     }
 
     fn write(&mut self, buf: &[u8]) -> Result<usize, Error> {
-        let count = buf.len();
+        let count = buf.len().min(self.most());
         let Some(next) = self.at.checked_add(count as u64) else {
             return Err(Error::from(ErrorKind::FileTooLarge));
         };
         if !self.is_written {
             return Err(Error::from(ErrorKind::PermissionDenied));
         }
-        self.place(&buf[..count])?;
+        if count == 0 && !buf.is_empty() && !self.device.takes_none {
+            return Err(Error::from(ErrorKind::StorageFull));
+        }
+        self.put(&buf[..count])?;
+        self.moved(count);
         self.at = next;
         Ok(count)
     }

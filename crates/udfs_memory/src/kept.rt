@@ -7,13 +7,21 @@ ghost use Rattle.udfs_memory.specs.Noted.{call_of};
 use crate::deeds::Deed;
 use std::alloc::{AllocError, Global};
 
-/// A file that is there when the run begins.
-#[derive(Clone, Copy)]
-pub struct StoredFile<'a> {
+/// A file, a folder or a device that is there when the run begins.
+#[derive(Drop)]
+pub struct StoredFile {
     /// Its path, spelled in full: from the root, or from `./` on.
-    pub path: &'a str,
-    /// All its bytes.
-    pub bytes: &'a [u8],
+    pub path: String,
+    /// All its bytes, or what is read from the device.
+    pub bytes: Vec<u8>,
+    /// Whether it is a regular file.
+    pub is_file: bool,
+    /// Whether it is a folder.
+    pub is_folder: bool,
+    /// Whether it is a file that was not synced.
+    pub is_open: bool,
+    /// What a crash leaves there that takes all that was not synced with its folder.
+    pub left: Option<Vec<u8>>,
 }
 
 /// What a call did.
@@ -62,7 +70,7 @@ fn is_same(a: &[u8], b: &[u8]) -> bool
 }
 
 /// The file of this path among those that were there when the run began.
-fn stored_at(stored: &[StoredFile<'_>], path: &[u8]) -> Found
+fn stored_at(stored: &[StoredFile], path: &[u8]) -> Found
     ensures { node_of result ≡ found (start_of stored.now) [] path.now }
 {
     match stored {
@@ -77,7 +85,7 @@ fn stored_at(stored: &[StoredFile<'_>], path: &[u8]) -> Found
 }
 
 /// What a path names.
-pub(crate) fn find(stored: &[StoredFile<'_>], kept: &[Kept], path: &[u8]) -> Found
+pub(crate) fn find(stored: &[StoredFile], kept: &[Kept], path: &[u8]) -> Found
     ensures { node_of result ≡ found (start_of stored.now) kept.now path.now }
 {
     match kept {
@@ -116,18 +124,26 @@ pub(crate) fn find(stored: &[StoredFile<'_>], kept: &[Kept], path: &[u8]) -> Fou
 }
 
 /// The bytes of the file of this number among those that were there when the run began.
-pub(crate) fn stored_bytes<'a>(stored: &'a [StoredFile<'a>], number: usize) -> Option<&'a [u8]>
+pub(crate) fn stored_bytes<'a>(stored: &'a [StoredFile], number: usize) -> Option<&'a [u8]>
     ensures { option_now result ≡ bytes_in stored.now number }
 {
     match stored {
         [] => None,
         [file, rest @ ..] => {
             if number == rest.len() {
-                return Some(file.bytes);
+                if file.is_file {
+                    return Some(&file.bytes);
+                }
+                return None;
             }
             stored_bytes(rest, number)
         }
     }
+}
+
+/// The file of this number among those that were there when the run began.
+pub(crate) fn stored_file<'a>(stored: &'a [StoredFile], number: usize) -> Option<&'a StoredFile> {
+    stored.iter().rev().nth(number)
 }
 
 /// The bytes of the new file of this number, once it was synced.
@@ -163,4 +179,28 @@ pub(crate) fn copied(alloc: Global, deed: &Deed<'_>) -> Result<What, AllocError>
         Deed::FolderMade(path) => What::FolderMade(path.as_bytes().to_vec(alloc)?),
         Deed::FolderSynced(path) => What::FolderSynced(path.as_bytes().to_vec(alloc)?),
     })
+}
+
+/// The path of the folder that a path is in.
+pub(crate) fn parent(path: &[u8]) -> &[u8] {
+    match path.iter().rposition(|byte| *byte == b'/') {
+        Some(0) => b"/",
+        Some(at) => path.get(..at).unwrap_or(&[]),
+        None => b".",
+    }
+}
+
+/// Whether the name of a folder is on the disk: it was there when the run began, or its own folder was synced since it was made, when the name of that one
+/// was on the disk.
+pub(crate) fn is_named(kept: &[Kept], folder: &[u8]) -> bool {
+    match kept {
+        [] => true,
+        [kept, earlier @ ..] => match &kept.what {
+            What::FolderMade(made) if is_same(made, folder) => false,
+            What::FolderSynced(above) if is_same(parent(folder), above) => {
+                is_named(earlier, above) || is_named(earlier, folder)
+            }
+            _ => is_named(earlier, folder),
+        },
+    }
 }

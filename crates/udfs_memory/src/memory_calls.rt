@@ -2,21 +2,24 @@
 
 ghost use Rattle.std.proofs.Common.{inl, refl};
 ghost use Rattle.std.specs.IoError.{error_kind};
-ghost use Rattle.std.specs.Prelude.{◌≡◌, ◌≢◌, ℕ, Err, IfErr, IfOk, IfSome, None, OnErr, OnOk, Some, [], ◌∷◌, length, string_bytes, true};
+ghost use Rattle.std.specs.Prelude.{◌≡◌, ◌≢◌, ℕ, Err, IfErr, IfOk, IfSome, None, OnErr, OnOk, Some, [], ◌∷◌, false, length, string_bytes, true};
 ghost use Rattle.udfs_calls.specs.Lawful.{can_follow};
-ghost use Rattle.udfs_calls.specs.Log.{Node, content, held_by, node_at};
+ghost use Rattle.udfs_calls.specs.Log.{Node, content, held_by, is_folder, node_at};
 ghost use Rattle.udfs_calls.specs.Log.Call.{failed};
 ghost use Rattle.udfs_memory.specs.Keeping.{node_of, start_of};
 ghost use Rattle.udfs_memory.specs.Noted.{call_of};
 ghost use Rattle.udfs_memory.specs.Spelling.{device_leads, is_plain, name_leads, spelled};
 ghost use Rattle.udfs_memory.specs.Standing.{AreContents, AreContents-prop, AreNodes, AreNodes-prop, IsCount, IsCount-prop, apart, is_lawful, numbers, was_lawful};
 ghost use Rattle.udfs_memory.specs.Bodies.{bytes_of};
-ghost use Rattle.udfs_memory.specs.Telling.{IsInPlace, IsShut, log_of, no_link};
+ghost use Rattle.udfs_memory.specs.Telling.{IsInPlace, IsOther, IsShut, log_of, no_link};
 
 use crate::deeds::{Deed, Outcome};
 use crate::descriptor::{MemoryDescriptor, own, stored};
 use crate::history::History;
-use crate::kept::{Found, Kept, StoredFile, content, copied, find, stored_bytes};
+use crate::kept::{
+    Found, Kept, StoredFile, content, copied, find, parent, stored_bytes, stored_file,
+};
+use crate::notes::{Notes, Setting};
 use crate::spelling::{is_device, is_plain, spelled};
 use std::alloc::{AllocError, Global};
 use std::fs::Permissions;
@@ -26,11 +29,13 @@ use std::time::SystemTime;
 use udfs_calls::{About, Calls};
 
 /// The system calls on files in memory, of which all is told: what was there when the run began, and each call since. A path that is not spelled in full
-/// is read from the run's own folder on, and nothing is made there. Folders need not be there for what is made in them. There are no links.
+/// is read from the run's own folder on; what is made at one is there by that spelling alone. There are no links.
 #[derive(Drop)]
 pub struct MemoryCalls<'a> {
     alloc: Global,
-    stored: &'a [StoredFile<'a>],
+    stored: &'a [StoredFile],
+    setting: Setting,
+    notes: &'a Notes,
     kept: Vec<Kept>,
     count: u64,
     history: History,
@@ -41,17 +46,32 @@ pub struct MemoryCalls<'a> {
 }
 
 impl<'a> MemoryCalls<'a> {
-    /// The calls on these files, of which none was made yet.
-    pub fn new(alloc: Global, stored: &'a [StoredFile<'a>]) -> MemoryCalls<'a>
+    /// The calls on these files, of which none was made yet. What they do is noted too.
+    pub fn new(
+        alloc: Global,
+        stored: &'a [StoredFile],
+        setting: Setting,
+        notes: &'a Notes,
+    ) -> MemoryCalls<'a>
         ensures { ⟦<MemoryCalls<'a> as Calls>⟧.log result ≡ log_of stored.now [] }
     {
         MemoryCalls {
             alloc,
             stored,
+            setting,
+            notes,
             kept: Vec::new(alloc),
             count: 0,
             history: History::new(),
         }
+    }
+
+    /// The files in memory themselves ran out of memory.
+    fn want(&self) -> Error
+        ensures { error_kind result ≢ ErrorKind.InvalidInput × error_kind result ≢ ErrorKind.NotFound }
+    {
+        self.notes.want();
+        Error::from(ErrorKind::OutOfMemory)
     }
 
     /// The call failed.
@@ -65,11 +85,24 @@ impl<'a> MemoryCalls<'a> {
         Err(error)
     }
 
+    /// Notes that it is done, unless it is to fail.
+    fn note(&self, deed: &Deed<'_>) -> Result<(), Error>
+        ensures { IfErr result (λ error. error_kind error ≢ ErrorKind.InvalidInput) }
+    {
+        if self.notes.fails(&self.setting) {
+            return Err(Error::from(ErrorKind::Other));
+        }
+        match self.notes.note(self.count, deed) {
+            Ok(()) => Ok(()),
+            Err(AllocError) => Err(self.want()),
+        }
+    }
+
     /// Does it, and keeps it.
     ///
     /// # Errors
     ///
-    /// `StorageFull` where no more calls can be counted, and `OutOfMemory`. Nothing is done then.
+    /// `StorageFull` where no more calls can be counted, `Other` where this one is to fail, and `OutOfMemory`. Nothing is done then.
     fn act(&mut self, deed: &Deed<'_>) -> Result<(), Error>
         requires { can_follow (start_of self.old.stored.now) self.old.history.calls (call_of deed.now) }
         ensures done { OnOk result (self.new.history.calls ≡ call_of deed.now ∷ self.old.history.calls) }
@@ -81,12 +114,15 @@ impl<'a> MemoryCalls<'a> {
         if self.count >= u64::MAX {
             return Err(Error::from(ErrorKind::StorageFull));
         }
-        let Ok(what) = copied(self.alloc, deed) else {
-            return Err(Error::from(ErrorKind::OutOfMemory));
-        };
+        if let Err(error) = self.note(deed) {
+            return Err(error);
+        }
         let number = self.count;
+        let Ok(what) = copied(self.alloc, deed) else {
+            return Err(self.want());
+        };
         let Ok(()) = self.kept.insert(0, Kept { number, what }) else {
-            return Err(Error::from(ErrorKind::OutOfMemory));
+            return Err(self.want());
         };
         self.history = self.history.then(&Outcome::Done(*deed));
         self.count += 1;
@@ -126,7 +162,123 @@ impl<'a> MemoryCalls<'a> {
         }
         match spelled(self.alloc, path) {
             Ok(whole) => Ok(self.named(whole.as_str())),
+            Err(error) => {
+                if error.kind() == ErrorKind::OutOfMemory {
+                    self.notes.want();
+                }
+                Err(error)
+            }
+        }
+    }
+
+    /// Sees that something can be made at a path: neither it nor what it leads to is there, and its folder is.
+    ///
+    /// # Errors
+    ///
+    /// `AlreadyExists`, and `NotFound` where its folder is not there.
+    fn see_free(&self, path: &str) -> Result<(), Error>
+        ensures { OnOk result (node_at (start_of self.now.stored.now) self.now.history.calls path.now ≡ None) }
+    {
+        if !matches!(self.named(path), Found::Nothing) {
+            return Err(Error::from(ErrorKind::AlreadyExists));
+        }
+        match self.led(path) {
+            Ok(Found::Nothing) => self.see_parent(path),
+            Ok(_) => Err(Error::from(ErrorKind::AlreadyExists)),
             Err(error) => Err(error),
+        }
+    }
+
+    /// Sees that the folder of a path is there.
+    fn see_parent(&self, path: &str) -> Result<(), Error> {
+        let folder = std::str::from_utf8(parent(path.as_bytes())).unwrap_or("");
+        if is_device(path) {
+            return Ok(());
+        }
+        self.see_folder(folder)
+    }
+
+    /// Sees that a folder is there, as its path is spelled or where it leads.
+    fn see_folder(&self, path: &str) -> Result<(), Error> {
+        if self.is_folder(&self.named(path)) {
+            return Ok(());
+        }
+        match self.led(path) {
+            Ok(found) if self.is_folder(&found) => Ok(()),
+            Ok(_) => Err(Error::from(ErrorKind::NotFound)),
+            Err(error) => Err(error),
+        }
+    }
+
+    /// Whether it is a folder.
+    fn is_folder(&self, found: &Found) -> bool
+        ensures { is_folder (node_of found.now) ≡ true → result ≡ true }
+    {
+        match found {
+            Found::There(number) => match stored_file(self.stored, *number) {
+                Some(file) => file.is_folder,
+                None => false,
+            },
+            Found::Folder(_) => true,
+            Found::Nothing | Found::Made(_) => false,
+        }
+    }
+
+    /// Whether it is a regular file, as far as that is known.
+    fn is_file(&self, found: &Found) -> bool
+        ensures other { result ≢ true → IsOther self.now.stored.now found.now }
+        ensures folder { is_folder (node_of found.now) ≡ true → result ≡ false }
+    {
+        match found {
+            Found::There(number) => stored_bytes(self.stored, *number).is_some(),
+            Found::Made(_) => true,
+            Found::Nothing | Found::Folder(_) => false,
+        }
+    }
+
+    /// Whether what a path names is a device that was there when the run began.
+    fn is_stored_device(&self, path: &str) -> bool {
+        match self.named(path) {
+            Found::There(number) => match stored_file(self.stored, number) {
+                Some(file) => !file.is_file && !file.is_folder,
+                None => false,
+            },
+            Found::Nothing | Found::Made(_) | Found::Folder(_) => false,
+        }
+    }
+
+    /// Opens to be read what was there when the run began: a file or a device.
+    fn read_stored(&self, number: usize) -> Result<MemoryDescriptor<'a>, Error>
+        ensures front { IfOk result (λ file. file.at ≡ 0) }
+    {
+        match stored_file(self.stored, number) {
+            Some(file) if !file.is_folder => Ok(MemoryDescriptor::reading(
+                self.alloc,
+                stored(&file.bytes),
+                self.setting.inputs,
+            )),
+            _ => Err(Error::from(ErrorKind::IsADirectory)),
+        }
+    }
+
+    /// Whether something is at a path, as it is spelled or where it leads.
+    fn is_there(&self, path: &str) -> bool {
+        !matches!(self.named(path), Found::Nothing) || !matches!(self.led(path), Ok(Found::Nothing))
+    }
+
+    /// What was written in place is noted: of it the log tells nothing.
+    fn finish(&self, file: &MemoryDescriptor<'_>) -> Result<(), Error>
+        ensures { IfErr result (λ error. error_kind error ≢ ErrorKind.InvalidInput) }
+    {
+        if self.notes.fails(&self.setting) {
+            return Err(Error::from(ErrorKind::Other));
+        }
+        let Some(number) = file.place() else {
+            return Ok(());
+        };
+        match self.notes.note(number, &Deed::Synced(number, file.bytes())) {
+            Ok(()) => Ok(()),
+            Err(AllocError) => Err(self.want()),
         }
     }
 
@@ -145,6 +297,14 @@ impl<'a> MemoryCalls<'a> {
             },
             Found::Nothing | Found::Folder(_) => 0,
         }
+    }
+}
+
+/// A time in microseconds since 1970.
+fn micros_of(time: SystemTime) -> u64 {
+    match time.duration_since(SystemTime::UNIX_EPOCH) {
+        Ok(since) => u64::try_from(since.as_micros()).unwrap_or(u64::MAX),
+        Err(_) => 0,
     }
 }
 
@@ -196,13 +356,18 @@ impl<'a> Calls for MemoryCalls<'a> {
     fn open(&self, path: &str) -> Result<MemoryDescriptor<'a>, Error> {
         match self.led(path) {
             Ok(Found::There(number)) => match stored_bytes(self.stored, number) {
-                Some(bytes) => Ok(MemoryDescriptor::reading(self.alloc, stored(bytes))),
-                None => Err(Error::from(ErrorKind::ResourceBusy)),
+                Some(bytes) => Ok(MemoryDescriptor::reading(
+                    self.alloc,
+                    stored(bytes),
+                    self.setting.inputs,
+                )),
+                None => self.read_stored(number),
             },
             Ok(Found::Made(number)) => match content(&self.kept, number) {
                 Some(bytes) => Ok(MemoryDescriptor::reading(
                     self.alloc,
                     own(bytes.to_vec(self.alloc)?),
+                    self.setting.inputs,
                 )),
                 None => Err(Error::from(ErrorKind::ResourceBusy)),
             },
@@ -221,17 +386,17 @@ impl<'a> Calls for MemoryCalls<'a> {
         }
     }
 
+    #[tactic(auto, using(crate::specs::Telling::other_in_place))]
     fn about(&self, path: &str) -> Result<About, Error> {
         let found = match self.led(path) {
             Ok(Found::Nothing) => return Err(Error::from(ErrorKind::NotFound)),
             Ok(found) => found,
             Err(error) => return Err(error),
         };
-        let is_folder = matches!(found, Found::Folder(_));
         let (device, inode) = numbers_of(&found);
         Ok(About {
-            is_file: !is_folder && !is_device(path),
-            is_folder,
+            is_file: self.is_file(&found) && !is_device(path),
+            is_folder: self.is_folder(&found),
             size: self.size_of(&found),
             device,
             inode,
@@ -240,8 +405,11 @@ impl<'a> Calls for MemoryCalls<'a> {
         })
     }
 
-    fn link(&self, _alloc: Global, _path: &str) -> Result<String, Error> {
-        Err(Error::from(ErrorKind::InvalidInput))
+    fn link(&self, _alloc: Global, path: &str) -> Result<String, Error> {
+        match self.led(path) {
+            Ok(Found::Nothing) => Err(Error::from(ErrorKind::NotFound)),
+            _ => Err(Error::from(ErrorKind::InvalidInput)),
+        }
     }
 
     fn real_path(&self, alloc: Global, path: &str) -> Result<String, Error> {
@@ -254,26 +422,36 @@ impl<'a> Calls for MemoryCalls<'a> {
 
     fn create_new(&mut self, path: &str) -> Result<MemoryDescriptor<'a>, Error> {
         let deed = Deed::Created(path);
-        if !matches!(self.named(path), Found::Nothing) {
-            return self.fail(&deed, Error::from(ErrorKind::AlreadyExists));
-        }
-        if !is_plain(path.as_bytes()) {
-            return self.fail(&deed, Error::from(ErrorKind::InvalidInput));
+        match self.see_free(path) {
+            Ok(()) => {}
+            Err(error) => return self.fail(&deed, error),
         }
         let number = self.count;
+        self.notes.times.change(path.as_bytes());
         match self.try_to(&deed) {
-            Ok(()) => Ok(MemoryDescriptor::writing(self.alloc, Some(number))),
+            Ok(()) => Ok(MemoryDescriptor::writing(
+                self.alloc,
+                Some(number),
+                None,
+                self.setting.outputs,
+            )),
             Err(error) => Err(error),
         }
     }
 
     fn open_in_place(&mut self, path: &str) -> Result<MemoryDescriptor<'a>, Error> {
         let deed = Deed::Opened(path);
-        if !is_device(path) {
+        if !is_device(path) && !self.is_stored_device(path) {
             return self.fail(&deed, Error::from(ErrorKind::PermissionDenied));
         }
+        let number = self.count;
         match self.try_to(&deed) {
-            Ok(()) => Ok(MemoryDescriptor::writing(self.alloc, None)),
+            Ok(()) => Ok(MemoryDescriptor::writing(
+                self.alloc,
+                None,
+                Some(number),
+                self.setting.outputs,
+            )),
             Err(error) => Err(error),
         }
     }
@@ -281,12 +459,16 @@ impl<'a> Calls for MemoryCalls<'a> {
     fn sync(&mut self, file: MemoryDescriptor<'a>) -> Result<(), Error> {
         match file.number() {
             Some(number) => self.act(&Deed::Synced(number, file.bytes())),
-            None => Ok(()),
+            None => self.finish(&file),
         }
     }
 
     fn sync_folder(&mut self, path: &str) -> Result<(), Error> {
-        self.try_to(&Deed::FolderSynced(path))
+        let deed = Deed::FolderSynced(path);
+        match self.see_folder(path) {
+            Ok(()) => self.try_to(&deed),
+            Err(_) => self.fail(&deed, Error::from(ErrorKind::NotFound)),
+        }
     }
 
     fn rename(&mut self, from: &str, to: &str) -> Result<(), Error> {
@@ -294,28 +476,36 @@ impl<'a> Calls for MemoryCalls<'a> {
         if matches!(self.named(from), Found::Nothing | Found::Folder(_)) {
             return self.fail(&deed, Error::from(ErrorKind::NotFound));
         }
-        if matches!(self.named(to), Found::Folder(_)) || !is_plain(to.as_bytes()) {
+        if matches!(self.named(to), Found::Folder(_)) {
             return self.fail(&deed, Error::from(ErrorKind::IsADirectory));
         }
+        match self.see_parent(to) {
+            Ok(()) => {}
+            Err(error) => return self.fail(&deed, error),
+        }
+        self.notes.times.change(from.as_bytes());
+        self.notes.times.change(to.as_bytes());
         self.try_to(&deed)
     }
 
     fn remove(&mut self, path: &str) -> Result<(), Error> {
         let deed = Deed::Removed(path);
-        if matches!(self.named(path), Found::Nothing | Found::Folder(_)) {
-            return self.fail(&deed, Error::from(ErrorKind::NotFound));
+        match self.named(path) {
+            Found::Nothing => return self.fail(&deed, Error::from(ErrorKind::NotFound)),
+            Found::Folder(_) => return self.fail(&deed, Error::from(ErrorKind::IsADirectory)),
+            Found::There(_) | Found::Made(_) => {}
         }
+        self.notes.times.change(path.as_bytes());
         self.try_to(&deed)
     }
 
     fn make_folder(&mut self, path: &str) -> Result<(), Error> {
         let deed = Deed::FolderMade(path);
-        if !matches!(self.named(path), Found::Nothing) {
-            return self.fail(&deed, Error::from(ErrorKind::AlreadyExists));
+        match self.see_free(path) {
+            Ok(()) => {}
+            Err(error) => return self.fail(&deed, error),
         }
-        if !is_plain(path.as_bytes()) {
-            return self.fail(&deed, Error::from(ErrorKind::InvalidInput));
-        }
+        self.notes.times.change(path.as_bytes());
         self.try_to(&deed)
     }
 
@@ -324,9 +514,14 @@ impl<'a> Calls for MemoryCalls<'a> {
         Ok(())
     }
 
-    /// Nobody reads it.
-    fn set_modified(&self, _path: &str, _time: SystemTime) -> Result<(), Error> {
-        Ok(())
+    fn set_modified(&self, path: &str, time: SystemTime) -> Result<(), Error> {
+        if path == self.setting.timeless || !self.is_there(path) {
+            return Err(Error::from(ErrorKind::NotFound));
+        }
+        match self.notes.times.set(path.as_bytes(), micros_of(time)) {
+            Ok(()) => Ok(()),
+            Err(AllocError) => Err(self.want()),
+        }
     }
 }
 

@@ -19,7 +19,7 @@ use Rattle.udfs_overview.specs.declared.tallies.Tally.{Tally}
 use Rattle.udfs_overview.specs.declared.tallies.NodeSort.{NodeSort}
 use Rattle.udfs_overview.specs.declared.tallies.NodeSort.TheVariants as sort
 use Rattle.udfs_overview.specs.LeftOut.{left_out_by, left_out_type, left_out_types, other_type}
-use Rattle.udfs_overview.specs.Tallies.{at_most_128_bits, bytes_of, count_of, damaged_count, disputed_count, is_aside, is_left_out, is_node_of, is_of, is_other, node_count, or_zero, tally_of, torn_files, torn_part}
+use Rattle.udfs_overview.specs.Tallies.{at_most_128_bits, bytes_of, count_of, damaged_bytes, damaged_count, damaged_lost, disputed_count, is_aside, is_left_out, is_node_of, is_of, is_other, node_count, or_zero, tally_of, tally_with, torn_files, torn_part}
 use Rattle.udfs_overview.specs.TornFiles.{lost_in}
 use Rattle.udfs_overview.specs.TornRows.{TornPart}
 use Rattle.udfs_overview.specs.declared.tallies.TornFile.{TornFile}
@@ -190,5 +190,24 @@ all_counted (n ∷ ns) =
     )
 
 pub tally_counts_all : (t : Tally) (blocks : Blocks) (ns : List NodeFields) → t ≡ tally_of blocks ns → node_count t ≡ length ns
-unfolding tally_of
+unfolding tally_of tally_with
 tally_counts_all t blocks ns e = ap node_count e ∙ omega (arith, all_counted ns, both_kinds blocks ns)
+
+-- the lists do not say what is counted beside the torn files
+pub tally_full : (M : Blocks) (answer : Answer Found) (torn : List TornPart) (ns : List NodeFields) → tally_with torn (full_nodes M answer ns) ≡ tally_with torn ns
+unfolding tally_with
+tally_full M answer torn ns = λ j. record {
+  whole_files = count_full M answer sort.WholeFile ns j;
+  whole_bytes = bytes_full M answer sort.WholeFile ns j;
+  torn_files = damaged_count torn;
+  torn_bytes = damaged_bytes torn;
+  lost_bytes = at_most_128_bits (damaged_lost torn);
+  disputed = disputed_count torn;
+  unread = count_full M answer sort.Unread ns j;
+  whole_folders = count_full M answer sort.WholeFolder ns j;
+  torn_folders = count_full M answer sort.TornFolder ns j;
+  others = aside_full M answer ns j;
+  left_out = left_full M answer ns j;
+  faulty = count_full M answer sort.Faulty ns j;
+  loops = count_full M answer sort.Loop ns j;
+}

@@ -43,7 +43,7 @@ run_is_last n [] e = refl
 run_is_last n (k ∷ ks) e = absurd (let z : ⊥ = cc in z)
 
 -- the lists do not say whether an entry is whole
-same_whole : (lists : TornFields) (s : Standing) → is_whole (with_lists lists s) ≡ is_whole s
+pub same_whole : (lists : TornFields) (s : Standing) → is_whole (with_lists lists s) ≡ is_whole s
 same_whole lists Whole = refl
 same_whole lists (Torn torn) = refl
 same_whole lists Loop = refl

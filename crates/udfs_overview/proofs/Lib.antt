@@ -8,6 +8,7 @@ mod FoundPieces
 mod FullFolders
 mod Headed
 mod LostPieces
+mod LostTallying
 mod LostVolumeLaws
 mod Moving
 mod PathNames
@@ -20,6 +21,7 @@ mod SeenNodes
 mod ShortTimes
 mod SpareCopies
 mod SpareLaws
+mod StoreSummaries
 mod Streaming
 mod TornOrder
 mod TornSorted

@@ -135,7 +135,7 @@ full_unfound v w deleted es entries error seen are a =
     (subst (λ l. IsUnfound v (lost_folders v deleted (map (full_entry v) l)) error) are (subst (λ folders. IsUnfound v folders error) (sym (bare_entries_will_do v deleted [] es).folders) a))
 
 -- where a volume that opens is looked through
-opened_place : (M : Blocks) (answer : Answer Found) (f : Found) (entries : List Unnamed) (closed : Option Searched) → answer ≡ found f
+pub opened_place : (M : Blocks) (answer : Answer Found) (f : Found) (entries : List Unnamed) (closed : Option Searched) → answer ≡ found f
     → searched_by closed M answer (full_entries M answer entries) ≡ Some (record { view = view M f.space; two = has_two f.layout; entries = map (full_entry (view M f.space)) entries })
 opened_place M answer f entries closed opened = λ i. searched_by closed M (opened i) (full_entries M (opened i) entries)
 

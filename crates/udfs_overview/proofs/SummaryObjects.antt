@@ -8,12 +8,14 @@ use Rattle.udfs_volume.specs.Layout.{Layout}
 use Rattle.udfs_salvage.specs.Texts.{revision_text}
 use Rattle.udfs_lawfulness.specs.declared.answers.Lawfulness.{Lawfulness}
 use Rattle.udfs_overview.specs.Guarantees.{guarantee_text}
-use Rattle.udfs_overview.specs.SummaryJson.{disc_data, fault_data, files_data, folders_data, guarantee_data, guarantee_state, holes_data, is_at_least, label_data, open_count, open_data, others_data, profile_name, remarks_data, unnamed_data}
-use Rattle.udfs_overview.specs.SummaryPieces.{ends_piece, nodes_piece, whole_piece}
+use Rattle.udfs_overview.specs.SummaryJson.{disc_data, fault_data, files_data, folders_data, guarantee_data, guarantee_state, holes_data, is_at_least, label_data, lost_data, open_count, open_data, others_data, profile_name, remarks_data, unnamed_data}
+use Rattle.udfs_overview.specs.SummaryPieces.{ends_piece, names_piece, nodes_piece, whole_piece}
 use Rattle.udfs_overview.specs.declared.disc_tallies.DiscTally.{DiscTally}
 use Rattle.udfs_overview.specs.declared.disc_tallies.UnnamedTally.{UnnamedTally}
+use Rattle.udfs_overview.specs.declared.lost_tallies.LostTally.{LostTally}
 use Rattle.udfs_overview.specs.declared.summary_figures.Figures.{Figures}
 use Rattle.udfs_overview.specs.declared.tallies.Tally.{Tally}
+use Rattle.udfs_overview.specs.declared.verdicts.Verdict.{Verdict}
 use Rattle.udfs_overview.proofs.Chains.{both_appended, last_appended}
 
 -- ---- texts that are appended one behind the other, the last of them where it could be
@@ -73,6 +75,10 @@ pub unnamed_pieces : (t : UnnamedTally) → (codes "{\"empty\":" ++ decimal t.em
 unfolding unnamed_data serde_json_on_literals
 unnamed_pieces t = two_pairs (codes "{\"empty\":") (decimal t.empty) (codes ",\"with_data\":") (decimal t.with_data) (codes "}")
 
+pub lost_pieces : (t : LostTally) → (codes "{\"deleted\":" ++ decimal t.deleted) ++ (codes ",\"files_without_folder\":" ++ decimal t.files) ++ (codes ",\"folders\":" ++ decimal t.folders) ++ (codes ",\"too_many\":" ++ compact_text (boolean t.too_many)) ++ (codes ",\"torn\":" ++ decimal t.torn_files) ++ (codes ",\"whole\":" ++ decimal t.whole_files) ++ (codes ",\"whole_bytes\":" ++ (decimal t.whole_bytes ++ codes "}")) ≡ compact_text (lost_data t)
+unfolding lost_data serde_json_on_literals
+lost_pieces t = seven_pairs (codes "{\"deleted\":") (decimal t.deleted) (codes ",\"files_without_folder\":") (decimal t.files) (codes ",\"folders\":") (decimal t.folders) (codes ",\"too_many\":") (compact_text (boolean t.too_many)) (codes ",\"torn\":") (decimal t.torn_files) (codes ",\"whole\":") (decimal t.whole_files) (codes ",\"whole_bytes\":") (decimal t.whole_bytes) (codes "}")
+
 pub remarks_pieces : (f : Figures) → (codes "{\"moved_folders\":" ++ decimal f.moved) ++ (codes ",\"spares_disagree\":" ++ compact_text (boolean f.spares_disagree)) ++ (codes ",\"with_streams\":" ++ (decimal f.streams ++ codes "}")) ≡ compact_text (remarks_data f)
 unfolding remarks_data serde_json_on_literals
 remarks_pieces f = three_pairs (codes "{\"moved_folders\":") (decimal f.moved) (codes ",\"spares_disagree\":") (compact_text (boolean f.spares_disagree)) (codes ",\"with_streams\":") (decimal f.streams) (codes "}")
@@ -85,33 +91,33 @@ unfolding guarantee_data serde_json_on_literals
 guarantee_pieces a =
     guarantee_row (codes "{\"not_known\":") (decimal (open_count a)) (codes ",\"state\":") (compact_text (string (guarantee_state a))) (codes ",\"text\":") (compact_text (string (guarantee_text a))) (codes "}")
 
-holes_row : (a d g w f p e : List ℕ) → a ++ d ++ (g ++ w) ++ (f ++ p) ++ e ≡ a ++ (d ++ (g ++ (w ++ (f ++ (p ++ e)))))
-holes_row a d g w f p e = simp append_assoc
+holes_row : (a d g w l t f p e : List ℕ) → a ++ d ++ (g ++ w) ++ (l ++ t) ++ (f ++ p) ++ e ≡ a ++ (d ++ (g ++ (w ++ (l ++ (t ++ (f ++ (p ++ e)))))))
+holes_row a d g w l t f p e = simp append_assoc
 
-pub holes_pieces : (f : Figures) (a : Lawfulness) → codes "{\"disc\":" ++ compact_text (disc_data f.last f.disc) ++ (codes ",\"guarantee\":" ++ compact_text (guarantee_data a))
-    ++ (codes ",\"profile\":" ++ compact_text (string (profile_name f.profile))) ++ codes ",\"state\":\"holes\"}" ≡ compact_text (holes_data f a)
+pub holes_pieces : (f : Figures) (a : Verdict) → codes "{\"disc\":" ++ compact_text (disc_data f.last f.disc) ++ (codes ",\"guarantee\":" ++ compact_text (guarantee_data a.lawfulness))
+    ++ (codes ",\"lost\":" ++ compact_text (lost_data a.lost)) ++ (codes ",\"profile\":" ++ compact_text (string (profile_name f.profile))) ++ codes ",\"state\":\"holes\"}" ≡ compact_text (holes_data f a)
 unfolding holes_data serde_json_on_literals
 holes_pieces f a =
-    holes_row (codes "{\"disc\":") (compact_text (disc_data f.last f.disc)) (codes ",\"guarantee\":") (compact_text (guarantee_data a)) (codes ",\"profile\":") (compact_text (string (profile_name f.profile))) (codes ",\"state\":\"holes\"}")
+    holes_row (codes "{\"disc\":") (compact_text (disc_data f.last f.disc)) (codes ",\"guarantee\":") (compact_text (guarantee_data a.lawfulness)) (codes ",\"lost\":") (compact_text (lost_data a.lost)) (codes ",\"profile\":") (compact_text (string (profile_name f.profile))) (codes ",\"state\":\"holes\"}")
 
-fault_row : (a d f n h w g p e : List ℕ) → a ++ d ++ (f ++ n) ++ (h ++ w) ++ (g ++ p) ++ e ≡ a ++ (d ++ (f ++ (n ++ (h ++ (w ++ (g ++ (p ++ e)))))))
-fault_row a d f n h w g p e = simp append_assoc
+fault_row : (a d f n h w l t g p e : List ℕ) → a ++ d ++ (f ++ n) ++ (h ++ w) ++ (l ++ t) ++ (g ++ p) ++ e ≡ a ++ (d ++ (f ++ (n ++ (h ++ (w ++ (l ++ (t ++ (g ++ (p ++ e)))))))))
+fault_row a d f n h w l t g p e = simp append_assoc
 
-pub fault_pieces : (f : Figures) (name : List ℕ) (a : Lawfulness) → codes "{\"disc\":" ++ compact_text (disc_data f.last f.disc) ++ (codes ",\"fault\":" ++ compact_text (string name))
-    ++ (codes ",\"guarantee\":" ++ compact_text (guarantee_data a)) ++ (codes ",\"profile\":" ++ compact_text (string (profile_name f.profile))) ++ codes ",\"state\":\"fault\"}" ≡ compact_text (fault_data f name a)
+pub fault_pieces : (f : Figures) (name : List ℕ) (a : Verdict) → codes "{\"disc\":" ++ compact_text (disc_data f.last f.disc) ++ (codes ",\"fault\":" ++ compact_text (string name))
+    ++ (codes ",\"guarantee\":" ++ compact_text (guarantee_data a.lawfulness)) ++ (codes ",\"lost\":" ++ compact_text (lost_data a.lost)) ++ (codes ",\"profile\":" ++ compact_text (string (profile_name f.profile))) ++ codes ",\"state\":\"fault\"}" ≡ compact_text (fault_data f name a)
 unfolding fault_data serde_json_on_literals
 fault_pieces f name a =
-    fault_row (codes "{\"disc\":") (compact_text (disc_data f.last f.disc)) (codes ",\"fault\":") (compact_text (string name)) (codes ",\"guarantee\":") (compact_text (guarantee_data a)) (codes ",\"profile\":") (compact_text (string (profile_name f.profile))) (codes ",\"state\":\"fault\"}")
+    fault_row (codes "{\"disc\":") (compact_text (disc_data f.last f.disc)) (codes ",\"fault\":") (compact_text (string name)) (codes ",\"guarantee\":") (compact_text (guarantee_data a.lawfulness)) (codes ",\"lost\":") (compact_text (lost_data a.lost)) (codes ",\"profile\":") (compact_text (string (profile_name f.profile))) (codes ",\"state\":\"fault\"}")
 
-open_row : (a1 a2 b1 b2 c1 c2 f1 f2 g1 g2 h1 h2 l1 l2 o1 o2 p1 p2 r1 r2 v1 v2 u1 u2 e : List ℕ)
-    → ((a1 ++ a2) ++ (b1 ++ b2) ++ c1 ++ c2) ++ (f1 ++ f2 ++ g1 ++ g2 ++ (h1 ++ h2) ++ l1 ++ l2 ++ o1 ++ o2) ++ ((p1 ++ p2) ++ r1 ++ r2 ++ (v1 ++ v2) ++ u1 ++ u2 ++ e)
-    ≡ a1 ++ (a2 ++ (b1 ++ (b2 ++ (c1 ++ (c2 ++ (f1 ++ (f2 ++ (g1 ++ (g2 ++ (h1 ++ (h2 ++ (l1 ++ (l2 ++ (o1 ++ (o2 ++ (p1 ++ (p2 ++ (r1 ++ (r2 ++ (v1 ++ (v2 ++ (u1 ++ (u2 ++ e)))))))))))))))))))))))
-open_row a1 a2 b1 b2 c1 c2 f1 f2 g1 g2 h1 h2 l1 l2 o1 o2 p1 p2 r1 r2 v1 v2 u1 u2 e = simp append_assoc
+open_row : (a1 a2 b1 b2 c1 c2 f1 f2 g1 g2 h1 h2 l1 l2 t1 t2 o1 o2 p1 p2 r1 r2 v1 v2 u1 u2 e : List ℕ)
+    → ((a1 ++ a2) ++ (b1 ++ b2) ++ c1 ++ c2) ++ (f1 ++ f2 ++ g1 ++ g2 ++ (h1 ++ h2)) ++ (l1 ++ l2 ++ (t1 ++ t2) ++ o1 ++ o2) ++ ((p1 ++ p2) ++ r1 ++ r2 ++ (v1 ++ v2) ++ u1 ++ u2 ++ e)
+    ≡ a1 ++ (a2 ++ (b1 ++ (b2 ++ (c1 ++ (c2 ++ (f1 ++ (f2 ++ (g1 ++ (g2 ++ (h1 ++ (h2 ++ (l1 ++ (l2 ++ (t1 ++ (t2 ++ (o1 ++ (o2 ++ (p1 ++ (p2 ++ (r1 ++ (r2 ++ (v1 ++ (v2 ++ (u1 ++ (u2 ++ e)))))))))))))))))))))))))
+open_row a1 a2 b1 b2 c1 c2 f1 f2 g1 g2 h1 h2 l1 l2 t1 t2 o1 o2 p1 p2 r1 r2 v1 v2 u1 u2 e = simp append_assoc
 
-pub open_pieces : (f : Figures) (l : Layout) (a : Lawfulness) → whole_piece f ++ nodes_piece f l a ++ ends_piece f l ≡ compact_text (open_data f l a)
-unfolding whole_piece nodes_piece ends_piece open_data serde_json_on_literals
+pub open_pieces : (f : Figures) (l : Layout) (a : Verdict) → whole_piece f ++ nodes_piece f a.lawfulness ++ names_piece f l a.lost ++ ends_piece f l ≡ compact_text (open_data f l a)
+unfolding whole_piece nodes_piece names_piece ends_piece open_data serde_json_on_literals
 open_pieces f l a =
     open_row (codes "{\"all_whole\":") (compact_text (boolean f.all_whole)) (codes ",\"at_least\":") (compact_text (boolean (is_at_least f.tally))) (codes ",\"disc\":") (compact_text (disc_data f.last f.disc))
-    (codes ",\"files\":") (compact_text (files_data f.tally)) (codes ",\"folders\":") (compact_text (folders_data f.tally)) (codes ",\"guarantee\":") (compact_text (guarantee_data a)) (codes ",\"label\":") (compact_text (label_data l.label))
-    (codes ",\"others\":") (compact_text (others_data f.tally)) (codes ",\"profile\":") (compact_text (string (profile_name f.profile))) (codes ",\"remarks\":") (compact_text (remarks_data f))
+    (codes ",\"files\":") (compact_text (files_data f.tally)) (codes ",\"folders\":") (compact_text (folders_data f.tally)) (codes ",\"guarantee\":") (compact_text (guarantee_data a.lawfulness)) (codes ",\"label\":") (compact_text (label_data l.label))
+    (codes ",\"lost\":") (compact_text (lost_data a.lost)) (codes ",\"others\":") (compact_text (others_data f.tally)) (codes ",\"profile\":") (compact_text (string (profile_name f.profile))) (codes ",\"remarks\":") (compact_text (remarks_data f))
     (codes ",\"revision\":") (compact_text (string (revision_text l.revision))) (codes ",\"state\":\"ok\",\"unnamed\":") (compact_text (unnamed_data f.unnamed)) (codes "}")

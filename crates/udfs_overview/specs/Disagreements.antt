@@ -1,8 +1,10 @@
 -- What is said where known blocks by which the volume is opened do not say the same: no lawful volume agrees with the table.
 --     anchors_line places      two anchors that name different extents
 --     copies_line differ       copies of the volume descriptor sequence that differ in what the layout is read from
---     apart_lines rules blocks last   both, of a disc that has room for a volume
-use Rattle.std.specs.Prelude.{ℕ, ◌++◌, Bool, cond, List, [], Option, Some, None, codes, decimal}
+--     anchors_of blocks last       these anchors, of a disc that has room for a volume
+--     copies_of rules blocks last  whether these copies differ, of such a disc
+--     apart_lines anchors copies   the lines of both
+use Rattle.std.specs.Prelude.{ℕ, ◌++◌, Bool, cond, false, List, [], Option, Some, None, codes, decimal}
 use Rattle.udfs_lattice.specs.Volumes.{Blocks}
 use Rattle.udfs_tag.specs.Faults.{is_within}
 use Rattle.udfs_volume.specs.Differences.{anchors_apart, copies_differ}
@@ -34,6 +36,14 @@ copies_line differ =
 abbrev pub has_room : ℕ → Bool
 has_room last = is_within 513 4194303 last
 
--- both lines, by the rules of a profile
-unfoldable pub apart_lines : Profile → Blocks → ℕ → List ℕ
-apart_lines rules blocks last = cond (has_room last) (anchors_line (anchors_apart blocks last) ++ copies_line (copies_differ rules blocks last)) []
+-- two anchors that name different extents, of a disc that has room for a volume
+unfoldable pub anchors_of : Blocks → ℕ → Option (ℕ × ℕ)
+anchors_of blocks last = cond (has_room last) (anchors_apart blocks last) None
+
+-- whether copies differ, by the rules of a profile
+unfoldable pub copies_of : Profile → Blocks → ℕ → Bool
+copies_of rules blocks last = cond (has_room last) (copies_differ rules blocks last) false
+
+-- both lines
+abbrev pub apart_lines : Option (ℕ × ℕ) → Bool → List ℕ
+apart_lines anchors copies = anchors_line anchors ++ copies_line copies

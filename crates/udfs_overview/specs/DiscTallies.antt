@@ -5,6 +5,7 @@
 use Rattle.std.specs.Prelude.{ℕ, ◌+◌, ◌-◌, ◌==◌, ◌&&◌, nat_lt, Bool, List, [], ◌∷◌, cond, count_by, length}
 use Rattle.udfs_lattice.specs.States.{is_conflict}
 use Rattle.udfs_lattice.specs.Tables.{Table, conflict_count, known_count, state_of}
+use Rattle.udfs_lattice.specs.Volumes.{Blocks}
 use Rattle.udfs_walk.specs.declared.answers.Unnamed.{Unnamed}
 use Rattle.udfs_walk.specs.Unsettled.{is_whole}
 use Rattle.udfs_salvage.specs.UnnamedExtraction.{is_file}
@@ -18,8 +19,8 @@ run_count (n ∷ []) = 1
 run_count (n ∷ m ∷ ms) = cond (m == n + 1) 0 1 + run_count (m ∷ ms)
 
 -- two readings of a block differ
-abbrev pub is_in_conflict : Table → ℕ → Bool
-is_in_conflict table n = is_conflict (state_of table n)
+abbrev pub is_in_conflict : Blocks → ℕ → Bool
+is_in_conflict blocks n = is_conflict (blocks n)
 
 -- known, not known and in conflict are all blocks from 0 to the last one
 unfoldable pub disc_of : Table → ℕ → List ℕ → DiscTally
@@ -28,7 +29,7 @@ disc_of table last reread = record {
   not_known = last + 1 - known_count table - conflict_count table;
   conflicts = conflict_count table;
   needed = length reread;
-  needed_in_conflict = count_by (is_in_conflict table) reread;
+  needed_in_conflict = count_by (is_in_conflict (state_of table)) reread;
   runs = run_count reread;
 }
 

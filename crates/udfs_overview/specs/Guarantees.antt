@@ -59,7 +59,7 @@ why_place (why.SameName path) = shown_path path
 
 -- so many blocks that are not known decide it
 abbrev pub open_words : ℕ → List ℕ
-open_words n = counted n (by_number n (codes " block that could is not known") (codes " blocks that could are not known"))
+open_words n = counted n (by_number n (codes " unknown block could") (codes " unknown blocks could"))
 
 -- the sentence of a volume that is not lawful
 unfoldable pub unlawful_text : Why → List ℕ

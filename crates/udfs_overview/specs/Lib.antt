@@ -9,6 +9,7 @@ pub mod Tallies
 pub mod DiscTallies
 pub mod Sentences
 pub mod SummaryTexts
+pub mod LostSummaries
 pub mod Streams
 pub mod MovedTags
 pub mod Spares
@@ -20,6 +21,8 @@ pub mod Guarantees
 pub mod Disagreements
 pub mod Searched
 pub mod LostTrees
+pub mod LostTallies
+pub mod Verdicts
 pub mod LostLists
 pub mod FoundLists
 pub mod FullLists
@@ -28,6 +31,7 @@ pub mod Repeating
 pub mod NextCommands
 pub mod Widenings
 pub mod NodeWidenings
+pub mod SummaryFigures
 pub mod Summaries
 pub mod SummaryJson
 pub mod SummaryPieces

@@ -63,11 +63,11 @@ moved_count blocks r = moved_by blocks r.volume r.nodes
 
 -- the line of several such folders
 abbrev pub many_moved_line : ℕ → List ℕ
-many_moved_line n = codes "Tags       " ++ counted n (codes " folders have tags of another place\n")
+many_moved_line n = codes "Tags       " ++ counted n (codes " folders have tags that name another place\n")
 
 -- the line of one such folder, or of several
 abbrev pub some_moved_line : ℕ → List ℕ
-some_moved_line n = if n == 1 then codes "Tags       1 folder has tags of another place\n" else many_moved_line n
+some_moved_line n = if n == 1 then codes "Tags       1 folder has tags that name another place\n" else many_moved_line n
 
 -- the line of these folders, if there are any
 abbrev pub moved_line : ℕ → List ℕ

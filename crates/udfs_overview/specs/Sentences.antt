@@ -33,7 +33,7 @@ files_part t = complete_text t.whole_files ++ part (codes ", ") t.torn_files (co
 unfoldable pub folders_part : Tally → List ℕ
 folders_part t =
     part (codes ",\n") t.disputed (codes " disputed: two readings differ") ++ part (codes ",\n") t.faulty (codes " with faults") ++ part (codes ",\n") t.left_out (codes " of a type that is not written")
-    ++ part (codes ",\n") t.torn_folders (by_number t.torn_folders (codes " folder may lack names") (codes " folders may lack names"))
+    ++ part (codes ",\nnames may be missing in ") t.torn_folders (by_number t.torn_folders (codes " folder") (codes " folders"))
 
 -- how many blocks are worth reading again
 unfoldable pub worth_text : ℕ → List ℕ

@@ -1,4 +1,4 @@
--- Files with named streams, which are not looked at.
+-- Files with named streams, which are ignored.
 --     names_streams bytes           the entry in these bytes has a stream directory
 --     has_streams view node         the node is a file, whole or torn, whose entry has one
 --     entry_has_streams view entry  the same of an entry that no name leads to
@@ -65,11 +65,11 @@ stream_count blocks r = streams_by blocks r.volume r.nodes r.unnamed
 
 -- the line of several such files
 abbrev pub many_streams_line : ℕ → List ℕ
-many_streams_line n = codes "Streams    " ++ counted n (codes " files with named streams, which are not looked at\n")
+many_streams_line n = codes "Streams    " ++ counted n (codes " files with named streams, which are ignored\n")
 
 -- the line of one such file, or of several
 abbrev pub some_streams_line : ℕ → List ℕ
-some_streams_line n = if n == 1 then codes "Streams    1 file with named streams, which are not looked at\n" else many_streams_line n
+some_streams_line n = if n == 1 then codes "Streams    1 file with named streams, which are ignored\n" else many_streams_line n
 
 -- the line of these files, if there are any
 abbrev pub streams_line : ℕ → List ℕ

@@ -1,11 +1,10 @@
 -- The figures of a summary as a JSON object. Keys are in byte order.
---     figures_of rules table last report      all that a summary counts, by the definitions of its lines
 --     guarantee_data answer                   whether the guarantee holds
 --     summary_json rules table last report answer    the object of a report, and a line feed
 use Rattle.std.specs.Prelude.{ℕ, ◌+◌, ◌*◌, ◌==◌, ◌&&◌, Bool, not, List, ◌++◌, codes, length}
 use Rattle.serde_json.specs.Data.{Data, null, boolean, string, object, Members, member, no_members}
 use Rattle.serde_json.specs.Written.{compact_text}
-use Rattle.udfs_lattice.specs.Tables.{Table, state_of}
+use Rattle.udfs_lattice.specs.Tables.{Table}
 use Rattle.udfs_osta.specs.declared.labels.Label.{Label}
 use Rattle.udfs_osta.specs.declared.labels.Label.TheVariants as label
 use Rattle.udfs_volume.specs.Answers.{Answer, found, holes, faulty}
@@ -19,32 +18,15 @@ use Rattle.udfs_salvage.specs.Reports.{Report}
 use Rattle.udfs_salvage.specs.Texts.{revision_text}
 use Rattle.udfs_lawfulness.specs.declared.answers.Lawfulness.{Lawfulness}
 use Rattle.udfs_lawfulness.specs.declared.answers.Lawfulness.TheVariants as answer
-use Rattle.udfs_overview.specs.DiscTallies.{disc_of, unnamed_of}
 use Rattle.udfs_overview.specs.Guarantees.{guarantee_text}
-use Rattle.udfs_overview.specs.MovedTags.{moved_count}
 use Rattle.udfs_overview.specs.SafeNames.{safe_name}
-use Rattle.udfs_overview.specs.Spares.{spares_disagree}
-use Rattle.udfs_overview.specs.Streams.{stream_count}
-use Rattle.udfs_overview.specs.Summaries.{is_all_whole}
-use Rattle.udfs_overview.specs.Tallies.{tally_of}
+use Rattle.udfs_overview.specs.SummaryFigures.{figures_of}
 use Rattle.udfs_overview.specs.declared.disc_tallies.DiscTally.{DiscTally}
 use Rattle.udfs_overview.specs.declared.disc_tallies.UnnamedTally.{UnnamedTally}
+use Rattle.udfs_overview.specs.declared.lost_tallies.LostTally.{LostTally}
 use Rattle.udfs_overview.specs.declared.summary_figures.Figures.{Figures}
 use Rattle.udfs_overview.specs.declared.tallies.Tally.{Tally}
-
--- all that a summary counts
-unfoldable pub figures_of : Profile → Table → ℕ → Report → Figures
-figures_of rules table last r = record {
-  profile = rules;
-  last = last;
-  all_whole = is_all_whole r;
-  tally = tally_of (state_of table) r.nodes;
-  disc = disc_of table last r.reread;
-  unnamed = unnamed_of r.unnamed;
-  moved = moved_count (state_of table) r;
-  streams = stream_count (state_of table) r;
-  spares_disagree = spares_disagree (state_of table) r.volume;
-}
+use Rattle.udfs_overview.specs.declared.verdicts.Verdict.{Verdict}
 
 -- what is not read may be a whole folder, and a torn folder may lack names: the figures of files and folders are the least that they can be
 abbrev pub is_at_least : Tally → Bool
@@ -85,6 +67,18 @@ others_data t = object (
     (member (codes "loops") (count t.loops)
     (member (codes "unread") (count t.unread)
     no_members))))
+
+-- what is lost, and how many entries were deleted
+unfoldable pub lost_data : LostTally → Data
+lost_data t = object (
+    member (codes "deleted") (count t.deleted)
+    (member (codes "files_without_folder") (count t.files)
+    (member (codes "folders") (count t.folders)
+    (member (codes "too_many") (boolean t.too_many)
+    (member (codes "torn") (count t.torn_files)
+    (member (codes "whole") (count t.whole_files)
+    (member (codes "whole_bytes") (count t.whole_bytes)
+    no_members)))))))
 
 -- the whole files that no name leads to
 unfoldable pub unnamed_data : UnnamedTally → Data
@@ -130,48 +124,55 @@ guarantee_data a = object (
     no_members)))
 
 -- of a volume that opens
-unfoldable pub open_data : Figures → Layout → Lawfulness → Data
+unfoldable pub open_data : Figures → Layout → Verdict → Data
 open_data f l a = object (
     member (codes "all_whole") (boolean f.all_whole)
     (member (codes "at_least") (boolean (is_at_least f.tally))
     (member (codes "disc") (disc_data f.last f.disc)
     (member (codes "files") (files_data f.tally)
     (member (codes "folders") (folders_data f.tally)
-    (member (codes "guarantee") (guarantee_data a)
+    (member (codes "guarantee") (guarantee_data a.lawfulness)
     (member (codes "label") (label_data l.label)
+    (member (codes "lost") (lost_data a.lost)
     (member (codes "others") (others_data f.tally)
     (member (codes "profile") (string (profile_name f.profile))
     (member (codes "remarks") (remarks_data f)
     (member (codes "revision") (string (revision_text l.revision))
     (member (codes "state") (string (codes "ok"))
     (member (codes "unnamed") (unnamed_data f.unnamed)
-    no_members)))))))))))))
+    no_members))))))))))))))
 
 -- of a volume that lacks blocks before it opens
-unfoldable pub holes_data : Figures → Lawfulness → Data
+unfoldable pub holes_data : Figures → Verdict → Data
 holes_data f a = object (
     member (codes "disc") (disc_data f.last f.disc)
-    (member (codes "guarantee") (guarantee_data a)
+    (member (codes "guarantee") (guarantee_data a.lawfulness)
+    (member (codes "lost") (lost_data a.lost)
     (member (codes "profile") (string (profile_name f.profile))
     (member (codes "state") (string (codes "holes"))
-    no_members))))
+    no_members)))))
 
 -- of a volume with this fault
-unfoldable pub fault_data : Figures → List ℕ → Lawfulness → Data
+unfoldable pub fault_data : Figures → List ℕ → Verdict → Data
 fault_data f name a = object (
     member (codes "disc") (disc_data f.last f.disc)
     (member (codes "fault") (string name)
-    (member (codes "guarantee") (guarantee_data a)
+    (member (codes "guarantee") (guarantee_data a.lawfulness)
+    (member (codes "lost") (lost_data a.lost)
     (member (codes "profile") (string (profile_name f.profile))
     (member (codes "state") (string (codes "fault"))
-    no_members)))))
+    no_members))))))
 
 -- by what the volume is: of one that does not open, its files are not counted
-abbrev pub summary_data : Answer Found → Figures → Lawfulness → Data
+abbrev pub summary_data : Answer Found → Figures → Verdict → Data
 summary_data (found o) f a = open_data f o.layout a
 summary_data (holes blocks) f a = holes_data f a
 summary_data (faulty fault) f a = fault_data f (volume_fault_name fault) a
 
--- the object of a report, where this answers whether it is lawful, and a line feed
-unfoldable pub summary_json : Profile → Table → ℕ → Report → Lawfulness → List ℕ
-summary_json rules table last r a = compact_text (summary_data r.volume (figures_of rules table last r) a) ++ codes "\n"
+-- the object of a volume with these figures, where this answers whether it is lawful, and what is lost of it, and a line feed
+unfoldable pub figures_json : Answer Found → Figures → Verdict → List ℕ
+figures_json volume f a = compact_text (summary_data volume f a) ++ codes "\n"
+
+-- the object of a report by the rules of a profile
+unfoldable pub summary_json : Profile → Table → ℕ → Report → Verdict → List ℕ
+summary_json rules table last r a = figures_json r.volume (figures_of rules table last r) a

@@ -1,12 +1,11 @@
 -- Lines of the summary.
 --     files_line tally, others_line tally         of a report's nodes
---     unnamed_line tally, disc_line tally         of entries without a name, and of the blocks
-use Rattle.std.specs.Prelude.{ℕ, ◌==◌, ◌&&◌, List, [], ◌++◌, codes, if◌then◌else◌}
+--     disc_line tally                             of the blocks
+use Rattle.std.specs.Prelude.{ℕ, ◌==◌, List, [], ◌++◌, codes, if◌then◌else◌}
 use Rattle.udfs_overview.specs.Figures.{size_text}
 use Rattle.udfs_overview.specs.Sentences.{at_least, by_number, counted, part}
 use Rattle.udfs_overview.specs.declared.tallies.Tally.{Tally}
 use Rattle.udfs_overview.specs.declared.disc_tallies.DiscTally.{DiscTally}
-use Rattle.udfs_overview.specs.declared.disc_tallies.UnnamedTally.{UnnamedTally}
 
 -- how many files are whole, and their bytes
 abbrev pub whole_files_text : Tally → List ℕ
@@ -33,12 +32,6 @@ others_line t =
     part (codes "Other      ") t.others (by_number t.others (codes " link or device\n") (codes " links and devices\n"))
     ++ part (codes "Faults     ") t.faulty (codes " with faults\n")
     ++ part (codes "Loops      ") t.loops (by_number t.loops (codes " folder that is inside itself\n") (codes " folders that are inside themselves\n"))
-
--- the line of whole files that no name leads to, if there are any, and the option that writes them
-unfoldable pub unnamed_line : UnnamedTally → List ℕ
-unnamed_line t =
-    if t.with_data == 0 && t.empty == 0 then []
-    else codes "No name    " ++ counted t.with_data (by_number t.with_data (codes " whole file with data, ") (codes " whole files with data, ")) ++ counted t.empty (codes " empty: extract --lost lost\n")
 
 -- how many blocks are worth reading again, and in how many places
 unfoldable pub needed_text : DiscTally → List ℕ

@@ -3,6 +3,7 @@
 --     count_of sort nodes          how many nodes are of the sort
 --     bytes_of sort nodes          how many bytes they have
 --     torn_files blocks nodes      the torn files, each with what it lacks, and whether it is disputed
+--     tally_with torn nodes        all that is counted of nodes, of which these are the torn files
 --     tally_of blocks nodes        all that is counted of nodes
 use Rattle.std.specs.Prelude.{ℕ, ◌+◌, ◌^◌, ◌-◌, ◌&&◌, ◌||◌, Bool, true, false, not, List, cond, count_by, filter_map, sum_by, min, Option, Some, None, is_none, is_some}
 use Rattle.std.specs.List.{list_all}
@@ -151,7 +152,7 @@ at_most_128_bits n = min n (2 ^ 128 - 1)
 -- ---- all
 
 -- all that is counted of nodes, of which these are the torn files
-abbrev pub tally_with : List TornPart → List NodeFields → Tally
+unfoldable pub tally_with : List TornPart → List NodeFields → Tally
 tally_with torn nodes = record {
   whole_files = count_of sort.WholeFile nodes;
   whole_bytes = bytes_of sort.WholeFile nodes;

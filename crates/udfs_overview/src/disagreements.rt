@@ -1,15 +1,15 @@
 //! Known blocks by which the volume is opened that do not say the same.
 
-ghost use Rattle.std.specs.Prelude.{◌≡◌, ◌≤◌, ◌++◌, IsTrue, OnOk, Some, decimal};
+ghost use Rattle.std.specs.Prelude.{◌≡◌, ◌≤◌, ◌++◌, IfOk, IsTrue, OnErr, OnOk, Some, decimal};
 ghost use Rattle.std.specs.String.{string_bytes};
-ghost use Rattle.udfs_lattice.specs.Tables.{state_of};
-ghost use Rattle.udfs_overview.specs.Disagreements.{anchors_back, anchors_front, anchors_line, anchors_text, apart_lines, copies_line, has_room};
+ghost use Rattle.udfs_overview.specs.Disagreements.{anchors_back, anchors_front, anchors_line, anchors_of, anchors_text, apart_lines, copies_line, copies_of, has_room};
 
 use std::alloc::Global;
 use std::fmt::Write;
+use udfs_lattice::{BlockStore, ReadFault};
 use udfs_osta::OutOfMemory;
-use udfs_salvage::Survey;
-use udfs_volume::differences::{anchors_apart, copies_differ};
+use udfs_volume::Profile;
+use udfs_volume::differences::{anchors_apart_by, copies_differ_by};
 
 /// A number in decimal.
 fn push_decimal(text: &mut String, number: u32) -> Result<(), OutOfMemory>
@@ -90,20 +90,59 @@ pub fn has_room(last: u32) -> bool
     (513..=4_194_303).contains(&last)
 }
 
-/// Appends the lines that say so where two known anchors name different extents (ECMA-167 3/10.2), and where known copies of the volume
-/// descriptor sequence do not say the same of it or of the layout (ECMA-167 3/8.4), whether the volume opens or not. Then no lawful volume agrees with the table.
+/// Two known anchors that name different extents (ECMA-167 3/10.2), if there are two, of a disc that has room for a volume.
+///
+/// # Errors
+///
+/// `ReadFault` where the bytes of a known block could not be read.
+#[tactic(auto, unfolding(crate::specs::Disagreements::anchors_of))]
+pub(crate) fn anchors_of<B: BlockStore>(
+    blocks: &B,
+    last: u32,
+) -> Result<Option<(u32, u32)>, ReadFault>
+    ensures value { IfOk result (λ places. B.tells → places ≡ anchors_of (B.states blocks.now) last) }
+    ensures fails { OnErr result B.fails }
+{
+    if !has_room(last) {
+        return Ok(None);
+    }
+    anchors_apart_by(blocks, last)
+}
+
+/// Whether known copies of the volume descriptor sequence do not say the same of it or of the layout (ECMA-167 3/8.4), of a disc that has room for a volume.
+///
+/// # Errors
+///
+/// `ReadFault` where the bytes of a known block could not be read.
+#[tactic(auto, unfolding(crate::specs::Disagreements::copies_of))]
+pub(crate) fn copies_of<B: BlockStore>(
+    alloc: Global,
+    blocks: &B,
+    last: u32,
+    profile: Profile,
+) -> Result<bool, ReadFault>
+    ensures value { IfOk result (λ differ. B.tells → differ ≡ copies_of profile (B.states blocks.now) last) }
+    ensures fails { OnErr result B.fails }
+{
+    if !has_room(last) {
+        return Ok(false);
+    }
+    copies_differ_by(alloc, blocks, last, profile)
+}
+
+/// Appends the lines of two known anchors that name different extents, if there are two, and of known copies of the volume descriptor sequence, if they
+/// differ, whether the volume opens or not. Then no lawful volume agrees with the table.
 ///
 /// # Errors
 ///
 /// If memory runs out. Then a part may be appended.
-#[tactic(auto, unfolding(crate::specs::Disagreements::apart_lines))]
-pub fn push_apart(alloc: Global, text: &mut String, survey: &Survey<'_>) -> Result<(), OutOfMemory>
-    ensures { OnOk result (string_bytes text.new ≡ string_bytes text.old ++ apart_lines survey.now.profile (state_of survey.now.table.now) survey.now.last) }
+pub fn push_apart(
+    text: &mut String,
+    anchors: Option<(u32, u32)>,
+    copies: bool,
+) -> Result<(), OutOfMemory>
+    ensures { OnOk result (string_bytes text.new ≡ string_bytes text.old ++ apart_lines anchors copies) }
 {
-    if !has_room(survey.last) {
-        return Ok(());
-    }
-    push_anchors(text, anchors_apart(survey.table, survey.last))?;
-    let differ = copies_differ(alloc, survey.table, survey.last, survey.profile);
-    push_copies(text, differ)
+    push_anchors(text, anchors)?;
+    push_copies(text, copies)
 }

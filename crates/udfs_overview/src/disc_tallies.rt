@@ -1,13 +1,14 @@
 //! What is counted of the disc, and of entries that no name leads to.
 
 ghost use Rattle.std.specs.Prelude.{◌≡◌, ◌+◌, ◌∷◌, ◌≤◌, ℕ, List, count_by};
-ghost use Rattle.udfs_salvage.specs.Surveys.{survey_now};
+ghost use Rattle.udfs_lattice.specs.Tables.{Table};
+ghost use Rattle.udfs_salvage.specs.Surveys.{survey_by};
 ghost use Rattle.udfs_overview.specs.DiscTallies.{disc_of, has_data, is_empty_file, is_in_conflict, run_count, unnamed_of};
 
 use crate::node_columns::is_whole;
 use crate::tallies::is_file;
-use udfs_lattice::{BlockTable, Fact};
-use udfs_salvage::Survey;
+use udfs_lattice::{BlockStore, Fact};
+use udfs_salvage::{ReportStore, Survey};
 use udfs_walk::Unnamed;
 
 /// The blocks of a disc, by what is known of them. All from 0 to the last one are known, not known or in conflict.
@@ -62,22 +63,22 @@ fn ends_of(number: u32, others: &[u32]) -> usize
 }
 
 /// Whether two readings of a block differ.
-pub(crate) fn is_in_conflict(table: &BlockTable, block: u32) -> bool
-    ensures { result ≡ is_in_conflict table.now block }
+pub(crate) fn is_in_conflict<B: BlockStore>(blocks: &B, block: u32) -> bool
+    ensures { B.tells → result ≡ is_in_conflict (B.states blocks.now) block }
 {
-    match table.state(block) {
+    match blocks.knowledge(block) {
         Fact::Unknown | Fact::Known(_) => false,
         Fact::Conflict => true,
     }
 }
 
 /// How many of these blocks are in conflict.
-fn count_in_conflict(table: &BlockTable, blocks: &[u32]) -> usize
-    ensures { result ≡ count_by (is_in_conflict table.now) blocks.now }
+fn count_in_conflict<B: BlockStore>(blocks: &B, numbers: &[u32]) -> usize
+    ensures { B.tells → result ≡ count_by (is_in_conflict (B.states blocks.now)) numbers.now }
 {
     let mut count = 0;
-    for block in blocks {
-        if is_in_conflict(table, *block) {
+    for number in numbers {
+        if is_in_conflict(blocks, *number) {
             count += 1;
         }
     }
@@ -86,8 +87,8 @@ fn count_in_conflict(table: &BlockTable, blocks: &[u32]) -> usize
 
 /// Counts the blocks of the disc that a survey is of.
 #[tactic(auto, unfolding(crate::specs::DiscTallies::disc_of))]
-pub fn count_disc(survey: &Survey<'_>) -> DiscTally
-    ensures { result ≡ disc_of survey.now.table.now survey.now.last survey.now.reread.items }
+pub(crate) fn count_disc<B: ReportStore>(survey: &Survey<'_, B>) -> DiscTally
+    ensures { B.tells → (t : Table) → B.holds survey.now.table.now t → result ≡ disc_of t survey.now.last survey.now.reread.items }
 {
     let known = survey.table.known();
     let conflicts = survey.table.conflicts();
@@ -105,7 +106,7 @@ pub fn count_disc(survey: &Survey<'_>) -> DiscTally
 }
 
 /// Whether an entry is a whole file with bytes.
-fn has_data(entry: &Unnamed) -> bool
+pub(crate) fn has_data(entry: &Unnamed) -> bool
     ensures { result ≡ has_data entry.now }
 {
     is_whole(&entry.standing) && is_file(entry.kind) && entry.size > 0
@@ -145,8 +146,8 @@ fn count_empty(entries: &[Unnamed]) -> usize
 }
 
 /// Counts the whole files that no name leads to, in the report that a survey represents.
-pub fn count_unnamed(survey: &Survey<'_>) -> UnnamedTally
-    ensures { result ≡ unnamed_of (survey_now survey.now).unnamed }
+pub(crate) fn count_unnamed<B: BlockStore>(survey: &Survey<'_, B>) -> UnnamedTally
+    ensures { result ≡ unnamed_of (survey_by B.states survey.now).unnamed }
 {
     let entries = survey.unnamed.as_slice();
     UnnamedTally {

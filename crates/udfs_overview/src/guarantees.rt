@@ -91,11 +91,7 @@ pub fn push_why_place(text: &mut String, why: &Why) -> Result<(), OutOfMemory>
 fn push_open_words(text: &mut String, number: u64) -> Result<(), OutOfMemory>
     ensures { OnOk result (string_bytes text.new ≡ string_bytes text.old ++ open_words number) }
 {
-    let words = by_number(
-        number,
-        " block that could is not known",
-        " blocks that could are not known",
-    );
+    let words = by_number(number, " unknown block could", " unknown blocks could");
     push_counted(text, number, words)
 }
 

@@ -2,13 +2,14 @@
 
 ghost use Rattle.std.specs.Prelude.{◌≡◌, ◌≤◌, ◌++◌, IfOk, OnOk, flat_map, option_map};
 ghost use Rattle.std.specs.String.{string_bytes};
-ghost use Rattle.udfs_salvage.specs.Surveys.{survey_now};
+ghost use Rattle.udfs_salvage.specs.Surveys.{survey_by};
 ghost use Rattle.udfs_overview.specs.LeftOut.{files_text, further_type, left_out_line, left_out_note, left_out_remark, left_out_type, left_out_types, of_types, other_type, remark_of, sized_type, type_name, type_text, types_below, types_text, which_of, wide_count, wide_text, wide_writes};
 
 use crate::figures::push_grouped;
 use std::alloc::Global;
 use std::fmt::Write;
 use udfs_file::Kind;
+use udfs_lattice::BlockStore;
 use udfs_osta::OutOfMemory;
 use udfs_salvage::Survey;
 use udfs_volume::Profile;
@@ -66,8 +67,11 @@ fn types_in(alloc: Global, nodes: &[Node]) -> Result<Vec<u8>, OutOfMemory>
 ///
 /// If memory runs out.
 #[tactic(auto, using(crate::proofs::Counting::types_full))]
-pub fn left_out_types(alloc: Global, survey: &Survey<'_>) -> Result<Vec<u8>, OutOfMemory>
-    ensures { IfOk result (λ types. types.items ≡ left_out_types (survey_now survey.now).nodes) }
+pub fn left_out_types<B: BlockStore>(
+    alloc: Global,
+    survey: &Survey<'_, B>,
+) -> Result<Vec<u8>, OutOfMemory>
+    ensures { IfOk result (λ types. types.items ≡ left_out_types (survey_by B.states survey.now).nodes) }
 {
     types_in(alloc, &survey.nodes)
 }
@@ -105,8 +109,11 @@ fn wide_count(types: &[u8]) -> usize
 ///
 /// If memory runs out.
 #[tactic(auto, unfolding(crate::specs::LeftOut::wide_writes))]
-pub fn wide_writes(alloc: Global, survey: &Survey<'_>) -> Result<bool, OutOfMemory>
-    ensures { IfOk result (λ so. so ≡ wide_writes (survey_now survey.now).nodes) }
+pub fn wide_writes<B: BlockStore>(
+    alloc: Global,
+    survey: &Survey<'_, B>,
+) -> Result<bool, OutOfMemory>
+    ensures { IfOk result (λ so. so ≡ wide_writes (survey_by B.states survey.now).nodes) }
 {
     let types = left_out_types(alloc, survey)?;
     Ok(wide_count(&types) > 0)

@@ -1,8 +1,9 @@
 //! The lost folders of a volume: their trees are looked for before a line is shown.
 
-ghost use Rattle.std.specs.Prelude.{◌≡◌, IfErr, IfOk, Some, option_map};
+ghost use Rattle.std.specs.Prelude.{◌≡◌, IfErr, IfOk, IsErrOf, Some, option_map};
 ghost use Rattle.udfs_lattice.specs.Tables.{state_of};
-ghost use Rattle.udfs_space.specs.Views.{view_now};
+ghost use Rattle.udfs_space.specs.Views.{view_by, view_now};
+ghost use Rattle.udfs_walk.specs.GivingUp.{IfTold};
 ghost use Rattle.udfs_lost.specs.Folders.{lost_folders};
 ghost use Rattle.udfs_lost.specs.PlacedVolumes.{placed_now};
 ghost use Rattle.udfs_overview.specs.LostTrees.{AreLost, AreLostBy, IsLostOf, IsUnfound, IsUnfoundBy};
@@ -11,12 +12,14 @@ ghost use Rattle.udfs_overview.specs.Searched.{of_placed, rootless_now, searched
 
 use crate::disagreements::has_room;
 use std::alloc::{AllocError, Global};
-use udfs_lattice::BlockTable;
-use udfs_lost::{LostTree, PlacedVolume, lost_roots, lost_trees, placed_volume};
+use udfs_lattice::{BlockStore, BlockTable, GaveUp};
+use udfs_lost::{
+    LostTree, PlacedVolume, lost_roots, lost_roots_by, lost_trees, lost_trees_by, placed_volume_by,
+};
 use udfs_salvage::{Survey, Volume};
-use udfs_space::View;
+use udfs_space::{StoreView, View};
 use udfs_volume::Profile;
-use udfs_walk::{NodesError, Unnamed};
+use udfs_walk::{NodesError, NodesGaveUp, Unnamed};
 
 /// What is known of a volume without its file set: no name is known to lead to any of its entries.
 #[derive(Debug, Drop)]
@@ -51,20 +54,56 @@ fn found_in(
     Ok(trees)
 }
 
-/// A volume by its layout and places, with all of its entries.
-fn with_entries(
+/// The same by any store of blocks.
+pub(crate) fn found_in_by<B: BlockStore>(
     alloc: Global,
-    table: &BlockTable,
-    volume: PlacedVolume,
-) -> Result<Rootless, AllocError>
-    ensures { IfOk result (λ found. rootless_now (state_of table.now) found ≡ of_placed (state_of table.now) (placed_now volume)) }
+    view: StoreView<'_, B>,
+    deleted: bool,
+    entries: &[Unnamed],
+) -> Result<Vec<LostTree>, NodesGaveUp>
+    ensures trees { IfOk result (λ trees. B.tells → AreLost (view_by B.states view.entry) deleted entries.now trees.items) }
+    ensures refused { IfErr result (λ e. B.tells → IfTold (IsUnfound (view_by B.states view.entry) (lost_folders (view_by B.states view.entry) deleted entries.now)) e) }
+    ensures fails { IsErrOf result NodesGaveUp.Unread → B.fails }
 {
-    let entries = volume.entries(alloc, table)?;
+    let roots = lost_roots_by(alloc, view, deleted, entries)?;
+    let trees = lost_trees_by(alloc, view, &roots)?;
+    Ok(trees)
+}
+
+/// A volume by its layout and places, with all of its entries.
+fn with_entries<B: BlockStore>(
+    alloc: Global,
+    blocks: &B,
+    volume: PlacedVolume,
+) -> Result<Rootless, GaveUp>
+    ensures value { IfOk result (λ found. B.tells → rootless_now (B.states blocks.now) found ≡ of_placed (B.states blocks.now) (placed_now volume)) }
+    ensures fails { IsErrOf result GaveUp.Unread → B.fails }
+{
+    let entries = volume.entries_by(alloc, blocks)?;
     Ok(Rootless { volume, entries })
 }
 
-/// What is known of a volume without its file set, where its layout and places are found.
+/// What is known of a volume without its file set, where its layout and places are found, by any store of blocks.
 #[tactic(auto, unfolding(crate::specs::Searched::without_root))]
+pub(crate) fn without_root_by<B: BlockStore>(
+    alloc: Global,
+    blocks: &B,
+    last: u32,
+    profile: Profile,
+) -> Result<Option<Rootless>, GaveUp>
+    ensures value { IfOk result (λ found. B.tells → option_map (rootless_now (B.states blocks.now)) found ≡ without_root profile (B.states blocks.now) last) }
+    ensures fails { IsErrOf result GaveUp.Unread → B.fails }
+{
+    if !has_room(last) {
+        return Ok(None);
+    }
+    match placed_volume_by(alloc, blocks, last, profile)? {
+        Some(volume) => Ok(Some(with_entries(alloc, blocks, volume)?)),
+        None => Ok(None),
+    }
+}
+
+/// The same by a table.
 fn without_root(
     alloc: Global,
     table: &BlockTable,
@@ -73,12 +112,10 @@ fn without_root(
 ) -> Result<Option<Rootless>, AllocError>
     ensures { IfOk result (λ found. option_map (rootless_now (state_of table.now)) found ≡ without_root profile (state_of table.now) last) }
 {
-    if !has_room(last) {
-        return Ok(None);
-    }
-    match placed_volume(alloc, table, last, profile)? {
-        Some(volume) => Ok(Some(with_entries(alloc, table, volume)?)),
-        None => Ok(None),
+    match without_root_by(alloc, table, last, profile) {
+        Ok(found) => Ok(found),
+        Err(GaveUp::OutOfMemory) => Err(AllocError),
+        Err(GaveUp::Unread) => unreachable!(),
     }
 }
 

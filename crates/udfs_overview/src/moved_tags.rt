@@ -1,22 +1,22 @@
 //! Folders in which tags name another place than the block in which they are.
 
-ghost use Rattle.std.specs.Prelude.{◌≡◌, ◌≤◌, ◌++◌, IfOk, OnOk, count_by, length};
+ghost use Rattle.std.specs.Prelude.{◌≡◌, ◌≤◌, ◌++◌, IfOk, IsErrOf, OnOk, count_by, length};
 ghost use Rattle.std.specs.String.{string_bytes};
-ghost use Rattle.udfs_lattice.specs.Tables.{state_of};
-ghost use Rattle.udfs_space.specs.Views.{view_now};
+ghost use Rattle.udfs_space.specs.Views.{view_by};
 ghost use Rattle.udfs_walk.specs.Targets.{target};
-ghost use Rattle.udfs_salvage.specs.Surveys.{survey_now};
+ghost use Rattle.udfs_salvage.specs.Surveys.{survey_by};
 ghost use Rattle.udfs_overview.specs.MovedTags.{is_folder, is_moved, many_moved_line, moved_count, moved_line, some_moved_line, target_moved};
 
 use crate::sentences::push_counted;
 use std::alloc::Global;
 use udfs_file::{Dir, Kind};
+use udfs_lattice::{BlockStore, GaveUp};
 use udfs_osta::OutOfMemory;
 use udfs_salvage::{Survey, Volume};
-use udfs_space::View;
+use udfs_space::StoreView;
 use udfs_tag::LongAd;
 use udfs_volume::Profile;
-use udfs_walk::{Node, Standing, body_at};
+use udfs_walk::{Node, Standing, body_by};
 
 /// Whether something of this standing and kind is a folder that is not inside itself.
 fn is_folder(standing: &Standing, kind: Kind) -> bool
@@ -30,18 +30,31 @@ fn is_folder(standing: &Standing, kind: Kind) -> bool
 
 /// Whether some tag in the body of what an address leads to names another place.
 #[tactic(auto, using(crate::proofs::Moving::body_found, crate::proofs::Moving::none_found))]
-fn target_moved(alloc: Global, view: View<'_>, address: LongAd) -> Result<bool, OutOfMemory>
-    ensures { IfOk result (λ moved. moved ≡ target_moved (view_now view.entry) address (target (view_now view.entry) address)) }
+fn target_moved<B: BlockStore>(
+    alloc: Global,
+    view: StoreView<'_, B>,
+    address: LongAd,
+) -> Result<bool, GaveUp>
+    ensures value { IfOk result (λ moved. B.tells → moved ≡ target_moved (view_by B.states view.entry) address (target (view_by B.states view.entry) address)) }
+    ensures fails { IsErrOf result GaveUp.Unread → B.fails }
 {
-    match body_at(alloc, view, address)? {
-        Some(body) => Ok(Dir::has_moved_tags(view, &body)),
+    match body_by(alloc, view, address)? {
+        Some(body) => {
+            let moved = Dir::has_moved_tags_by(view, &body)?;
+            Ok(moved)
+        }
         None => Ok(false),
     }
 }
 
 /// Whether a node is a folder that the rules of the view read though a tag in it names another place.
-fn is_moved(alloc: Global, view: View<'_>, node: &Node) -> Result<bool, OutOfMemory>
-    ensures { IfOk result (λ moved. moved ≡ is_moved (view_now view.entry) node.now) }
+fn is_moved<B: BlockStore>(
+    alloc: Global,
+    view: StoreView<'_, B>,
+    node: &Node,
+) -> Result<bool, GaveUp>
+    ensures value { IfOk result (λ moved. B.tells → moved ≡ is_moved (view_by B.states view.entry) node.now) }
+    ensures fails { IsErrOf result GaveUp.Unread → B.fails }
 {
     match view.space.profile() {
         Profile::Strict => Ok(false),
@@ -56,8 +69,13 @@ fn is_moved(alloc: Global, view: View<'_>, node: &Node) -> Result<bool, OutOfMem
 }
 
 /// How many nodes are such folders.
-fn count_folders(alloc: Global, view: View<'_>, nodes: &[Node]) -> Result<usize, OutOfMemory>
-    ensures { IfOk result (λ count. count ≡ count_by (is_moved (view_now view.entry)) nodes.now) }
+fn count_folders<B: BlockStore>(
+    alloc: Global,
+    view: StoreView<'_, B>,
+    nodes: &[Node],
+) -> Result<usize, GaveUp>
+    ensures value { IfOk result (λ count. B.tells → count ≡ count_by (is_moved (view_by B.states view.entry)) nodes.now) }
+    ensures fails { IsErrOf result GaveUp.Unread → B.fails }
 {
     let mut count = 0;
     for node in nodes {
@@ -73,14 +91,19 @@ fn count_folders(alloc: Global, view: View<'_>, nodes: &[Node]) -> Result<usize,
 ///
 /// # Errors
 ///
-/// If memory runs out.
+/// `OutOfMemory` if memory runs out, and `Unread` where the bytes of a known block could not be read.
 #[tactic(auto, using(crate::proofs::Moving::moved_full), unfolding(crate::specs::MovedTags::moved_count))]
-pub fn count_moved(alloc: Global, survey: &Survey<'_>) -> Result<usize, OutOfMemory>
-    ensures { IfOk result (λ count. count ≡ moved_count (state_of survey.now.table.now) (survey_now survey.now)) }
+pub(crate) fn count_moved<B: BlockStore>(
+    alloc: Global,
+    survey: &Survey<'_, B>,
+) -> Result<usize, GaveUp>
+    ensures value { IfOk result (λ count. B.tells → count ≡ moved_count (B.states survey.now.table.now) (survey_by B.states survey.now)) }
+    ensures fails { IsErrOf result GaveUp.Unread → B.fails }
 {
     match &survey.volume {
         Volume::Open(opened) => {
-            let count = count_folders(alloc, opened.view(survey.table), &survey.nodes)?;
+            let view = opened.view_by(survey.table);
+            let count = count_folders(alloc, view, &survey.nodes)?;
             Ok(count)
         }
         _ => Ok(0),
@@ -95,7 +118,7 @@ fn push_many_moved(text: &mut String, folders: usize) -> Result<(), OutOfMemory>
     push_counted(
         text,
         folders as u64,
-        " folders have tags of another place\n",
+        " folders have tags that name another place\n",
     )
 }
 
@@ -104,7 +127,7 @@ fn push_some_moved(text: &mut String, folders: usize) -> Result<(), OutOfMemory>
     ensures { OnOk result (string_bytes text.new ≡ string_bytes text.old ++ some_moved_line folders) }
 {
     if folders == 1 {
-        return text.push_str("Tags       1 folder has tags of another place\n");
+        return text.push_str("Tags       1 folder has tags that name another place\n");
     }
     push_many_moved(text, folders)
 }

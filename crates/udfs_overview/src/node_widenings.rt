@@ -1,39 +1,48 @@
 //! Entries that the strict rules refuse, and whose bodies the wide rules read.
 
-ghost use Rattle.std.specs.Prelude.{◌≡◌, ◌≤◌, ◌++◌, IfOk, OnOk, count_by, length};
+ghost use Rattle.std.specs.Prelude.{◌≡◌, ◌≤◌, ◌++◌, IfOk, IsErrOf, OnOk, count_by, length};
 ghost use Rattle.std.specs.String.{string_bytes};
-ghost use Rattle.udfs_lattice.specs.Tables.{state_of};
-ghost use Rattle.udfs_space.specs.Views.{view_now};
+ghost use Rattle.udfs_space.specs.Views.{view_by};
 ghost use Rattle.udfs_volume.specs.declared.profiles.Profile.TheVariants as profile;
 ghost use Rattle.udfs_salvage.specs.Found.{volume_by};
-ghost use Rattle.udfs_salvage.specs.Surveys.{survey_now};
+ghost use Rattle.udfs_salvage.specs.Surveys.{survey_by};
 ghost use Rattle.udfs_overview.specs.NodeWidenings.{is_wider, many_wider_line, some_wider_line, wider_count, wider_in, wider_line};
 
 use crate::disagreements::has_room;
 use crate::sentences::push_counted;
 use crate::tallies::is_faulty;
-use std::alloc::{AllocError, Global};
-use udfs_lattice::BlockTable;
+use std::alloc::Global;
+use udfs_lattice::{BlockStore, GaveUp};
 use udfs_osta::OutOfMemory;
 use udfs_salvage::{Survey, open_by};
-use udfs_space::View;
+use udfs_space::StoreView;
 use udfs_volume::{Profile, Seen};
-use udfs_walk::{Node, tail_at};
+use udfs_walk::{Node, tail_by};
 
 /// Whether a node has a fault, and its body is read in this view by the tail of its last extent.
-fn is_wider(alloc: Global, view: View<'_>, node: &Node) -> Result<bool, OutOfMemory>
-    ensures { IfOk result (λ wider. wider ≡ is_wider (view_now view.entry) node.now) }
+fn is_wider<B: BlockStore>(
+    alloc: Global,
+    view: StoreView<'_, B>,
+    node: &Node,
+) -> Result<bool, GaveUp>
+    ensures value { IfOk result (λ wider. B.tells → wider ≡ is_wider (view_by B.states view.entry) node.now) }
+    ensures fails { IsErrOf result GaveUp.Unread → B.fails }
 {
     if !is_faulty(&node.standing) {
         return Ok(false);
     }
-    let tail = tail_at(alloc, view, node.icb)?;
+    let tail = tail_by(alloc, view, node.icb)?;
     Ok(tail)
 }
 
 /// How many nodes these are.
-fn count_in(alloc: Global, view: View<'_>, nodes: &[Node]) -> Result<usize, OutOfMemory>
-    ensures { IfOk result (λ count. count ≡ count_by (is_wider (view_now view.entry)) nodes.now) }
+fn count_in<B: BlockStore>(
+    alloc: Global,
+    view: StoreView<'_, B>,
+    nodes: &[Node],
+) -> Result<usize, GaveUp>
+    ensures value { IfOk result (λ count. B.tells → count ≡ count_by (is_wider (view_by B.states view.entry)) nodes.now) }
+    ensures fails { IsErrOf result GaveUp.Unread → B.fails }
 {
     let mut count = 0;
     for node in nodes {
@@ -44,22 +53,22 @@ fn count_in(alloc: Global, view: View<'_>, nodes: &[Node]) -> Result<usize, OutO
     Ok(count)
 }
 
-/// How many they are in the volume of a table by the wide rules.
-fn count_by_wide(
+/// How many they are in the volume of a store by the wide rules.
+fn count_by_wide<B: BlockStore>(
     alloc: Global,
-    table: &BlockTable,
+    blocks: &B,
     last: u32,
     nodes: &[Node],
-) -> Result<usize, OutOfMemory>
+) -> Result<usize, GaveUp>
     requires from { 513 ≤ last }
     requires to { last ≤ 4194303 }
-    ensures { IfOk result (λ count. count ≡ wider_in (state_of table.now) (volume_by profile.Wide (state_of table.now) last) nodes.now) }
+    ensures value { IfOk result (λ count. B.tells → count ≡ wider_in (B.states blocks.now) (volume_by profile.Wide (B.states blocks.now) last) nodes.now) }
+    ensures fails { IsErrOf result GaveUp.Unread → B.fails }
 {
-    match open_by(alloc, table, last, Profile::Wide) {
-        Ok(Seen::Got(opened)) => count_in(alloc, opened.view(table), nodes),
-        Ok(Seen::Holes(_)) | Ok(Seen::Fault(_)) => Ok(0),
-        Ok(Seen::OutOfMemory) => Err(AllocError),
-        Err(_) => unreachable!(),
+    match open_by(alloc, blocks, last, Profile::Wide)? {
+        Seen::Got(opened) => count_in(alloc, opened.view_by(blocks), nodes),
+        Seen::Holes(_) | Seen::Fault(_) => Ok(0),
+        Seen::OutOfMemory => Err(GaveUp::OutOfMemory),
     }
 }
 
@@ -68,10 +77,14 @@ fn count_by_wide(
 ///
 /// # Errors
 ///
-/// If memory runs out.
+/// `OutOfMemory` if memory runs out, and `Unread` where the bytes of a known block could not be read.
 #[tactic(auto, using(crate::proofs::Wider::wider_full), unfolding(crate::specs::NodeWidenings::wider_count))]
-pub fn count_wider(alloc: Global, survey: &Survey<'_>) -> Result<usize, OutOfMemory>
-    ensures { IfOk result (λ count. count ≡ wider_count survey.now.profile (state_of survey.now.table.now) survey.now.last (survey_now survey.now).nodes) }
+pub(crate) fn count_wider<B: BlockStore>(
+    alloc: Global,
+    survey: &Survey<'_, B>,
+) -> Result<usize, GaveUp>
+    ensures value { IfOk result (λ count. B.tells → count ≡ wider_count survey.now.profile (B.states survey.now.table.now) survey.now.last (survey_by B.states survey.now).nodes) }
+    ensures fails { IsErrOf result GaveUp.Unread → B.fails }
 {
     match survey.profile {
         Profile::Wide => Ok(0),

@@ -75,10 +75,10 @@ fn push_files_part(text: &mut String, tally: &Tally) -> Result<(), OutOfMemory>
 /// The folders that are torn.
 fn push_torn_folders(text: &mut String, folders: u64) -> Result<(), OutOfMemory>
     ensures { OnOk result (string_bytes text.new ≡ string_bytes text.old
-        ++ part (codes ",\n") folders (by_number folders (codes " folder may lack names") (codes " folders may lack names"))) }
+        ++ part (codes ",\nnames may be missing in ") folders (by_number folders (codes " folder") (codes " folders"))) }
 {
-    let words = by_number(folders, " folder may lack names", " folders may lack names");
-    push_part(text, ",\n", folders, words)
+    let words = by_number(folders, " folder", " folders");
+    push_part(text, ",\nnames may be missing in ", folders, words)
 }
 
 /// The files of which readings differ, what has faults, the files of a type that is not written, and the folders that are torn.

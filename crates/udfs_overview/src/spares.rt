@@ -1,6 +1,6 @@
 //! Copies of a sparing table that do not say the same.
 
-ghost use Rattle.std.specs.Prelude.{◌≡◌, ◌+◌, ◌++◌, ℕ, IsTrue, OnOk, drop, map, take};
+ghost use Rattle.std.specs.Prelude.{◌≡◌, ◌+◌, ◌++◌, ℕ, IfOk, IsTrue, OnErr, OnOk, drop, map, take};
 ghost use Rattle.std.specs.List.{list_any};
 ghost use Rattle.std.specs.String.{string_bytes};
 ghost use Rattle.udfs_lattice.specs.States.{fact_now};
@@ -10,15 +10,14 @@ ghost use Rattle.udfs_volume.specs.LayoutParts.{partition_now};
 ghost use Rattle.udfs_volume.specs.Parts.{sparable_now};
 ghost use Rattle.udfs_volume.specs.declared.profiles.Profile.{Profile};
 ghost use Rattle.udfs_salvage.specs.Found.{volume_now};
-ghost use Rattle.udfs_salvage.specs.Reports.{IsReportBy};
+ghost use Rattle.udfs_salvage.specs.Reports.{IsNothingPast, IsReportBy};
 ghost use Rattle.udfs_salvage.specs.Surveys.{survey_now};
 ghost use Rattle.udfs_salvage.specs.TreeReports.{AgreesWithNoneBy};
 ghost use Rattle.udfs_overview.specs.Spares.{differ_in, differs, differs_from, differs_known, map_disagrees, partition_disagrees, said_in, spares_disagree, spares_line};
 
-use udfs_lattice::table::LAST_BLOCK;
-use udfs_lattice::{BlockTable, Fact};
+use udfs_lattice::{BlockStore, BlockTable, Fact, ReadFault};
 use udfs_osta::OutOfMemory;
-use udfs_salvage::{Survey, Volume};
+use udfs_salvage::{ReportStore, Survey, Volume};
 use udfs_volume::{Partition, PartitionMap, SparableMap};
 
 /// The bytes before a position, or all if there are not more than that.
@@ -73,41 +72,79 @@ fn differs(size: u32, k: u32, one: Fact<&[u8; 2048]>, other: Fact<&[u8; 2048]>) 
     }
 }
 
-/// What is known of block `k` of a copy that begins at a block.
-fn copy_at(table: &BlockTable, place: u32, k: u32) -> Fact<&[u8; 2048]>
-    ensures { fact_now result ≡ state_of table.now (place + k) }
+/// What is known of block `k` of a copy that begins at a block. No number of a block is greater than `u32::MAX`.
+fn copy_at<'r, B: BlockStore>(
+    blocks: &'r B,
+    place: u32,
+    k: u32,
+    room: &'r mut [u8; 2048],
+) -> Result<Fact<&'r [u8; 2048]>, ReadFault>
+    requires small { B.tells → IsNothingPast (B.states blocks.now) 4294967295 }
+    ensures value { IfOk result (λ fact. B.tells → fact_now fact ≡ B.states blocks.now (place + k)) }
+    ensures fails { OnErr result B.fails }
 {
-    // No table knows a block of a greater number.
-    let _greatest = table.state(LAST_BLOCK);
     match place.checked_add(k) {
-        Some(n) => table.state(n),
-        None => Fact::Unknown,
+        Some(n) => blocks.lend(n, room),
+        None => Ok(Fact::Unknown),
     }
+}
+
+/// Whether block `k` of the copies that begin at two blocks is known in both, and does not say the same.
+fn differs_from<B: BlockStore>(
+    blocks: &B,
+    size: u32,
+    k: u32,
+    one: u32,
+    other: u32,
+) -> Result<bool, ReadFault>
+    requires small { B.tells → IsNothingPast (B.states blocks.now) 4294967295 }
+    ensures value { IfOk result (λ differs. B.tells → differs ≡ differs_from (B.states blocks.now) size k one other) }
+    ensures fails { OnErr result B.fails }
+{
+    let mut room = [0; 2048];
+    let mut spare = [0; 2048];
+    let first = copy_at(blocks, one, k, &mut room)?;
+    let second = copy_at(blocks, other, k, &mut spare)?;
+    Ok(differs(size, k, first, second))
 }
 
 /// Whether block `k` of the copy at a place differs from that of one of the copies.
-fn differs_from_any(table: &BlockTable, size: u32, k: u32, place: u32, places: &[u32]) -> bool
-    ensures { result ≡ list_any (differs_from (state_of table.now) size k place) places.now }
+fn differs_from_any<B: BlockStore>(
+    blocks: &B,
+    size: u32,
+    k: u32,
+    place: u32,
+    places: &[u32],
+) -> Result<bool, ReadFault>
+    requires small { B.tells → IsNothingPast (B.states blocks.now) 4294967295 }
+    ensures value { IfOk result (λ differs. B.tells → differs ≡ list_any (differs_from (B.states blocks.now) size k place) places.now) }
+    ensures fails { OnErr result B.fails }
 {
     for other in places {
-        let one = copy_at(table, place, k);
-        if differs(size, k, one, copy_at(table, *other, k)) {
-            return true;
+        if differs_from(blocks, size, k, place, *other)? {
+            return Ok(true);
         }
     }
-    false
+    Ok(false)
 }
 
 /// Whether some two of the copies differ in block `k`.
-fn differ_in(table: &BlockTable, size: u32, k: u32, places: &[u32]) -> bool
-    ensures { result ≡ differ_in (state_of table.now) size places.now k }
+fn differ_in<B: BlockStore>(
+    blocks: &B,
+    size: u32,
+    k: u32,
+    places: &[u32],
+) -> Result<bool, ReadFault>
+    requires small { B.tells → IsNothingPast (B.states blocks.now) 4294967295 }
+    ensures value { IfOk result (λ differ. B.tells → differ ≡ differ_in (B.states blocks.now) size places.now k) }
+    ensures fails { OnErr result B.fails }
 {
     for place in places {
-        if differs_from_any(table, size, k, *place, places) {
-            return true;
+        if differs_from_any(blocks, size, k, *place, places)? {
+            return Ok(true);
         }
     }
-    false
+    Ok(false)
 }
 
 /// How many blocks a table of `bytes` bytes takes.
@@ -118,47 +155,75 @@ fn blocks_in(bytes: u32) -> u32
 }
 
 /// Whether the copies of the sparing table of a map disagree in some block.
-fn copies_disagree(table: &BlockTable, map: &SparableMap) -> bool
-    ensures { result ≡ map_disagrees (state_of table.now) (sparable_now map.now) }
+fn copies_disagree<B: BlockStore>(blocks: &B, map: &SparableMap) -> Result<bool, ReadFault>
+    requires small { B.tells → IsNothingPast (B.states blocks.now) 4294967295 }
+    ensures value { IfOk result (λ disagree. B.tells → disagree ≡ map_disagrees (B.states blocks.now) (sparable_now map.now)) }
+    ensures fails { OnErr result B.fails }
 {
     for k in 0..blocks_in(map.size) {
-        if differ_in(table, map.size, k, &map.tables) {
-            return true;
+        if differ_in(blocks, map.size, k, &map.tables)? {
+            return Ok(true);
         }
     }
-    false
+    Ok(false)
 }
 
 /// Whether the copies of the sparing table of a partition disagree.
-fn partition_disagrees(table: &BlockTable, partition: &Partition) -> bool
-    ensures { result ≡ partition_disagrees (state_of table.now) (partition_now partition.now) }
+fn partition_disagrees<B: BlockStore>(blocks: &B, partition: &Partition) -> Result<bool, ReadFault>
+    requires small { B.tells → IsNothingPast (B.states blocks.now) 4294967295 }
+    ensures value { IfOk result (λ disagree. B.tells → disagree ≡ partition_disagrees (B.states blocks.now) (partition_now partition.now)) }
+    ensures fails { OnErr result B.fails }
 {
     match &partition.kind {
-        PartitionMap::Type1 => false,
-        PartitionMap::Sparable(map) => copies_disagree(table, map),
+        PartitionMap::Type1 => Ok(false),
+        PartitionMap::Sparable(map) => copies_disagree(blocks, map),
     }
 }
 
 /// Whether those of one of these partitions disagree.
-fn any_disagrees(table: &BlockTable, partitions: &[Partition]) -> bool
-    ensures { result ≡ list_any (partition_disagrees (state_of table.now)) (map partition_now partitions.now) }
+fn any_disagrees<B: BlockStore>(blocks: &B, partitions: &[Partition]) -> Result<bool, ReadFault>
+    requires small { B.tells → IsNothingPast (B.states blocks.now) 4294967295 }
+    ensures value { IfOk result (λ disagree. B.tells → disagree ≡ list_any (partition_disagrees (B.states blocks.now)) (map partition_now partitions.now)) }
+    ensures fails { OnErr result B.fails }
 {
     for partition in partitions {
-        if partition_disagrees(table, partition) {
-            return true;
+        if partition_disagrees(blocks, partition)? {
+            return Ok(true);
         }
     }
-    false
+    Ok(false)
+}
+
+/// The same as [`spares_disagree_in`], by any store of blocks.
+///
+/// # Errors
+///
+/// `ReadFault` where the bytes of a known block could not be read.
+#[tactic(auto, unfolding(crate::specs::Spares::spares_disagree))]
+pub(crate) fn spares_disagree_by<B: ReportStore>(
+    blocks: &B,
+    volume: &Volume,
+) -> Result<bool, ReadFault>
+    ensures value { IfOk result (λ disagree. B.tells → disagree ≡ spares_disagree (B.states blocks.now) (volume_now volume.now)) }
+    ensures fails { OnErr result B.fails }
+{
+    let Volume::Open(opened) = volume else {
+        return Ok(false);
+    };
+    match blocks.first_past(u32::MAX) {
+        None => any_disagrees(blocks, &opened.parts.partitions),
+        // There is none.
+        Some(_) => Ok(false),
+    }
 }
 
 /// Whether copies of a sparing table of a volume disagree by what this table knows, as [`spares_disagree`] says of a survey.
-#[tactic(auto, unfolding(crate::specs::Spares::spares_disagree))]
 pub fn spares_disagree_in(table: &BlockTable, volume: &Volume) -> bool
     ensures { result ≡ spares_disagree (state_of table.now) (volume_now volume.now) }
 {
-    match volume {
-        Volume::Open(opened) => any_disagrees(table, &opened.parts.partitions),
-        _ => false,
+    match spares_disagree_by(table, volume) {
+        Ok(disagree) => disagree,
+        Err(_) => unreachable!(),
     }
 }
 

@@ -1,48 +1,53 @@
 //! The summary of a volume: what a person wants to know, on one screen.
 
-ghost use Rattle.std.specs.Prelude.{◌≡◌, ◌++◌, IfOk, OnOk, codes, length, option_map, if◌then◌else◌};
+ghost use Rattle.std.specs.Prelude.{◌≡◌, ◌++◌, IsErrOf, OnOk, codes, length, option_map, if◌then◌else◌};
 ghost use Rattle.std.specs.String.{string_bytes};
-ghost use Rattle.udfs_lattice.specs.Tables.{state_of};
+ghost use Rattle.udfs_lattice.specs.Tables.{Table};
 ghost use Rattle.udfs_salvage.specs.Found.{volume_now};
 ghost use Rattle.udfs_salvage.specs.Printing.{Prints};
-ghost use Rattle.udfs_salvage.specs.Surveys.{survey_now};
-ghost use Rattle.udfs_overview.specs.DiscTallies.{disc_of};
+ghost use Rattle.udfs_salvage.specs.StorePrinting.{PrintsBy};
+ghost use Rattle.udfs_salvage.specs.Surveys.{survey_by, survey_now};
 ghost use Rattle.udfs_overview.specs.Repeating.{given_now};
 ghost use Rattle.udfs_overview.specs.Sentences.{sentence};
-ghost use Rattle.udfs_overview.specs.Summaries.{again_lines, counts_lines, extract_lines, fault_lines, folders_counts, folders_line, found_lines, is_all_whole, left_out_lines, missing_in, missing_line, names_missing, next_by, next_lines, no_need_lines, nodes_lines, summary_text, torn_folder, wide_lines};
+ghost use Rattle.udfs_overview.specs.Summaries.{again_lines, counts_lines, extract_lines, fault_lines, folders_counts, folders_line, found_lines, left_out_lines, missing_in, missing_line, names_missing, next_by, next_lines, no_need_lines, nodes_lines, summary_lines, summary_text, torn_folder, wide_lines};
 ghost use Rattle.udfs_overview.specs.Guarantees.{guarantee_line};
 ghost use Rattle.udfs_overview.specs.LeftOut.{left_out_line};
-ghost use Rattle.udfs_overview.specs.Spares.{spares_disagree, spares_line};
-ghost use Rattle.udfs_overview.specs.MovedTags.{moved_count, moved_line};
-ghost use Rattle.udfs_overview.specs.NodeWidenings.{wider_count, wider_line};
-ghost use Rattle.udfs_overview.specs.Streams.{stream_count, streams_line};
-ghost use Rattle.udfs_overview.specs.SummaryTexts.{disc_line, files_line, others_line, unnamed_line};
+ghost use Rattle.udfs_overview.specs.LostSummaries.{lost_lines};
+ghost use Rattle.udfs_overview.specs.Spares.{spares_line};
+ghost use Rattle.udfs_overview.specs.MovedTags.{moved_line};
+ghost use Rattle.udfs_overview.specs.Streams.{streams_line};
+ghost use Rattle.udfs_overview.specs.SummaryTexts.{disc_line, files_line, others_line};
 ghost use Rattle.udfs_overview.specs.UnreadLists.{unread_paths, unread_text};
-ghost use Rattle.udfs_overview.specs.TornLists.{torn_rows, torn_text};
+ghost use Rattle.udfs_overview.specs.TornLists.{torn_text};
 
 use crate::disagreements::push_apart;
-use crate::disc_tallies::{DiscTally, UnnamedTally, count_disc, count_unnamed};
+use crate::disc_tallies::DiscTally;
 use crate::guarantees::push_guarantee_line;
 use crate::left_out::{left_out_types, push_left_out, wide_writes};
-use crate::moved_tags::{count_moved, push_moved};
+use crate::lost_summaries::push_lost;
+use crate::lost_tallies::LostTally;
+use crate::moved_tags::push_moved;
 use crate::next_commands::{Margins, Pass, push_extract, push_needed_steps, push_summary_by};
-use crate::node_widenings::{count_wider, push_wider};
+use crate::node_widenings::push_wider;
 use crate::repeating::{Given, pass_number};
 use crate::sentences::{push_counted, push_part, push_sentence};
-use crate::spares::{push_spares, spares_disagree};
-use crate::streams::{count_streams, push_streams};
-use crate::summary_lines::{push_disc, push_files, push_others, push_unnamed};
-use crate::tallies::{NodeSort, Tally, count_nodes};
+use crate::spares::push_spares;
+use crate::streams::push_streams;
+use crate::summary_figures::{Counts, Figures};
+use crate::summary_lines::{push_disc, push_files, push_others};
+use crate::tallies::{NodeSort, Tally};
 use crate::torn_lines::{push_more, push_torn};
-use crate::torn_rows::{SHOWN, push_narrow_path, torn_files};
+use crate::torn_rows::{SHOWN, TornFiles, push_narrow_path};
 use crate::unread_lines::{push_unread, unread_in};
+use crate::verdicts::Verdict;
 use crate::volume_lines::push_volume;
-use crate::widenings::{Widening, push_widening, widening_by};
+use crate::widenings::{Widening, push_widening};
 use std::alloc::Global;
+use udfs_lattice::BlockStore;
 use udfs_lawfulness::Lawfulness;
 use udfs_osta::OutOfMemory;
 use udfs_reading::Sink;
-use udfs_salvage::{RunError, Survey, Volume, flush};
+use udfs_salvage::{PrintError, ReportStore, RunError, Survey, Volume, flush};
 use udfs_volume::Profile;
 use udfs_walk::{Node, Path};
 
@@ -62,8 +67,8 @@ fn torn_folder(nodes: &[Node]) -> Option<&Path>
 
 /// The path of the first torn directory of a survey, in which names may be missing.
 #[tactic(auto, using(crate::proofs::FullFolders::folder_full))]
-pub fn first_torn_folder<'a>(survey: &'a Survey<'_>) -> Option<&'a Path>
-    ensures { option_map (λ path. path.now) result ≡ torn_folder (survey_now survey.now).nodes }
+pub fn first_torn_folder<'a, B: BlockStore>(survey: &'a Survey<'_, B>) -> Option<&'a Path>
+    ensures { option_map (λ path. path.now) result ≡ torn_folder (survey_by B.states survey.now).nodes }
 {
     torn_folder(&survey.nodes)
 }
@@ -141,114 +146,118 @@ fn push_nodes(
     tally: &Tally,
     path: Option<&Path>,
     types: &[u8],
-    unnamed: &UnnamedTally,
 ) -> Result<(), OutOfMemory>
     ensures { OnOk result (string_bytes text.new ≡ string_bytes text.old
-        ++ (files_line tally.now ++ folders_line tally.now (option_map (λ path. path.now) path.entry) ++ others_line tally.now ++ left_out_line types.now ++ unnamed_line unnamed.now)) }
+        ++ (files_line tally.now ++ folders_line tally.now (option_map (λ path. path.now) path.entry) ++ others_line tally.now ++ left_out_line types.now)) }
 {
     push_files(text, tally)?;
     push_folders(alloc, text, tally, path)?;
     push_others(text, tally)?;
-    push_left_out(alloc, text, types)?;
-    push_unnamed(text, unnamed)
+    push_left_out(alloc, text, types)
 }
 
 /// The lines of what is counted of a volume, where it opens.
-#[tactic(auto, using(crate::proofs::FullFolders::folder_full), unfolding(crate::specs::Summaries::counts_lines))]
-fn push_counts(
+#[tactic(auto, unfolding(crate::specs::Summaries::counts_lines))]
+fn push_counts<B: BlockStore>(
     alloc: Global,
     text: &mut String,
-    survey: &Survey<'_>,
-    tally: &Tally,
+    survey: &Survey<'_, B>,
+    figures: &Figures,
 ) -> Result<(), OutOfMemory>
-    ensures { OnOk result (string_bytes text.new ≡ string_bytes text.old ++ counts_lines tally.now (survey_now survey.now)) }
+    ensures { OnOk result (string_bytes text.new ≡ string_bytes text.old ++ counts_lines figures.now (survey_by B.states survey.now)) }
 {
     let types = left_out_types(alloc, survey)?;
-    let unnamed = count_unnamed(survey);
-    push_nodes(
-        alloc,
-        text,
-        tally,
-        torn_folder(&survey.nodes),
-        &types,
-        &unnamed,
-    )
+    let path = first_torn_folder(survey);
+    push_nodes(alloc, text, &figures.tally, path, &types)
 }
 
 /// The sentence of the nodes of a survey.
-fn push_nodes_sentence(
+fn push_nodes_sentence<B: BlockStore>(
     text: &mut String,
-    survey: &Survey<'_>,
-    tally: &Tally,
+    survey: &Survey<'_, B>,
+    figures: &Figures,
 ) -> Result<(), OutOfMemory>
-    ensures { OnOk result (string_bytes text.new ≡ string_bytes text.old ++ sentence tally.now (length (survey_now survey.now).reread)) }
+    ensures { OnOk result (string_bytes text.new ≡ string_bytes text.old ++ sentence figures.now.tally (length (survey_by B.states survey.now).reread)) }
 {
-    push_sentence(text, tally, survey.reread.len() as u64)
+    push_sentence(text, &figures.tally, survey.reread.len() as u64)
 }
 
-/// The lines of what is found of a volume, where it opens.
+/// The lines of what is found of the nodes of a volume, where it opens.
 #[tactic(auto, unfolding(crate::specs::Summaries::nodes_lines))]
-fn push_found(alloc: Global, text: &mut String, survey: &Survey<'_>) -> Result<(), OutOfMemory>
-    ensures { OnOk result (string_bytes text.new ≡ string_bytes text.old ++ nodes_lines (state_of survey.now.table.now) (survey_now survey.now)) }
+fn push_found<B: BlockStore>(
+    alloc: Global,
+    text: &mut String,
+    survey: &Survey<'_, B>,
+    figures: &Figures,
+) -> Result<(), OutOfMemory>
+    ensures { OnOk result (string_bytes text.new ≡ string_bytes text.old ++ nodes_lines figures.now (survey_by B.states survey.now)) }
 {
-    let tally = count_nodes(alloc, survey)?;
-    push_nodes_sentence(text, survey, &tally)?;
-    push_counts(alloc, text, survey, &tally)
+    push_nodes_sentence(text, survey, figures)?;
+    push_counts(alloc, text, survey, figures)
 }
 
 /// These lines, that of the files with named streams, that of the folders with tags of another place, and that of sparing copies which
 /// disagree.
-fn push_all_found(alloc: Global, text: &mut String, survey: &Survey<'_>) -> Result<(), OutOfMemory>
+fn push_all_found<B: BlockStore>(
+    alloc: Global,
+    text: &mut String,
+    survey: &Survey<'_, B>,
+    figures: &Figures,
+) -> Result<(), OutOfMemory>
     ensures { OnOk result (string_bytes text.new ≡ string_bytes text.old
-        ++ (nodes_lines (state_of survey.now.table.now) (survey_now survey.now) ++ streams_line (stream_count (state_of survey.now.table.now) (survey_now survey.now))
-        ++ moved_line (moved_count (state_of survey.now.table.now) (survey_now survey.now))
-        ++ spares_line (spares_disagree (state_of survey.now.table.now) (volume_now survey.now.volume)))) }
+        ++ (nodes_lines figures.now (survey_by B.states survey.now) ++ streams_line figures.now.streams ++ moved_line figures.now.moved ++ spares_line figures.now.spares_disagree)) }
 {
-    push_found(alloc, text, survey)?;
-    push_streams(text, count_streams(survey))?;
-    push_moved(text, count_moved(alloc, survey)?)?;
-    push_spares(text, spares_disagree(survey))
+    push_found(alloc, text, survey, figures)?;
+    push_streams(text, figures.streams)?;
+    push_moved(text, figures.moved)?;
+    push_spares(text, figures.spares_disagree)
 }
 
 /// The lines of the torn files.
 #[tactic(auto, unfolding(crate::specs::TornLists::torn_text))]
-fn push_top(alloc: Global, text: &mut String, survey: &Survey<'_>) -> Result<(), OutOfMemory>
-    ensures { OnOk result (string_bytes text.new ≡ string_bytes text.old ++ torn_text (torn_rows (state_of survey.now.table.now) (survey_now survey.now).nodes)) }
+fn push_top(alloc: Global, text: &mut String, torn: &TornFiles) -> Result<(), OutOfMemory>
+    ensures { OnOk result (string_bytes text.new ≡ string_bytes text.old ++ torn_text torn.now.rows.items torn.now.count) }
 {
-    let torn = torn_files(alloc, survey)?;
     push_torn(alloc, text, &torn.rows, torn.count.saturating_sub(SHOWN))
 }
 
-/// The lines of what is found of the nodes of a volume, where it opens.
-fn push_found_if_open(
+/// The lines of what is found of a volume, where it opens.
+fn push_found_if_open<B: BlockStore>(
     alloc: Global,
     text: &mut String,
-    survey: &Survey<'_>,
+    survey: &Survey<'_, B>,
+    figures: &Figures,
 ) -> Result<(), OutOfMemory>
-    ensures { OnOk result (string_bytes text.new ≡ string_bytes text.old ++ found_lines survey.now.table.now (volume_now survey.now.volume) (survey_now survey.now)) }
+    ensures { OnOk result (string_bytes text.new ≡ string_bytes text.old ++ found_lines (volume_now survey.now.volume) figures.now (survey_by B.states survey.now)) }
 {
     match &survey.volume {
-        Volume::Open(_) => push_all_found(alloc, text, survey),
+        Volume::Open(_) => push_all_found(alloc, text, survey, figures),
         _ => Ok(()),
     }
 }
 
-/// The line of the nodes with a fault that the wide rules read.
-fn push_wider_nodes(
+/// The same, and the lines of what is lost, which may be found where the volume does not open.
+fn push_found_and_lost<B: BlockStore>(
     alloc: Global,
     text: &mut String,
-    survey: &Survey<'_>,
+    survey: &Survey<'_, B>,
+    figures: &Figures,
+    lost: &LostTally,
 ) -> Result<(), OutOfMemory>
     ensures { OnOk result (string_bytes text.new ≡ string_bytes text.old
-        ++ wider_line (wider_count survey.now.profile (state_of survey.now.table.now) survey.now.last (survey_now survey.now).nodes)) }
+        ++ (found_lines (volume_now survey.now.volume) figures.now (survey_by B.states survey.now) ++ lost_lines lost.now)) }
 {
-    let count = count_wider(alloc, survey)?;
-    push_wider(text, count)
+    push_found_if_open(alloc, text, survey, figures)?;
+    push_lost(text, lost)
 }
 
 /// The lines of the entries that were not read.
-fn push_all_unread(alloc: Global, text: &mut String, survey: &Survey<'_>) -> Result<(), OutOfMemory>
-    ensures { OnOk result (string_bytes text.new ≡ string_bytes text.old ++ unread_text (unread_paths (survey_now survey.now).nodes)) }
+fn push_all_unread<B: BlockStore>(
+    alloc: Global,
+    text: &mut String,
+    survey: &Survey<'_, B>,
+) -> Result<(), OutOfMemory>
+    ensures { OnOk result (string_bytes text.new ≡ string_bytes text.old ++ unread_text (unread_paths (survey_by B.states survey.now).nodes)) }
 {
     let paths = unread_in(alloc, survey)?;
     push_unread(alloc, text, &paths)
@@ -269,18 +278,6 @@ fn extract_words(whole: bool) -> &'static str
     } else {
         "Next       No block is worth reading again. Write out what is whole:\n"
     }
-}
-
-/// Whether there are nodes, all are whole, and none is a file of a type that is not written.
-///
-/// # Errors
-///
-/// If memory runs out.
-pub fn is_all_whole(alloc: Global, survey: &Survey<'_>) -> Result<bool, OutOfMemory>
-    ensures { IfOk result (λ whole. whole ≡ is_all_whole (survey_now survey.now)) }
-{
-    let types = left_out_types(alloc, survey)?;
-    Ok(survey.all_whole() && types.len() == 0)
 }
 
 /// The command that writes the files of a volume of which nothing is worth reading again.
@@ -325,7 +322,7 @@ fn push_fault_lines(
 {
     match widening {
         Widening::No => text.push_str(
-            "Next       no block to read again helps:\n           man udfsalvage-errors says what this fault means\n",
+            "Next       Reading blocks again will not help:\n           man udfsalvage-errors explains this fault\n",
         ),
         Widening::Wants | Widening::Reads(_) => push_wide_lines(text, given, last, widening),
     }
@@ -333,24 +330,25 @@ fn push_fault_lines(
 
 /// What to do next, where no block is worth reading again.
 fn push_no_need(
-    alloc: Global,
     text: &mut String,
     given: &Given<'_>,
-    survey: &Survey<'_>,
+    figures: &Figures,
+    volume: &Volume,
 ) -> Result<(), OutOfMemory>
-    ensures { OnOk result (string_bytes text.new ≡ string_bytes text.old
-        ++ no_need_lines (given_now given.now) survey.now.profile survey.now.table.now survey.now.last (survey_now survey.now) (volume_now survey.now.volume)) }
+    ensures { OnOk result (string_bytes text.new ≡ string_bytes text.old ++ no_need_lines (given_now given.now) figures.now (volume_now volume.now)) }
 {
-    match &survey.volume {
+    match volume {
         Volume::Open(_) => {
-            let whole = is_all_whole(alloc, survey)?;
-            push_extract_lines(text, given, survey.profile, survey.last, whole)
+            push_extract_lines(
+                text,
+                given,
+                figures.profile,
+                figures.last,
+                figures.all_whole,
+            )
         }
         Volume::Holes(_) => Ok(()),
-        Volume::Fault(_) => {
-            let found = widening_by(alloc, survey.table, survey.last, survey.profile)?;
-            push_fault_lines(text, given, survey.last, found)
-        }
+        Volume::Fault(_) => push_fault_lines(text, given, figures.last, figures.widening),
     }
 }
 
@@ -359,18 +357,16 @@ fn push_again(
     alloc: Global,
     text: &mut String,
     given: &Given<'_>,
-    survey: &Survey<'_>,
-    disc: &DiscTally,
+    figures: &Figures,
 ) -> Result<(), OutOfMemory>
-    ensures { OnOk result (string_bytes text.new ≡ string_bytes text.old
-        ++ again_lines (given_now given.now) survey.now.profile survey.now.last disc.now) }
+    ensures { OnOk result (string_bytes text.new ≡ string_bytes text.old ++ again_lines (given_now given.now) figures.now) }
 {
     let pass = Pass {
-        profile: survey.profile,
-        last: survey.last,
-        number: pass_number(alloc, given, disc.known)?,
+        profile: figures.profile,
+        last: figures.last,
+        number: pass_number(alloc, given, figures.disc.known)?,
     };
-    push_needed_steps(text, MARGINS, given, pass, disc.needed_in_conflict)
+    push_needed_steps(text, MARGINS, given, pass, figures.disc.needed_in_conflict)
 }
 
 /// The summary by the wide rules, where these write files that the strict ones leave out.
@@ -379,7 +375,7 @@ fn push_left_out_lines(text: &mut String, given: &Given<'_>, last: u32) -> Resul
     ensures { OnOk result (string_bytes text.new ≡ string_bytes text.old ++ left_out_lines (given_now given.now) last) }
 {
     text.push_str(
-        "Next       The wide rules write files that are left out here. See by them:\n           ",
+        "Next       The wide rules also write files that are left out here:\n           ",
     )?;
     push_summary_by(text, given, Profile::Wide, last)
 }
@@ -389,34 +385,33 @@ fn push_next_by(
     alloc: Global,
     text: &mut String,
     given: &Given<'_>,
-    survey: &Survey<'_>,
-    disc: &DiscTally,
+    figures: &Figures,
+    volume: &Volume,
+    reread: &[u32],
 ) -> Result<(), OutOfMemory>
-    requires { disc.now ≡ disc_of survey.now.table.now survey.now.last survey.now.reread.items }
-    ensures { OnOk result (string_bytes text.new ≡ string_bytes text.old ++ next_by (given_now given.now) survey.now.profile survey.now.table.now survey.now.last (survey_now survey.now) survey.now.reread.items) }
+    ensures { OnOk result (string_bytes text.new ≡ string_bytes text.old ++ next_by (given_now given.now) figures.now (volume_now volume.now) reread.now) }
 {
-    match survey.reread.as_slice() {
-        [] => push_no_need(alloc, text, given, survey),
-        _ => push_again(alloc, text, given, survey, disc),
+    match reread {
+        [] => push_no_need(text, given, figures, volume),
+        _ => push_again(alloc, text, given, figures),
     }
 }
 
 /// What to do next.
 #[tactic(auto, unfolding(crate::specs::Summaries::next_lines))]
-fn push_next(
+fn push_next<B: BlockStore>(
     alloc: Global,
     text: &mut String,
     given: &Given<'_>,
-    survey: &Survey<'_>,
-    disc: &DiscTally,
+    survey: &Survey<'_, B>,
+    figures: &Figures,
 ) -> Result<(), OutOfMemory>
-    requires { disc.now ≡ disc_of survey.now.table.now survey.now.last survey.now.reread.items }
-    ensures { OnOk result (string_bytes text.new ≡ string_bytes text.old ++ next_lines (given_now given.now) survey.now.profile survey.now.table.now survey.now.last (survey_now survey.now)) }
+    ensures { OnOk result (string_bytes text.new ≡ string_bytes text.old ++ next_lines (given_now given.now) figures.now (survey_by B.states survey.now)) }
 {
     if wide_writes(alloc, survey)? {
-        push_left_out_lines(text, given, survey.last)
+        push_left_out_lines(text, given, figures.last)
     } else {
-        push_next_by(alloc, text, given, survey, disc)
+        push_next_by(alloc, text, given, figures, &survey.volume, &survey.reread)
     }
 }
 
@@ -434,31 +429,33 @@ fn push_state(
 }
 
 /// All lines.
-#[tactic(auto, unfolding(crate::specs::Summaries::summary_text))]
-fn push_summary(
+#[tactic(auto, unfolding(crate::specs::Summaries::summary_lines))]
+fn push_summary<B: BlockStore>(
     alloc: Global,
     text: &mut String,
     given: &Given<'_>,
-    survey: &Survey<'_>,
-    answer: &Lawfulness,
+    survey: &Survey<'_, B>,
+    counts: &Counts,
+    answer: &Verdict,
 ) -> Result<(), OutOfMemory>
-    ensures { OnOk result (string_bytes text.new ≡ string_bytes text.old ++ summary_text (given_now given.now) survey.now.profile survey.now.table.now survey.now.last (survey_now survey.now) answer.now) }
+    ensures { OnOk result (string_bytes text.new ≡ string_bytes text.old
+        ++ summary_lines (given_now given.now) counts.now.figures counts.now.torn.rows.items counts.now.torn.count (survey_by B.states survey.now) answer.now) }
 {
-    push_volume(text, &survey.volume, survey.last)?;
-    push_apart(alloc, text, survey)?;
-    push_found_if_open(alloc, text, survey)?;
-    push_wider_nodes(alloc, text, survey)?;
-    let disc = count_disc(survey);
-    push_state(alloc, text, answer, &disc)?;
+    let figures = &counts.figures;
+    push_volume(text, &survey.volume, figures.last)?;
+    push_apart(text, figures.anchors, figures.copies_differ)?;
+    push_found_and_lost(alloc, text, survey, figures, &answer.lost)?;
+    push_wider(text, figures.wider)?;
+    push_state(alloc, text, &answer.lawfulness, &figures.disc)?;
     push_all_unread(alloc, text, survey)?;
-    push_top(alloc, text, survey)?;
-    push_next(alloc, text, given, survey, &disc)
+    push_top(alloc, text, &counts.torn)?;
+    push_next(alloc, text, given, survey, figures)
 }
 
 /// Writes the summary of the report that a survey represents, of a disc that is read with these arguments: what the volume is, whether known anchors or
 /// known copies of its descriptors differ, how many files are complete, damaged or could not be looked at, how many files and folders are whole, torn, links, of a type
 /// that is not written or without a name, how many files have named streams, whether sparing copies disagree, whether the guarantee holds by this answer, the blocks of the disc,
-/// the torn files of which most is lost, and what to do next, as commands. A volume that does not open has a line that says why, that of the guarantee, that of the blocks, and what to do next. The blocks and holes of one
+/// the torn files of which most is lost, and what to do next, as commands. A volume that does not open has a line that says why, those of what is lost, that of the guarantee, that of the blocks, and what to do next. The blocks and holes of one
 /// node are held at a time.
 ///
 /// # Errors
@@ -468,13 +465,38 @@ pub fn write_summary<W: Sink>(
     alloc: Global,
     given: &Given<'_>,
     survey: &Survey<'_>,
-    answer: &Lawfulness,
+    answer: &Verdict,
     sink: &mut W,
 ) -> Result<(), RunError>
     ensures { Prints (W.stream sink.old) (W.stream sink.new)
         (summary_text (given_now given.now) survey.now.profile survey.now.table.now survey.now.last (survey_now survey.now) answer.now) result }
 {
+    match write_summary_by(alloc, given, survey, answer, sink) {
+        Ok(()) => Ok(()),
+        Err(PrintError::Run(error)) => Err(error),
+        Err(PrintError::Unread) => unreachable!(),
+    }
+}
+
+/// The same as [`write_summary`], by any store of blocks. All that is read is read before anything is written.
+///
+/// # Errors
+///
+/// `Run` with the error of [`write_summary`], and `Unread` where the bytes of a known block could not be read: what could not be read is never told as unknown.
+pub fn write_summary_by<B: ReportStore, W: Sink>(
+    alloc: Global,
+    given: &Given<'_>,
+    survey: &Survey<'_, B>,
+    answer: &Verdict,
+    sink: &mut W,
+) -> Result<(), PrintError>
+    ensures printed { B.tells → (t : Table) → B.holds survey.now.table.now t → PrintsBy (W.stream sink.old) (W.stream sink.new)
+        (summary_text (given_now given.now) survey.now.profile t survey.now.last (survey_by B.states survey.now) answer.now) result }
+    ensures fails { IsErrOf result PrintError.Unread → B.fails }
+{
+    let counts = Counts::of(alloc, survey)?;
     let mut text = String::new(alloc);
-    push_summary(alloc, &mut text, given, survey, answer)?;
-    flush(&mut text, sink)
+    push_summary(alloc, &mut text, given, survey, &counts, answer)?;
+    flush(&mut text, sink)?;
+    Ok(())
 }

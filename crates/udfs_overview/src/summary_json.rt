@@ -1,31 +1,35 @@
 //! The figures of a summary as a JSON object. Each function appends to a text; if memory runs out, a part may be appended.
 
-ghost use Rattle.std.specs.Prelude.{◌≡◌, ◌++◌, OnOk, codes, decimal};
+ghost use Rattle.std.specs.Prelude.{◌≡◌, ◌++◌, IsErrOf, OnOk, codes, decimal};
 ghost use Rattle.std.specs.String.{string_bytes};
 ghost use Rattle.serde_json.specs.Data.{boolean, string};
 ghost use Rattle.serde_json.specs.Written.{compact_text};
+ghost use Rattle.udfs_lattice.specs.Tables.{Table};
 ghost use Rattle.udfs_volume.specs.FaultNames.{volume_fault_name};
 ghost use Rattle.udfs_volume.specs.LayoutParts.{parts_now};
 ghost use Rattle.udfs_salvage.specs.Found.{volume_now};
 ghost use Rattle.udfs_salvage.specs.Printing.{Prints};
-ghost use Rattle.udfs_salvage.specs.Surveys.{survey_now};
+ghost use Rattle.udfs_salvage.specs.StorePrinting.{PrintsBy};
+ghost use Rattle.udfs_salvage.specs.Surveys.{survey_by, survey_now};
 ghost use Rattle.udfs_salvage.specs.Texts.{revision_text};
 ghost use Rattle.udfs_overview.specs.Guarantees.{guarantee_text};
-ghost use Rattle.udfs_overview.specs.SummaryJson.{disc_data, fault_data, files_data, folders_data, guarantee_data, guarantee_state, holes_data, is_at_least, label_data, open_count, open_data, others_data, profile_name, remarks_data, summary_data, summary_json, unnamed_data};
-ghost use Rattle.udfs_overview.specs.SummaryPieces.{ends_piece, nodes_piece, whole_piece};
+ghost use Rattle.udfs_overview.specs.SummaryJson.{disc_data, fault_data, figures_json, files_data, folders_data, guarantee_data, guarantee_state, holes_data, is_at_least, label_data, lost_data, open_count, open_data, others_data, profile_name, remarks_data, summary_data, summary_json, unnamed_data};
+ghost use Rattle.udfs_overview.specs.SummaryPieces.{ends_piece, names_piece, nodes_piece, whole_piece};
 
 use crate::disc_tallies::{DiscTally, UnnamedTally};
 use crate::guarantees::push_guarantee;
+use crate::lost_tallies::LostTally;
 use crate::node_objects::push_quoted;
 use crate::safe_names::push_safe_name;
-use crate::summary_figures::Figures;
+use crate::summary_figures::{Counts, Figures};
 use crate::tallies::Tally;
+use crate::verdicts::Verdict;
 use std::alloc::Global;
 use std::fmt::Write;
 use udfs_lawfulness::Lawfulness;
 use udfs_osta::{Label, OutOfMemory};
 use udfs_reading::Sink;
-use udfs_salvage::{RunError, Survey, Volume, flush, revision_name};
+use udfs_salvage::{PrintError, ReportStore, RunError, Survey, Volume, flush, revision_name};
 use udfs_volume::{Profile, VolumeFault, VolumeParts};
 
 /// A number behind other text.
@@ -118,6 +122,27 @@ fn push_unnamed(text: &mut String, tally: &UnnamedTally) -> Result<(), OutOfMemo
 {
     push_number(text, "{\"empty\":", tally.empty as u128)?;
     push_last(text, ",\"with_data\":", tally.with_data as u128)
+}
+
+/// What is lost, and how many entries were deleted.
+fn push_lost(text: &mut String, lost: &LostTally) -> Result<(), OutOfMemory>
+    ensures { OnOk result (string_bytes text.new ≡ string_bytes text.old ++ compact_text (lost_data lost.now)) }
+{
+    push_number(text, "{\"deleted\":", lost.deleted as u128)?;
+    push_number(text, ",\"files_without_folder\":", lost.files as u128)?;
+    push_number(text, ",\"folders\":", lost.folders as u128)?;
+    push_truth(text, ",\"too_many\":", lost.too_many)?;
+    push_number(text, ",\"torn\":", lost.torn_files as u128)?;
+    push_number(text, ",\"whole\":", lost.whole_files as u128)?;
+    push_last(text, ",\"whole_bytes\":", lost.whole_bytes)
+}
+
+/// The same, behind other text.
+fn push_lost_behind(text: &mut String, front: &str, lost: &LostTally) -> Result<(), OutOfMemory>
+    ensures { OnOk result (string_bytes text.new ≡ string_bytes text.old ++ (front.now ++ compact_text (lost_data lost.now))) }
+{
+    text.push_str(front)?;
+    push_lost(text, lost)
 }
 
 /// Folders with tags of another place, whether sparing copies disagree, and files with named streams.
@@ -304,18 +329,31 @@ fn push_nodes(
     alloc: Global,
     text: &mut String,
     figures: &Figures,
-    parts: &VolumeParts,
     answer: &Lawfulness,
 ) -> Result<(), OutOfMemory>
-    ensures { OnOk result (string_bytes text.new ≡ string_bytes text.old ++ nodes_piece figures.now (parts_now parts.now) answer.now) }
+    ensures { OnOk result (string_bytes text.new ≡ string_bytes text.old ++ nodes_piece figures.now answer.now) }
 {
     text.push_str(",\"files\":")?;
     push_files(text, &figures.tally)?;
     text.push_str(",\"folders\":")?;
     push_folders(text, &figures.tally)?;
-    push_guarantee_behind(alloc, text, ",\"guarantee\":", answer)?;
+    push_guarantee_behind(alloc, text, ",\"guarantee\":", answer)
+}
+
+/// Its label, what is lost, and what else there is.
+#[tactic(auto, unfolding(crate::specs::SummaryPieces::names_piece))]
+fn push_names(
+    alloc: Global,
+    text: &mut String,
+    figures: &Figures,
+    parts: &VolumeParts,
+    lost: &LostTally,
+) -> Result<(), OutOfMemory>
+    ensures { OnOk result (string_bytes text.new ≡ string_bytes text.old ++ names_piece figures.now (parts_now parts.now) lost.now) }
+{
     text.push_str(",\"label\":")?;
     push_label(alloc, text, &parts.label)?;
+    push_lost_behind(text, ",\"lost\":", lost)?;
     text.push_str(",\"others\":")?;
     push_others(text, &figures.tally)
 }
@@ -345,12 +383,13 @@ fn push_open(
     text: &mut String,
     figures: &Figures,
     parts: &VolumeParts,
-    answer: &Lawfulness,
+    answer: &Verdict,
 ) -> Result<(), OutOfMemory>
     ensures { OnOk result (string_bytes text.new ≡ string_bytes text.old ++ compact_text (open_data figures.now (parts_now parts.now) answer.now)) }
 {
     push_whole(text, figures)?;
-    push_nodes(alloc, text, figures, parts, answer)?;
+    push_nodes(alloc, text, figures, &answer.lawfulness)?;
+    push_names(alloc, text, figures, parts, &answer.lost)?;
     push_ends(alloc, text, figures, parts)
 }
 
@@ -359,13 +398,14 @@ fn push_holes(
     alloc: Global,
     text: &mut String,
     figures: &Figures,
-    answer: &Lawfulness,
+    answer: &Verdict,
 ) -> Result<(), OutOfMemory>
     ensures { OnOk result (string_bytes text.new ≡ string_bytes text.old ++ compact_text (holes_data figures.now answer.now)) }
 {
     push_text(text, "{\"disc\":")?;
     push_disc(text, figures.last, &figures.disc)?;
-    push_guarantee_behind(alloc, text, ",\"guarantee\":", answer)?;
+    push_guarantee_behind(alloc, text, ",\"guarantee\":", &answer.lawfulness)?;
+    push_lost_behind(text, ",\"lost\":", &answer.lost)?;
     push_profile(alloc, text, ",\"profile\":", figures.profile)?;
     push_text(text, ",\"state\":\"holes\"}")
 }
@@ -376,14 +416,15 @@ fn push_fault(
     text: &mut String,
     figures: &Figures,
     fault: VolumeFault,
-    answer: &Lawfulness,
+    answer: &Verdict,
 ) -> Result<(), OutOfMemory>
     ensures { OnOk result (string_bytes text.new ≡ string_bytes text.old ++ compact_text (fault_data figures.now (volume_fault_name fault) answer.now)) }
 {
     push_text(text, "{\"disc\":")?;
     push_disc(text, figures.last, &figures.disc)?;
     push_fault_name(alloc, text, ",\"fault\":", fault)?;
-    push_guarantee_behind(alloc, text, ",\"guarantee\":", answer)?;
+    push_guarantee_behind(alloc, text, ",\"guarantee\":", &answer.lawfulness)?;
+    push_lost_behind(text, ",\"lost\":", &answer.lost)?;
     push_profile(alloc, text, ",\"profile\":", figures.profile)?;
     push_text(text, ",\"state\":\"fault\"}")
 }
@@ -394,7 +435,7 @@ fn push_volume(
     text: &mut String,
     figures: &Figures,
     volume: &Volume,
-    answer: &Lawfulness,
+    answer: &Verdict,
 ) -> Result<(), OutOfMemory>
     ensures { OnOk result (string_bytes text.new ≡ string_bytes text.old ++ compact_text (summary_data (volume_now volume.now) figures.now answer.now)) }
 {
@@ -405,23 +446,23 @@ fn push_volume(
     }
 }
 
-/// The object of the report that a survey represents, and a line feed.
-#[tactic(auto, unfolding(crate::specs::SummaryJson::summary_json))]
+/// The object of a volume, and a line feed.
+#[tactic(auto, unfolding(crate::specs::SummaryJson::figures_json))]
 fn push_summary(
     alloc: Global,
     text: &mut String,
-    survey: &Survey<'_>,
-    answer: &Lawfulness,
+    figures: &Figures,
+    volume: &Volume,
+    answer: &Verdict,
 ) -> Result<(), OutOfMemory>
-    ensures { OnOk result (string_bytes text.new ≡ string_bytes text.old ++ summary_json survey.now.profile survey.now.table.now survey.now.last (survey_now survey.now) answer.now) }
+    ensures { OnOk result (string_bytes text.new ≡ string_bytes text.old ++ figures_json (volume_now volume.now) figures.now answer.now) }
 {
-    let figures = Figures::of(alloc, survey)?;
-    push_volume(alloc, text, &figures, &survey.volume, answer)?;
+    push_volume(alloc, text, figures, volume, answer)?;
     text.push_str("\n")
 }
 
 /// Writes the figures of the summary of the report that a survey represents as one JSON object on a line, by the definitions of the summary's lines. Of a volume
-/// that does not open it has the blocks of the disc, whether the guarantee holds, the profile, and the fault where it is one.
+/// that does not open it has the blocks of the disc, whether the guarantee holds, what is lost, the profile, and the fault where it is one.
 ///
 /// # Errors
 ///
@@ -429,13 +470,37 @@ fn push_summary(
 pub fn write_summary_json<W: Sink>(
     alloc: Global,
     survey: &Survey<'_>,
-    answer: &Lawfulness,
+    answer: &Verdict,
     sink: &mut W,
 ) -> Result<(), RunError>
     ensures { Prints (W.stream sink.old) (W.stream sink.new)
         (summary_json survey.now.profile survey.now.table.now survey.now.last (survey_now survey.now) answer.now) result }
 {
+    match write_summary_json_by(alloc, survey, answer, sink) {
+        Ok(()) => Ok(()),
+        Err(PrintError::Run(error)) => Err(error),
+        Err(PrintError::Unread) => unreachable!(),
+    }
+}
+
+/// The same as [`write_summary_json`], by any store of blocks. All that is read is read before anything is written.
+///
+/// # Errors
+///
+/// `Run` with the error of [`write_summary_json`], and `Unread` where the bytes of a known block could not be read: what could not be read is never told as unknown.
+pub fn write_summary_json_by<B: ReportStore, W: Sink>(
+    alloc: Global,
+    survey: &Survey<'_, B>,
+    answer: &Verdict,
+    sink: &mut W,
+) -> Result<(), PrintError>
+    ensures printed { B.tells → (t : Table) → B.holds survey.now.table.now t → PrintsBy (W.stream sink.old) (W.stream sink.new)
+        (summary_json survey.now.profile t survey.now.last (survey_by B.states survey.now) answer.now) result }
+    ensures fails { IsErrOf result PrintError.Unread → B.fails }
+{
+    let counts = Counts::of(alloc, survey)?;
     let mut text = String::new(alloc);
-    push_summary(alloc, &mut text, survey, answer)?;
-    flush(&mut text, sink)
+    push_summary(alloc, &mut text, &counts.figures, &survey.volume, answer)?;
+    flush(&mut text, sink)?;
+    Ok(())
 }

@@ -2,10 +2,10 @@
 
 ghost use Rattle.std.specs.Prelude.{◌≡◌, ◌++◌, [], OnOk, codes};
 ghost use Rattle.std.specs.String.{string_bytes};
-ghost use Rattle.udfs_overview.specs.Sentences.{at_least, by_number, counted, part};
-ghost use Rattle.udfs_overview.specs.SummaryTexts.{disc_line, files_line, known_text, lost_files_text, needed_text, others_line, torn_files_text, unnamed_line, whole_files_text};
+ghost use Rattle.udfs_overview.specs.Sentences.{at_least, by_number, part};
+ghost use Rattle.udfs_overview.specs.SummaryTexts.{disc_line, files_line, known_text, lost_files_text, needed_text, others_line, torn_files_text, whole_files_text};
 
-use crate::disc_tallies::{DiscTally, UnnamedTally};
+use crate::disc_tallies::DiscTally;
 use crate::figures::push_size;
 use crate::sentences::{at_least, by_number, push_counted, push_part};
 use crate::tallies::Tally;
@@ -121,32 +121,6 @@ pub fn push_others(text: &mut String, tally: &Tally) -> Result<(), OutOfMemory>
     push_links(text, tally.others as u64)?;
     push_part(text, "Faults     ", tally.faulty as u64, " with faults\n")?;
     push_loops(text, tally.loops as u64)
-}
-
-/// How many whole files with data no name leads to.
-fn push_with_data(text: &mut String, count: u64) -> Result<(), OutOfMemory>
-    ensures { OnOk result (string_bytes text.new ≡ string_bytes text.old
-        ++ counted count (by_number count (codes " whole file with data, ") (codes " whole files with data, "))) }
-{
-    let words = by_number(count, " whole file with data, ", " whole files with data, ");
-    push_counted(text, count, words)
-}
-
-/// Appends the line of whole files that no name leads to, if there are any.
-///
-/// # Errors
-///
-/// If memory runs out. Then a part may be appended.
-#[tactic(auto, unfolding(crate::specs::SummaryTexts::unnamed_line))]
-pub fn push_unnamed(text: &mut String, tally: &UnnamedTally) -> Result<(), OutOfMemory>
-    ensures { OnOk result (string_bytes text.new ≡ string_bytes text.old ++ unnamed_line tally.now) }
-{
-    if tally.with_data == 0 && tally.empty == 0 {
-        return Ok(());
-    }
-    text.push_str("No name    ")?;
-    push_with_data(text, tally.with_data as u64)?;
-    push_counted(text, tally.empty as u64, " empty: extract --lost lost\n")
 }
 
 /// How many blocks are worth reading again, if any are.

@@ -1,12 +1,11 @@
 //! What is counted of nodes.
 
-ghost use Rattle.std.specs.Prelude.{◌≡◌, ℕ, List, IfOk, cond, count_by, length, map, option_map};
-ghost use Rattle.udfs_lattice.specs.Tables.{state_of};
-ghost use Rattle.udfs_space.specs.Views.{view_now};
+ghost use Rattle.std.specs.Prelude.{◌≡◌, ℕ, List, IfOk, IsErrOf, cond, count_by, map, option_map};
+ghost use Rattle.udfs_space.specs.Views.{view_by};
 ghost use Rattle.udfs_walk.specs.Bare.{full_node, node_with};
 ghost use Rattle.udfs_walk.specs.NodeFields.{NodeFields};
-ghost use Rattle.udfs_salvage.specs.Surveys.{survey_now};
-ghost use Rattle.udfs_overview.specs.Tallies.{at_most_128_bits, bytes_of, count_of, is_aside, is_disputed, is_faulty, is_folder, is_left_out, is_loop, is_of, is_other, is_torn, is_unread, node_count, only_conflicts, or_zero, tally_of, torn_file, torn_files, torn_part};
+ghost use Rattle.udfs_salvage.specs.Surveys.{survey_by};
+ghost use Rattle.udfs_overview.specs.Tallies.{at_most_128_bits, bytes_of, count_of, is_aside, is_disputed, is_faulty, is_folder, is_left_out, is_loop, is_of, is_other, is_torn, is_unread, only_conflicts, or_zero, tally_with, torn_file, torn_files, torn_part};
 ghost use Rattle.udfs_overview.specs.TornFiles.{bytes_in, damaged_in, disputed_in, lost_in, torn_now};
 ghost use Rattle.udfs_salvage.specs.UnnamedExtraction.{is_file};
 
@@ -15,11 +14,11 @@ use crate::left_out::left_out_type;
 use crate::node_columns::{is_whole, lost_of};
 use std::alloc::Global;
 use udfs_file::Kind;
-use udfs_lattice::BlockTable;
+use udfs_lattice::{BlockStore, GaveUp};
 use udfs_osta::OutOfMemory;
 use udfs_salvage::{Survey, Volume};
-use udfs_space::View;
-use udfs_walk::{Node, Path, Standing, full_standing};
+use udfs_space::StoreView;
+use udfs_walk::{Node, Path, Standing, full_standing_by};
 
 /// The sorts of nodes that a summary counts.
 #[derive(Clone, Copy, Debug, PartialEq, Eq)]
@@ -53,7 +52,7 @@ fn is_torn(standing: &Standing) -> bool
 }
 
 /// Whether a node is a directory on its own path.
-fn is_loop(standing: &Standing) -> bool
+pub(crate) fn is_loop(standing: &Standing) -> bool
     ensures { result ≡ is_loop standing.now }
 {
     match standing {
@@ -83,7 +82,7 @@ pub(crate) fn is_file(kind: Kind) -> bool
 }
 
 /// Whether a node is a directory.
-fn is_folder(kind: Kind) -> bool
+pub(crate) fn is_folder(kind: Kind) -> bool
     ensures { result ≡ is_folder kind }
 {
     match kind {
@@ -171,7 +170,7 @@ fn count_left_out(nodes: &[Node]) -> usize
 }
 
 /// How many bytes a node has, if it is of a sort.
-fn node_bytes(sort: NodeSort, node: &Node) -> u64
+pub(crate) fn node_bytes(sort: NodeSort, node: &Node) -> u64
     ensures { result ≡ cond (is_of sort node.now.standing node.now.kind) (or_zero node.now.size) 0 }
 {
     if !sort.has(&node.standing, node.kind) {
@@ -208,57 +207,64 @@ pub(crate) struct TornFile<'a> {
 }
 
 /// Whether two readings of each of these blocks differ.
-fn only_conflicts(table: &BlockTable, blocks: &[u32]) -> bool
-    ensures { result ≡ only_conflicts (state_of table.now) blocks.now }
+fn only_conflicts<B: BlockStore>(blocks: &B, missing: &[u32]) -> bool
+    ensures { B.tells → result ≡ only_conflicts (B.states blocks.now) missing.now }
 {
-    blocks.iter().all(|block| is_in_conflict(table, *block))
+    for block in missing {
+        if !is_in_conflict(blocks, *block) {
+            return false;
+        }
+    }
+    true
 }
 
 /// Whether nothing is missing but blocks in conflict.
-fn is_disputed(table: &BlockTable, standing: &Standing) -> bool
-    ensures { result ≡ is_disputed (state_of table.now) standing.now }
+fn is_disputed<B: BlockStore>(blocks: &B, standing: &Standing) -> bool
+    ensures { B.tells → result ≡ is_disputed (B.states blocks.now) standing.now }
 {
     match standing {
-        Standing::Torn(torn) => only_conflicts(table, &torn.missing),
+        Standing::Torn(torn) => only_conflicts(blocks, &torn.missing),
         _ => false,
     }
 }
 
 /// What a node with this standing lacks.
-fn torn_part<'a>(table: &BlockTable, node: &'a Node, standing: &Standing) -> TornFile<'a>
-    ensures { torn_now result ≡ torn_part (state_of table.now) (node_with node.now standing.now) }
+fn torn_part<'a, B: BlockStore>(blocks: &B, node: &'a Node, standing: &Standing) -> TornFile<'a>
+    ensures { B.tells → torn_now result ≡ torn_part (B.states blocks.now) (node_with node.now standing.now) }
 {
     TornFile {
         path: &node.path,
         size: node.size.unwrap_or(0),
         lost: lost_of(standing, node.kind).unwrap_or(0),
-        disputed: is_disputed(table, standing),
+        disputed: is_disputed(blocks, standing),
     }
 }
 
 /// What a node lacks that is given without its blocks and holes, if it is a torn file.
-fn torn_in<'a>(
+fn torn_in<'a, B: BlockStore>(
     alloc: Global,
-    view: View<'_>,
+    view: StoreView<'_, B>,
     node: &'a Node,
-) -> Result<Option<TornFile<'a>>, OutOfMemory>
-    ensures { IfOk result (λ file. option_map torn_now file ≡ torn_file (view_now view.entry).blocks (full_node (view_now view.entry) node.now)) }
+) -> Result<Option<TornFile<'a>>, GaveUp>
+    ensures value { IfOk result (λ file. B.tells → option_map torn_now file ≡ torn_file (view_by B.states view.entry).blocks (full_node (view_by B.states view.entry) node.now)) }
+    ensures fails { IsErrOf result GaveUp.Unread → B.fails }
 {
     if !NodeSort::TornFile.has(&node.standing, node.kind) {
         return Ok(None);
     }
-    let full = full_standing(alloc, view, node.icb, &node.standing)?;
-    Ok(Some(torn_part(view.table, node, &full)))
+    let full = full_standing_by(alloc, view, node.icb, &node.standing)?;
+    Ok(Some(torn_part(view.blocks, node, &full)))
 }
 
 /// The torn files among nodes that are given without their blocks and holes.
 #[tactic(auto, unfolding(crate::specs::Tallies::torn_files))]
-fn full_torn_files<'a>(
+fn full_torn_files<'a, B: BlockStore>(
     alloc: Global,
-    view: View<'_>,
+    view: StoreView<'_, B>,
     nodes: &'a [Node],
-) -> Result<Vec<TornFile<'a>>, OutOfMemory>
-    ensures { IfOk result (λ files. map torn_now files.items ≡ torn_files (view_now view.entry).blocks (map (full_node (view_now view.entry)) nodes.now)) }
+) -> Result<Vec<TornFile<'a>>, GaveUp>
+    ensures value { IfOk result (λ files. B.tells → map torn_now files.items ≡ torn_files (view_by B.states view.entry).blocks (map (full_node (view_by B.states view.entry)) nodes.now)) }
+    ensures fails { IsErrOf result GaveUp.Unread → B.fails }
 {
     let mut files = Vec::new(alloc);
     for node in nodes {
@@ -271,11 +277,11 @@ fn full_torn_files<'a>(
 }
 
 /// What a node lacks, if it is a torn file.
-fn torn_file<'a>(table: &BlockTable, node: &'a Node) -> Option<TornFile<'a>>
-    ensures { option_map torn_now result ≡ torn_file (state_of table.now) node.now }
+fn torn_file<'a, B: BlockStore>(blocks: &B, node: &'a Node) -> Option<TornFile<'a>>
+    ensures { B.tells → option_map torn_now result ≡ torn_file (B.states blocks.now) node.now }
 {
     if NodeSort::TornFile.has(&node.standing, node.kind) {
-        Some(torn_part(table, node, &node.standing))
+        Some(torn_part(blocks, node, &node.standing))
     } else {
         None
     }
@@ -283,16 +289,16 @@ fn torn_file<'a>(table: &BlockTable, node: &'a Node) -> Option<TornFile<'a>>
 
 /// The torn files among nodes.
 #[tactic(auto, unfolding(crate::specs::Tallies::torn_files))]
-fn torn_files<'a>(
+fn torn_files<'a, B: BlockStore>(
     alloc: Global,
-    table: &BlockTable,
+    blocks: &B,
     nodes: &'a [Node],
 ) -> Result<Vec<TornFile<'a>>, OutOfMemory>
-    ensures { IfOk result (λ files. map torn_now files.items ≡ torn_files (state_of table.now) nodes.now) }
+    ensures { IfOk result (λ files. B.tells → map torn_now files.items ≡ torn_files (B.states blocks.now) nodes.now) }
 {
     let mut files = Vec::new(alloc);
     for node in nodes {
-        if let Some(file) = torn_file(table, node) {
+        if let Some(file) = torn_file(blocks, node) {
             files.push(file)?;
         }
     }
@@ -300,18 +306,22 @@ fn torn_files<'a>(
 }
 
 /// The torn files of the report that a survey represents. The blocks and holes of one node are held at a time.
-pub(crate) fn survey_torn<'a>(
+pub(crate) fn survey_torn<'a, B: BlockStore>(
     alloc: Global,
-    survey: &'a Survey<'_>,
-) -> Result<Vec<TornFile<'a>>, OutOfMemory>
-    ensures { IfOk result (λ files. map torn_now files.items ≡ torn_files (state_of survey.now.table.now) (survey_now survey.now).nodes) }
+    survey: &'a Survey<'_, B>,
+) -> Result<Vec<TornFile<'a>>, GaveUp>
+    ensures value { IfOk result (λ files. B.tells → map torn_now files.items ≡ torn_files (B.states survey.now.table.now) (survey_by B.states survey.now).nodes) }
+    ensures fails { IsErrOf result GaveUp.Unread → B.fails }
 {
     match &survey.volume {
         Volume::Open(opened) => {
-            let view = opened.view(survey.table);
+            let view = opened.view_by(survey.table);
             full_torn_files(alloc, view, &survey.nodes)
         }
-        _ => torn_files(alloc, survey.table, &survey.nodes),
+        _ => {
+            let files = torn_files(alloc, survey.table, &survey.nodes)?;
+            Ok(files)
+        }
     }
 }
 
@@ -408,27 +418,18 @@ pub struct Tally {
     pub loops: usize,
 }
 
-/// Counts the nodes of the report that a survey represents. The blocks and holes of one node are held at a time.
-///
-/// # Errors
-///
-/// If memory runs out.
-pub fn count_nodes(alloc: Global, survey: &Survey<'_>) -> Result<Tally, OutOfMemory>
-    ensures value { IfOk result (λ tally. tally ≡ tally_of (state_of survey.now.table.now) (survey_now survey.now).nodes) }
-
-    // Each node is counted once.
-    ensures all { IfOk result (λ tally. node_count tally ≡ length (survey_now survey.now).nodes) }
+/// Counts nodes, of which these are the torn files.
+#[tactic(auto, unfolding(crate::specs::Tallies::tally_with))]
+pub(crate) fn count_nodes(nodes: &[Node], torn: &[TornFile<'_>]) -> Tally
+    ensures { result ≡ tally_with (map torn_now torn.now) nodes.now }
 {
-    let torn = survey_torn(alloc, survey)?;
-    let files = torn.as_slice();
-    let nodes = survey.nodes.as_slice();
-    Ok(Tally {
+    Tally {
         whole_files: count_of(NodeSort::WholeFile, nodes),
         whole_bytes: bytes_of(NodeSort::WholeFile, nodes),
-        torn_files: damaged_count(files),
-        torn_bytes: damaged_bytes(files),
-        lost_bytes: damaged_lost(files),
-        disputed: disputed_count(files),
+        torn_files: damaged_count(torn),
+        torn_bytes: damaged_bytes(torn),
+        lost_bytes: damaged_lost(torn),
+        disputed: disputed_count(torn),
         unread: count_of(NodeSort::Unread, nodes),
         whole_folders: count_of(NodeSort::WholeFolder, nodes),
         torn_folders: count_of(NodeSort::TornFolder, nodes),
@@ -436,5 +437,5 @@ pub fn count_nodes(alloc: Global, survey: &Survey<'_>) -> Result<Tally, OutOfMem
         left_out: count_left_out(nodes),
         faulty: count_of(NodeSort::Faulty, nodes),
         loops: count_of(NodeSort::Loop, nodes),
-    })
+    }
 }

@@ -2,7 +2,7 @@
 
 ghost use Rattle.std.specs.Prelude.{◌≡◌, ◌++◌, IfOk, OnOk, flat_map, map, option_map, take};
 ghost use Rattle.std.specs.String.{string_bytes};
-ghost use Rattle.udfs_salvage.specs.Surveys.{survey_now};
+ghost use Rattle.udfs_salvage.specs.Surveys.{survey_by};
 ghost use Rattle.udfs_overview.specs.TornLists.{shown_rows};
 ghost use Rattle.udfs_overview.specs.UnreadLists.{path_line, unread_head, unread_path, unread_paths, unread_rows, unread_text};
 
@@ -11,6 +11,7 @@ use crate::tallies::NodeSort;
 use crate::torn_lines::push_more;
 use crate::torn_rows::{SHOWN, push_narrow_path};
 use std::alloc::Global;
+use udfs_lattice::BlockStore;
 use udfs_osta::OutOfMemory;
 use udfs_salvage::Survey;
 use udfs_walk::{Node, Path};
@@ -46,8 +47,11 @@ fn unread_paths<'a>(alloc: Global, nodes: &'a [Node]) -> Result<Vec<&'a Path>, O
 ///
 /// If memory runs out.
 #[tactic(auto, using(crate::proofs::UnreadNodes::unread_full))]
-pub fn unread_in<'a>(alloc: Global, survey: &'a Survey<'_>) -> Result<Vec<&'a Path>, OutOfMemory>
-    ensures { IfOk result (λ paths. map (λ path. path.now) paths.items ≡ unread_paths (survey_now survey.now).nodes) }
+pub fn unread_in<'a, B: BlockStore>(
+    alloc: Global,
+    survey: &'a Survey<'_, B>,
+) -> Result<Vec<&'a Path>, OutOfMemory>
+    ensures { IfOk result (λ paths. map (λ path. path.now) paths.items ≡ unread_paths (survey_by B.states survey.now).nodes) }
 {
     unread_paths(alloc, &survey.nodes)
 }

@@ -131,20 +131,20 @@ pub(crate) fn fault_words(fault: VolumeFault) -> &'static str
     match fault {
         VolumeFault::NoAnchor => "there is no anchor",
         VolumeFault::Extents => "the anchor's extents are wrong",
-        VolumeFault::Pointer => "the volume's descriptors go on elsewhere",
+        VolumeFault::Pointer => "the volume's descriptors continue elsewhere",
         VolumeFault::NoLogicalVolume => "there is no logical volume",
-        VolumeFault::Domain => "the volume is not of a UDF revision that the rules take",
-        VolumeFault::BlockSize => "a logical block has not 2048 bytes",
-        VolumeFault::MapCount => "there are not one or two partition maps",
+        VolumeFault::Domain => "the rules do not accept this UDF revision",
+        VolumeFault::BlockSize => "a logical block does not have 2048 bytes",
+        VolumeFault::MapCount => "there is no partition map, or more than two",
         VolumeFault::MapKind =>
-            "a partition map is of a kind that is not read, such as that of write-once discs (VAT) or of metadata partitions",
+            "a partition map is of a kind that cannot be read, such as that of write-once discs (VAT) or metadata partitions",
         VolumeFault::NoPartition => "a map's partition is not described",
         VolumeFault::Contents => "a partition's contents are not those of UDF",
-        VolumeFault::PartitionRange => "a partition is empty, or passes the last block",
+        VolumeFault::PartitionRange => "a partition is empty, or ends after the last block",
         VolumeFault::SparingTag => "a sparing table's tag or name is wrong",
         VolumeFault::SparingShape => "a sparing table's shape is wrong",
         VolumeFault::SparingOrder => "a sparing table is not in order",
-        VolumeFault::MappedRange => "a spared packet passes the last block",
+        VolumeFault::MappedRange => "a spared packet ends after the last block",
         VolumeFault::FileSet => "the file set is not where it should be",
     }
 }

@@ -1,6 +1,6 @@
 //! What the wide rules make of a volume that the strict ones refuse.
 
-ghost use Rattle.std.specs.Prelude.{◌≡◌, ◌≤◌, ◌++◌, IfOk, OnOk};
+ghost use Rattle.std.specs.Prelude.{◌≡◌, ◌≤◌, ◌++◌, IfOk, IsErrOf, OnOk};
 ghost use Rattle.std.specs.String.{string_bytes};
 ghost use Rattle.udfs_lattice.specs.Tables.{state_of};
 ghost use Rattle.udfs_volume.specs.Layout.{layout_by};
@@ -10,10 +10,10 @@ ghost use Rattle.udfs_overview.specs.Widenings.{recorder_text, widened, widened_
 
 use crate::disagreements::has_room;
 use std::alloc::{AllocError, Global};
-use udfs_lattice::BlockTable;
+use udfs_lattice::{BlockStore, BlockTable, GaveUp};
 use udfs_osta::OutOfMemory;
 use udfs_salvage::revision_name;
-use udfs_volume::layouts::layout_by;
+use udfs_volume::layouts::layout_in;
 use udfs_volume::{Profile, Seen};
 
 /// What the wide rules make of a volume that the strict ones refuse.
@@ -28,40 +28,64 @@ pub enum Widening {
 }
 
 /// What the wide rules make of a volume.
-fn widened(alloc: Global, table: &BlockTable, last: u32) -> Result<Widening, OutOfMemory>
+fn widened<B: BlockStore>(alloc: Global, blocks: &B, last: u32) -> Result<Widening, GaveUp>
     requires from { 513 ≤ last }
     requires to { last ≤ 4194303 }
-    ensures { IfOk result (λ found. found ≡ widened (layout_by profile.Wide (state_of table.now) last)) }
+    ensures value { IfOk result (λ found. B.tells → found ≡ widened (layout_by profile.Wide (B.states blocks.now) last)) }
+    ensures fails { IsErrOf result GaveUp.Unread → B.fails }
 {
-    match layout_by(alloc, table, last, Profile::Wide) {
+    match layout_in(alloc, blocks, last, Profile::Wide)? {
         Seen::Got(parts) => Ok(Widening::Reads(parts.revision)),
         Seen::Holes(_) => Ok(Widening::Wants),
         Seen::Fault(_) => Ok(Widening::No),
-        Seen::OutOfMemory => Err(AllocError),
+        Seen::OutOfMemory => Err(GaveUp::OutOfMemory),
     }
 }
 
 /// The same where the strict rules refuse it.
-fn widened_from(alloc: Global, table: &BlockTable, last: u32) -> Result<Widening, OutOfMemory>
+fn widened_from<B: BlockStore>(alloc: Global, blocks: &B, last: u32) -> Result<Widening, GaveUp>
     requires from { 513 ≤ last }
     requires to { last ≤ 4194303 }
-    ensures { IfOk result (λ found. found ≡ widened_from (layout_by profile.Strict (state_of table.now) last) (layout_by profile.Wide (state_of table.now) last)) }
+    ensures value { IfOk result (λ found. B.tells → found ≡ widened_from (layout_by profile.Strict (B.states blocks.now) last) (layout_by profile.Wide (B.states blocks.now) last)) }
+    ensures fails { IsErrOf result GaveUp.Unread → B.fails }
 {
-    match layout_by(alloc, table, last, Profile::Strict) {
+    match layout_in(alloc, blocks, last, Profile::Strict)? {
         Seen::Got(_) | Seen::Holes(_) => Ok(Widening::No),
-        Seen::Fault(_) => widened(alloc, table, last),
-        Seen::OutOfMemory => Err(AllocError),
+        Seen::Fault(_) => widened(alloc, blocks, last),
+        Seen::OutOfMemory => Err(GaveUp::OutOfMemory),
     }
 }
 
 /// The same of a disc that has room for a volume.
-fn widening_in(alloc: Global, table: &BlockTable, last: u32) -> Result<Widening, OutOfMemory>
-    ensures { IfOk result (λ found. found ≡ widening_in (state_of table.now) last) }
+fn widening_in<B: BlockStore>(alloc: Global, blocks: &B, last: u32) -> Result<Widening, GaveUp>
+    ensures value { IfOk result (λ found. B.tells → found ≡ widening_in (B.states blocks.now) last) }
+    ensures fails { IsErrOf result GaveUp.Unread → B.fails }
 {
     if !has_room(last) {
         return Ok(Widening::No);
     }
-    widened_from(alloc, table, last)
+    widened_from(alloc, blocks, last)
+}
+
+/// The same as [`widening_by`], by any store of blocks.
+///
+/// # Errors
+///
+/// `OutOfMemory` if memory runs out, and `Unread` where the bytes of a known block could not be read.
+#[tactic(auto, unfolding(crate::specs::Widenings::widening_by))]
+pub(crate) fn widening_of<B: BlockStore>(
+    alloc: Global,
+    blocks: &B,
+    last: u32,
+    profile: Profile,
+) -> Result<Widening, GaveUp>
+    ensures value { IfOk result (λ found. B.tells → found ≡ widening_by profile (B.states blocks.now) last) }
+    ensures fails { IsErrOf result GaveUp.Unread → B.fails }
+{
+    match profile {
+        Profile::Strict => widening_in(alloc, blocks, last),
+        Profile::Wide => Ok(Widening::No),
+    }
 }
 
 /// What the wide rules make of the volume of a table with this last block, where the rules that were taken are the strict ones and refuse its layout.
@@ -69,7 +93,6 @@ fn widening_in(alloc: Global, table: &BlockTable, last: u32) -> Result<Widening,
 /// # Errors
 ///
 /// If memory runs out.
-#[tactic(auto, unfolding(crate::specs::Widenings::widening_by))]
 pub fn widening_by(
     alloc: Global,
     table: &BlockTable,
@@ -78,9 +101,10 @@ pub fn widening_by(
 ) -> Result<Widening, OutOfMemory>
     ensures { IfOk result (λ found. found ≡ widening_by profile (state_of table.now) last) }
 {
-    match profile {
-        Profile::Strict => widening_in(alloc, table, last),
-        Profile::Wide => Ok(Widening::No),
+    match widening_of(alloc, table, last, profile) {
+        Ok(found) => Ok(found),
+        Err(GaveUp::OutOfMemory) => Err(AllocError),
+        Err(GaveUp::Unread) => unreachable!(),
     }
 }
 

@@ -1,9 +1,12 @@
 -- Counts of blocks, arc by arc: what is counted, and what is left to count.
-use Rattle.std.proofs.Common.{◌≡◌, ◌∙◌, refl, sym, ap, arith, ℕ, ◌+◌, ◌-◌, ◌^◌, ◌<◌, Bool, true, false, cond, List, [], ◌∷◌, length, get_or, map, zero, suc, ◌++◌}
+use Rattle.std.proofs.Common.{◌≡◌, ◌∙◌, refl, sym, ap, arith, ℕ, ◌+◌, ◌-◌, ◌^◌, ◌<◌, ◌≤◌, Bool, true, false, cond, List, [], ◌∷◌, length, get_or, map, zero, suc, ◌++◌}
 use Rattle.std.specs.List.{range_with_len}
 use Rattle.std.proofs.lemmas.List.FromFn.{map-range_with_len_more}
-use Rattle.udfs_lattice.specs.Tables.{Table}
-use Rattle.udfs_page.specs.Arcs.{arc_length, arc_mark, counted_in, mark_of, needed_in}
+use Rattle.udfs_lattice.specs.States.{State}
+use Rattle.udfs_lattice.specs.Stores.{known_as}
+use Rattle.udfs_lattice.specs.Volumes.{Blocks}
+use Rattle.udfs_lattice.specs.declared.facts.Fact.TheVariants.{Unknown, Known, Conflict}
+use Rattle.udfs_page.specs.Arcs.{arc_length, arc_mark, counted_in, is_counted, is_seen, mark_of, needed_in}
 use Rattle.std.specs.Prelude.{count_by}
 use Rattle.std.proofs.lemmas.List.Sums.{sum_by-cons, count_by-le-length}
 
@@ -49,8 +52,28 @@ map_same f g a (suc n) h =
 pub range_more : {X : Type 0} (f : ℕ → X) (olds news : List X) (n : ℕ) (x : X) → news ≡ olds ++ x ∷ [] → x ≡ f n → olds ≡ map f (range_with_len 0 n) → news ≡ map f (range_with_len 0 (n + 1))
 range_more f olds news n x e is h = e ∙ (λ j. h j ++ is j ∷ []) ∙ sym (map-range_with_len_more f 0 n n (omega arith))
 
+-- the numbers from one of them on
+pub unroll : (i n : ℕ) → i < n → range_with_len i (n - i) ≡ i ∷ range_with_len (i + 1) (n - (i + 1))
+unroll i n h = let e : n - i ≡ suc (n - (i + 1)) = omega (arith, h) in ap (range_with_len i) e
+
+pub none_left : (i n : ℕ) → n ≤ i → range_with_len i (n - i) ≡ []
+none_left i n h = let e : n - i ≡ 0 = omega (arith, h) in ap (range_with_len i) e
+
+pub range_size : (a n : ℕ) → length (range_with_len a n) ≡ n
+range_size a zero = refl
+range_size a (suc n) = ap suc (range_size (a + 1) n)
+
+-- without the bytes of a block it is known whether it counts
+pub seen_counted : (conflicts : Bool) (s : State) → is_seen conflicts (known_as s) ≡ is_counted conflicts s
+seen_counted true Unknown = refl
+seen_counted true (Known bytes) = refl
+seen_counted true Conflict = refl
+seen_counted false Unknown = refl
+seen_counted false (Known bytes) = refl
+seen_counted false Conflict = refl
+
 -- the counts of all arcs say what is shown of them
-pub arcs_by_counts : (t : Table) (reread : List ℕ) (count blocks : ℕ) (ks cs ns : List ℕ) → length ks ≡ count
+pub arcs_by_counts : (t : Blocks) (reread : List ℕ) (count blocks : ℕ) (ks cs ns : List ℕ) → length ks ≡ count
     → ((i : ℕ) → i < count → get_or ks i 0 ≡ counted_in false t count blocks i)
     → ((i : ℕ) → i < count → get_or cs i 0 ≡ counted_in true t count blocks i)
     → ((i : ℕ) → i < count → get_or ns i 0 ≡ needed_in reread count blocks i)

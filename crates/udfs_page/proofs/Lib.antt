@@ -1,10 +1,10 @@
 mod Beginnings
 mod Closings
 mod Counts
-mod Fewness
 mod Html
 mod Lines
 mod Nesting
+mod PageParts
 mod Passing
 mod Roots
 mod Texts

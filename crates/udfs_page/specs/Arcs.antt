@@ -2,11 +2,13 @@
 --     arc_count last                   how many arcs there are
 --     first_block count blocks i       the first block of arc i
 --     arc_of count blocks n            the arc that block n is in
---     arcs_of table reread last        what is shown of each arc, in the order of the blocks
-use Rattle.std.specs.Prelude.{ℕ, ◌+◌, ◌-◌, ◌*◌, ◌/◌, ◌==◌, ◌&&◌, Bool, true, false, nat_lt, List, count_by, map, min, if◌then◌else◌}
+--     arcs_of states reread last       what is shown of each arc, in the order of the blocks
+use Rattle.std.specs.Prelude.{ℕ, ◌+◌, ◌-◌, ◌*◌, ◌/◌, ◌==◌, ◌&&◌, Bool, true, false, not, nat_lt, List, count_by, map, min, if◌then◌else◌}
 use Rattle.std.specs.List.{range_with_len}
 use Rattle.udfs_lattice.specs.States.{State, is_conflict, is_known}
-use Rattle.udfs_lattice.specs.Tables.{Table, entries_of}
+use Rattle.udfs_lattice.specs.Volumes.{Blocks}
+use Rattle.udfs_lattice.specs.declared.facts.Fact.{Fact}
+use Rattle.udfs_lattice.specs.declared.facts.Fact.TheVariants as fact
 use Rattle.udfs_page.specs.declared.disc_arcs.Mark.{Mark}
 use Rattle.udfs_page.specs.declared.disc_arcs.Mark.TheVariants.{InConflict, Known, Needed, NotKnown}
 
@@ -30,9 +32,15 @@ arc_of count blocks n = ((n + 1) * count - 1) / blocks
 abbrev pub is_counted : Bool → State → Bool
 is_counted conflicts s = if conflicts then is_conflict s else is_known s
 
--- how many blocks of arc i are in conflict, or known
-abbrev pub counted_in : Bool → Table → ℕ → ℕ → ℕ → ℕ
-counted_in conflicts t count blocks i = count_by (λ e. is_counted conflicts e.1 && arc_of count blocks e.0 == i) (entries_of t)
+-- the same of what is known of a block without its bytes
+abbrev pub is_seen : Bool → Fact (Unit {0}) → Bool
+is_seen conflicts fact.Unknown = false
+is_seen conflicts (fact.Known u) = not conflicts
+is_seen conflicts fact.Conflict = conflicts
+
+-- how many of so many blocks are in conflict, or known, and in arc i
+abbrev pub counted_in : Bool → Blocks → ℕ → ℕ → ℕ → ℕ
+counted_in conflicts states count blocks i = count_by (λ n. is_counted conflicts (states n) && arc_of count blocks n == i) (range_with_len 0 blocks)
 
 -- how many blocks of arc i are to be read again
 abbrev pub needed_in : List ℕ → ℕ → ℕ → ℕ → ℕ
@@ -47,10 +55,10 @@ mark_of known conflicts needed blocks =
     else NotKnown
 
 -- what is shown of arc i
-abbrev pub arc_mark : Table → List ℕ → ℕ → ℕ → ℕ → Mark
-arc_mark t reread count blocks i =
-    mark_of (counted_in false t count blocks i) (counted_in true t count blocks i) (needed_in reread count blocks i) (arc_length count blocks i)
+abbrev pub arc_mark : Blocks → List ℕ → ℕ → ℕ → ℕ → Mark
+arc_mark states reread count blocks i =
+    mark_of (counted_in false states count blocks i) (counted_in true states count blocks i) (needed_in reread count blocks i) (arc_length count blocks i)
 
 -- what is shown of each arc
-unfoldable pub arcs_of : Table → List ℕ → ℕ → List Mark
-arcs_of t reread last = map (arc_mark t reread (arc_count last) (last + 1)) (range_with_len 0 (arc_count last))
+unfoldable pub arcs_of : Blocks → List ℕ → ℕ → List Mark
+arcs_of states reread last = map (arc_mark states reread (arc_count last) (last + 1)) (range_with_len 0 (arc_count last))

@@ -1,20 +1,18 @@
 -- What to do next, as commands with the arguments that were given.
 --     Called                              how the page is called, and where it is written
 --     page_command words called rules last   the command that makes such a page
---     next_html words called rules table last report     what to do next
+--     next_html words called figures report   what to do next
 use Rattle.std.specs.Prelude.{ℕ, ◌==◌, Bool, List, [], ◌∷◌, ◌++◌, Option, Some, None, codes, cond, if◌then◌else◌}
-use Rattle.udfs_lattice.specs.Tables.{Table, state_of}
 use Rattle.udfs_volume.specs.Answers.{Answer, found, holes, faulty}
 use Rattle.udfs_volume.specs.declared.profiles.Profile.{Profile}
 use Rattle.udfs_volume.specs.declared.profiles.Profile.TheVariants as profile
 use Rattle.udfs_salvage.specs.Found.{Found}
 use Rattle.udfs_salvage.specs.Reports.{Report}
-use Rattle.udfs_overview.specs.DiscTallies.{disc_of}
 use Rattle.udfs_overview.specs.LeftOut.{wide_writes}
 use Rattle.udfs_overview.specs.NextCommands.{cleaned, extract_command, inputs_end, joined, needed_steps}
 use Rattle.udfs_overview.specs.Repeating.{GivenWords, disc_words, pass_number, shell_path, shell_word}
-use Rattle.udfs_overview.specs.Summaries.{is_all_whole}
-use Rattle.udfs_overview.specs.Widenings.{widening_by, widening_text}
+use Rattle.udfs_overview.specs.Widenings.{widening_text}
+use Rattle.udfs_overview.specs.declared.summary_figures.Figures.{Figures}
 use Rattle.udfs_overview.specs.declared.widenings.Widening.{Widening}
 use Rattle.udfs_overview.specs.declared.widenings.Widening.TheVariants as wide
 use Rattle.udfs_page.specs.Escapes.{html_text}
@@ -45,8 +43,8 @@ commands_html commands = markup (codes "<pre>") ++ html_text commands ++ markup 
 -- what is said of blocks that are needed, of which so many are in conflict
 abbrev pub needed_words : ℕ → List ℕ
 needed_words disputed =
-    if disputed == 0 then codes "<p>Blocks are needed that are not known. Read just these again, with this drive or another, and join the pass with what was read:</p>\n"
-    else codes "<p>Blocks in conflict are needed: of each, two readings differ. Forget them first, then read what is needed again, with this drive or another, and join the pass with the rest:</p>\n"
+    if disputed == 0 then codes "<p>Some blocks that are not known are needed. Read only these again, with this drive or another, and join the pass with what was read:</p>\n"
+    else codes "<p>Some blocks in conflict are needed: two readings of each differ. Forget them first, then read the needed blocks again, with this drive or another, and join the pass with the rest:</p>\n"
 
 -- the arguments where the table with the new pass is
 abbrev pub renewed : GivenWords → ℕ → GivenWords
@@ -56,7 +54,7 @@ renewed g disputed = if disputed == 0 then joined g else joined (cleaned g)
 unfoldable pub needed_html : GivenWords → CalledWords → Profile → ℕ → ℕ → ℕ → List ℕ
 needed_html g called rules last n disputed =
     markup (needed_words disputed) ++ commands_html (needed_steps [] [] g rules last n disputed)
-    ++ markup (codes "<p>Then make the page anew, and do what it says:</p>\n") ++ commands_html (page_command (renewed g disputed) called rules last)
+    ++ markup (codes "<p>Then make the page again, and do what it says:</p>\n") ++ commands_html (page_command (renewed g disputed) called rules last)
 
 -- the page by the wide rules, of a volume that these read
 unfoldable pub wide_html : GivenWords → CalledWords → ℕ → Widening → List ℕ
@@ -65,7 +63,7 @@ wide_html g called last other =
 
 -- of a volume with a fault
 abbrev pub fault_html : GivenWords → CalledWords → ℕ → Widening → List ℕ
-fault_html g called last wide.No = markup (codes "<p>The volume does not open, and no block to read again helps: the manual of udfsalvage says what this fault means.</p>\n")
+fault_html g called last wide.No = markup (codes "<p>The volume does not open, and reading blocks again will not help: the manual of udfsalvage explains this fault.</p>\n")
 fault_html g called last wide.Wants = wide_html g called last wide.Wants
 fault_html g called last (wide.Reads revision) = wide_html g called last (wide.Reads revision)
 
@@ -74,15 +72,15 @@ abbrev pub whole_words : Bool → List ℕ
 whole_words whole = if whole then codes "<p>All is whole.</p>\n" else codes "<p>No block is worth reading again.</p>\n"
 
 -- that no block is worth reading again
-abbrev pub no_need_html : GivenWords → CalledWords → Profile → Table → ℕ → Report → Answer Found → List ℕ
-no_need_html g called rules table last r (found f) = markup (whole_words (is_all_whole r))
-no_need_html g called rules table last r (holes blocks) = markup (codes "<p>The volume does not open, and no block is worth reading again.</p>\n")
-no_need_html g called rules table last r (faulty f) = fault_html g called last (widening_by rules (state_of table) last)
+abbrev pub no_need_html : GivenWords → CalledWords → Figures → Answer Found → List ℕ
+no_need_html g called f (found o) = markup (whole_words f.all_whole)
+no_need_html g called f (holes blocks) = markup (codes "<p>The volume does not open, and no block is worth reading again.</p>\n")
+no_need_html g called f (faulty fault) = fault_html g called f.last f.widening
 
 -- what to read again, if anything
-abbrev pub again_html : GivenWords → CalledWords → Profile → Table → ℕ → Report → List ℕ → List ℕ
-again_html g called rules table last r [] = no_need_html g called rules table last r r.volume
-again_html g called rules table last r (n ∷ ns) = needed_html g called rules last (pass_number g (disc_of table last r.reread).known) (disc_of table last r.reread).needed_in_conflict
+abbrev pub again_html : GivenWords → CalledWords → Figures → Answer Found → List ℕ → List ℕ
+again_html g called f volume [] = no_need_html g called f volume
+again_html g called f volume (n ∷ ns) = needed_html g called f.profile f.last (pass_number g f.disc.known) f.disc.needed_in_conflict
 
 -- the command that writes the files
 unfoldable pub extract_html : GivenWords → Profile → ℕ → List ℕ
@@ -97,16 +95,16 @@ files_steps g (faulty f) rules last = []
 -- the page by the wide rules, where these write files that the strict ones leave out
 unfoldable pub left_out_html : GivenWords → CalledWords → ℕ → List ℕ
 left_out_html g called last =
-    markup (codes "<p>The wide rules write files that are left out here. Make the page by them:</p>\n") ++ commands_html (page_command g called profile.Wide last)
+    markup (codes "<p>The wide rules also write files that are left out here. To make the page with them:</p>\n") ++ commands_html (page_command g called profile.Wide last)
 
 -- what to read again, if anything, and the command that writes the files
-unfoldable pub steps_html : GivenWords → CalledWords → Profile → Table → ℕ → Report → List ℕ
-steps_html g called rules table last r = again_html g called rules table last r r.reread ++ files_steps g r.volume rules last
+unfoldable pub steps_html : GivenWords → CalledWords → Figures → Answer Found → List ℕ → List ℕ
+steps_html g called f volume reread = again_html g called f volume reread ++ files_steps g volume f.profile f.last
 
 -- what to do by these rules; or by the wide ones, where they write files that are left out
-unfoldable pub advice_html : GivenWords → CalledWords → Profile → Table → ℕ → Report → List ℕ
-advice_html g called rules table last r = cond (wide_writes r.nodes) (left_out_html g called last) (steps_html g called rules table last r)
+unfoldable pub advice_html : GivenWords → CalledWords → Figures → Report → List ℕ
+advice_html g called f r = cond (wide_writes r.nodes) (left_out_html g called f.last) (steps_html g called f r.volume r.reread)
 
 -- what to do next
-unfoldable pub next_html : GivenWords → CalledWords → Profile → Table → ℕ → Report → List ℕ
-next_html g called rules table last r = markup (codes "<h2>What to do next</h2>\n") ++ advice_html g called rules table last r
+unfoldable pub next_html : GivenWords → CalledWords → Figures → Report → List ℕ
+next_html g called f r = markup (codes "<h2>What to do next</h2>\n") ++ advice_html g called f r

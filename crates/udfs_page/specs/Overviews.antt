@@ -1,10 +1,7 @@
 -- The summary at the head of the page.
 --     title_html volume                what the page is of: the volume's name, where it opens
---     overview_html rules table last r answer   what is found of a volume, whether it is lawful by this answer, and the blocks of its disc, a division a line
+--     overview_html figures r answer   what is found of a volume, whether it is lawful and what is lost by this answer, and the blocks of its disc, a division a line
 use Rattle.std.specs.Prelude.{ℕ, ◌-◌, ◌==◌, ◌&&◌, nat_le, List, [], ◌++◌, Option, Some, None, codes, length, if◌then◌else◌}
-use Rattle.udfs_lattice.specs.Tables.{Table, state_of}
-use Rattle.udfs_lattice.specs.Volumes.{Blocks}
-use Rattle.udfs_volume.specs.declared.profiles.Profile.{Profile}
 use Rattle.udfs_volume.specs.Answers.{Answer, found, holes, faulty}
 use Rattle.udfs_salvage.specs.Found.{Found}
 use Rattle.udfs_salvage.specs.Reports.{Report}
@@ -12,20 +9,20 @@ use Rattle.udfs_lawfulness.specs.declared.answers.Lawfulness.{Lawfulness}
 use Rattle.udfs_lawfulness.specs.declared.answers.Lawfulness.TheVariants as answer
 use Rattle.udfs_lawfulness.specs.declared.answers.Why.{Why}
 use Rattle.udfs_overview.specs.Disagreements.{apart_lines}
-use Rattle.udfs_overview.specs.DiscTallies.{disc_of, unnamed_of}
 use Rattle.udfs_overview.specs.Figures.{grouped}
 use Rattle.udfs_overview.specs.Guarantees.{guarantee_line, why_place, why_words}
 use Rattle.udfs_overview.specs.LeftOut.{left_out_line, left_out_types}
-use Rattle.udfs_overview.specs.MovedTags.{moved_count, moved_line}
-use Rattle.udfs_overview.specs.NodeWidenings.{wider_count, wider_line}
+use Rattle.udfs_overview.specs.LostSummaries.{lost_lines}
+use Rattle.udfs_overview.specs.MovedTags.{moved_line}
+use Rattle.udfs_overview.specs.NodeWidenings.{wider_line}
 use Rattle.udfs_overview.specs.Sentences.{sentence}
 use Rattle.udfs_overview.specs.Summaries.{torn_folder}
-use Rattle.udfs_overview.specs.SummaryTexts.{disc_line, files_line, others_line, unnamed_line}
-use Rattle.udfs_overview.specs.Tallies.{tally_of}
+use Rattle.udfs_overview.specs.SummaryTexts.{disc_line, files_line, others_line}
 use Rattle.udfs_overview.specs.TornLists.{shown_path}
 use Rattle.udfs_overview.specs.VolumeLines.{disc_size_text, label_text, revision_and_kinds, volume_line}
-use Rattle.udfs_overview.specs.declared.disc_tallies.UnnamedTally.{UnnamedTally}
+use Rattle.udfs_overview.specs.declared.summary_figures.Figures.{Figures}
 use Rattle.udfs_overview.specs.declared.tallies.Tally.{Tally}
+use Rattle.udfs_overview.specs.declared.verdicts.Verdict.{Verdict}
 use Rattle.udfs_page.specs.Escapes.{html_lines, html_text}
 use Rattle.udfs_page.specs.Markups.{markup, shown_name}
 
@@ -67,9 +64,9 @@ folders_html t path =
     else folder_counts_html t ++ names_missing_html t.torn_folders path ++ next_line
 
 -- the lines of what is found of a volume that opens
-abbrev pub found_html : Tally → Option (List (List ℕ)) → List ℕ → UnnamedTally → List ℕ
-found_html t path types u =
-    html_lines (files_line t) ++ folders_html t path ++ html_lines (others_line t) ++ html_lines (left_out_line types) ++ html_lines (unnamed_line u)
+abbrev pub found_html : Tally → Option (List (List ℕ)) → List ℕ → List ℕ
+found_html t path types =
+    html_lines (files_line t) ++ folders_html t path ++ html_lines (others_line t) ++ html_lines (left_out_line types)
 
 -- the first line of a volume that opens: its name, its revision, and its size
 abbrev pub open_html : Found → ℕ → List ℕ
@@ -77,14 +74,14 @@ open_html f last =
     shown_name (label_text f.layout.label) ++ markup (codes "   ") ++ revision_and_kinds f.layout ++ markup (codes "   ") ++ disc_size_text last ++ next_line
 
 -- the lines of a volume that opens
-abbrev pub opened_html : Tally → Found → ℕ → Report → List ℕ
-opened_html t f last r = open_html f last ++ html_lines (sentence t (length r.reread)) ++ found_html t (torn_folder r.nodes) (left_out_types r.nodes) (unnamed_of r.unnamed)
+abbrev pub opened_html : Figures → Found → Report → List ℕ
+opened_html f o r = open_html o f.last ++ html_lines (sentence f.tally (length r.reread)) ++ found_html f.tally (torn_folder r.nodes) (left_out_types r.nodes)
 
 -- the lines of the volume: of one that does not open, why
-abbrev pub volume_html : Blocks → Answer Found → ℕ → Report → List ℕ
-volume_html blocks (found f) last r = opened_html (tally_of blocks r.nodes) f last r
-volume_html blocks (holes unread) last r = html_lines (volume_line (holes unread) last)
-volume_html blocks (faulty f) last r = html_lines (volume_line (faulty f) last)
+abbrev pub volume_html : Figures → Answer Found → Report → List ℕ
+volume_html f (found o) r = opened_html f o r
+volume_html f (holes unread) r = html_lines (volume_line (holes unread) f.last)
+volume_html f (faulty fault) r = html_lines (volume_line (faulty fault) f.last)
 
 -- of a volume that is not lawful: why, and where
 abbrev pub unlawful_html : Why → List ℕ
@@ -97,6 +94,7 @@ guarantee_html (answer.Unlawful w) = unlawful_html w
 guarantee_html (answer.Open blocks) = html_lines (guarantee_line (answer.Open blocks))
 
 -- all lines
-unfoldable pub overview_html : Profile → Table → ℕ → Report → Lawfulness → List ℕ
-overview_html rules table last r a =
-    markup (codes "<div class=s>\n<div>") ++ volume_html (state_of table) r.volume last r ++ html_lines (apart_lines rules (state_of table) last) ++ html_lines (moved_line (moved_count (state_of table) r) ++ wider_line (wider_count rules (state_of table) last r.nodes)) ++ guarantee_html a ++ html_lines (disc_line (disc_of table last r.reread)) ++ markup (codes "</div>\n</div>\n")
+unfoldable pub overview_html : Figures → Report → Verdict → List ℕ
+overview_html f r a =
+    markup (codes "<div class=s>\n<div>") ++ (volume_html f r.volume r ++ html_lines (lost_lines a.lost)) ++ html_lines (apart_lines f.anchors f.copies_differ) ++ html_lines (moved_line f.moved ++ wider_line f.wider)
+    ++ guarantee_html a.lawfulness ++ html_lines (disc_line f.disc) ++ markup (codes "</div>\n</div>\n")

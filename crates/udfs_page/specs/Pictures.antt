@@ -14,7 +14,7 @@ picture_front =
 -- a mark, and what it means
 abbrev pub legend_text : List ℕ
 legend_text =
-    markup (codes "<figcaption>The blocks of the disc, from the first ones inside to the last ones outside. The angle means nothing: a scratch across the disc is no line here. A stretch shows the worst that is true of a block in it:\n<ul>\n")
+    markup (codes "<figcaption>The blocks of the disc, from the first ones inside to the last ones outside. The angle means nothing: a scratch across the disc does not show as a line. Each stretch shows the worst of its blocks:\n<ul>\n")
     ++ markup (codes "<li><svg viewBox='0 0 300 132'><path class=k d='M0 66h300'/></svg>known</li>\n")
     ++ markup (codes "<li><svg viewBox='0 0 300 132'><path class=n d='M0 66h300'/></svg>not known, and not needed</li>\n")
     ++ markup (codes "<li><svg viewBox='0 0 300 132'><path class=m d='M0 66h300'/></svg>needed: read it again</li>\n")

@@ -68,7 +68,7 @@ fault_html fault = markup (codes ", fault ") ++ figure (node_fault_number fault)
 abbrev pub standing_html : Standing → Kind → List ℕ
 standing_html standing.Whole k = []
 standing_html (standing.Torn torn) k = lost_html (lost_of (standing.Torn torn) k) torn.holes
-standing_html standing.Loop k = markup (codes ", a loop: it stands inside itself")
+standing_html standing.Loop k = markup (codes ", a loop: it is inside itself")
 standing_html (standing.Fault f) k = fault_html f
 
 -- the word of a body that is read by the tail of its last extent, with what that means

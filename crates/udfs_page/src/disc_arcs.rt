@@ -2,11 +2,10 @@
 
 ghost use Rattle.std.specs.Prelude.{◌≡◌, ◌+◌, ◌-◌, ◌^◌, ◌<◌, ◌≤◌, ◌==◌, ◌&&◌, ℕ, Bool, List, IfOk, cond, count_by, get_or, length, map};
 ghost use Rattle.std.specs.List.{range_with_len};
-ghost use Rattle.udfs_lattice.specs.States.{fact_now};
-ghost use Rattle.udfs_page.specs.Arcs.{arc_length, arc_mark, arc_of, arcs_of, is_counted, first_block, mark_of, counted_in, needed_in};
+ghost use Rattle.udfs_page.specs.Arcs.{arc_length, arc_mark, arc_of, arcs_of, is_seen, first_block, mark_of, counted_in, needed_in};
 
 use std::alloc::Global;
-use udfs_lattice::{BlockTable, Fact};
+use udfs_lattice::{BlockStore, Fact};
 use udfs_osta::OutOfMemory;
 
 /// How many arcs the picture has at most.
@@ -26,8 +25,8 @@ pub enum Mark {
 }
 
 /// Whether a state counts: where conflicts are asked for, if it is one; and otherwise if the block is known.
-fn is_counted(conflicts: bool, fact: &Fact<&[u8; 2048]>) -> bool
-    ensures { result ≡ is_counted conflicts (fact_now fact.now) }
+fn is_counted(conflicts: bool, fact: Fact<()>) -> bool
+    ensures { result ≡ is_seen conflicts fact }
 {
     match fact {
         Fact::Unknown => false,
@@ -62,19 +61,13 @@ fn count_block(counts: &mut [usize], blocks: u64, block: u32)
 }
 
 /// Counts a block in its arc, if its state counts.
-fn count_fact(
-    counts: &mut [usize],
-    blocks: u64,
-    conflicts: bool,
-    block: u32,
-    fact: &Fact<&[u8; 2048]>,
-)
+fn count_fact(counts: &mut [usize], blocks: u64, conflicts: bool, block: u32, fact: Fact<()>)
     requires some { 0 < length counts.old }
     requires few { length counts.old ≤ 2000 }
     requires blocks { 0 < blocks }
     ensures size { length counts.new ≡ length counts.old }
     ensures counted { (i : ℕ) → i < length counts.old → get_or counts.old i 0 < 2 ^ 64 - 1 →
-        get_or counts.new i 0 ≡ get_or counts.old i 0 + cond (is_counted conflicts (fact_now fact.now) && arc_of (length counts.old) blocks block == i) 1 0 }
+        get_or counts.new i 0 ≡ get_or counts.old i 0 + cond (is_seen conflicts fact && arc_of (length counts.old) blocks block == i) 1 0 }
 {
     if is_counted(conflicts, fact) {
         count_block(counts, blocks, block);
@@ -82,16 +75,18 @@ fn count_fact(
 }
 
 /// Counts the blocks in conflict in their arcs, or the known ones.
-fn count_entries(counts: &mut [usize], blocks: u64, conflicts: bool, table: &BlockTable)
+fn count_states<B: BlockStore>(counts: &mut [usize], blocks: u64, conflicts: bool, store: &B)
     requires some { 0 < length counts.old }
     requires few { length counts.old ≤ 2000 }
     requires blocks { 0 < blocks }
+    requires most { blocks ≤ 2 ^ 32 }
     requires zero { (i : ℕ) → i < length counts.old → get_or counts.old i 0 ≡ 0 }
     ensures size { length counts.new ≡ length counts.old }
-    ensures counted { (i : ℕ) → i < length counts.old → get_or counts.new i 0 ≡ counted_in conflicts table.now (length counts.old) blocks i }
+    ensures counted { B.tells → (i : ℕ) → i < length counts.old → get_or counts.new i 0 ≡ counted_in conflicts (B.states store.now) (length counts.old) blocks i }
 {
-    for (block, fact) in table.entries() {
-        count_fact(counts, blocks, conflicts, block, &fact);
+    for number in 0..blocks {
+        let block = number as u32;
+        count_fact(counts, blocks, conflicts, block, store.knowledge(block));
     }
 }
 
@@ -180,21 +175,22 @@ fn marks_of(
 }
 
 /// How many blocks of each arc are in conflict, or known.
-fn entry_counts(
+fn state_counts<B: BlockStore>(
     alloc: Global,
     count: usize,
     blocks: u64,
     conflicts: bool,
-    table: &BlockTable,
+    store: &B,
 ) -> Result<Vec<usize>, OutOfMemory>
     requires some { 0 < count }
     requires few { count ≤ 2000 }
     requires blocks { 0 < blocks }
+    requires most { blocks ≤ 2 ^ 32 }
     ensures size { IfOk result (λ counts. length counts.items ≡ count) }
-    ensures counted { IfOk result (λ counts. (i : ℕ) → i < count → get_or counts.items i 0 ≡ counted_in conflicts table.now count blocks i) }
+    ensures counted { IfOk result (λ counts. B.tells → (i : ℕ) → i < count → get_or counts.items i 0 ≡ counted_in conflicts (B.states store.now) count blocks i) }
 {
     let mut counts = vec![in alloc; 0usize; count]?;
-    count_entries(&mut counts, blocks, conflicts, table);
+    count_states(&mut counts, blocks, conflicts, store);
     Ok(counts)
 }
 
@@ -218,9 +214,9 @@ fn needed_counts(
 
 /// What is shown of each of the `count` arcs of a disc with `blocks` blocks.
 #[tactic(auto, using(crate::proofs::Counts::arcs_by_counts))]
-fn arcs_in(
+fn arcs_in<B: BlockStore>(
     alloc: Global,
-    table: &BlockTable,
+    store: &B,
     reread: &[u32],
     count: usize,
     blocks: u64,
@@ -229,10 +225,11 @@ fn arcs_in(
     requires few { count ≤ 2000 }
     requires first { 0 < blocks }
     requires blocks { blocks ≤ 2 ^ 32 }
-    ensures { IfOk result (λ marks. marks.items ≡ map (arc_mark table.now reread.now count blocks) (range_with_len 0 count)) }
+    ensures size { IfOk result (λ marks. length marks.items ≡ count) }
+    ensures value { IfOk result (λ marks. B.tells → marks.items ≡ map (arc_mark (B.states store.now) reread.now count blocks) (range_with_len 0 count)) }
 {
-    let known = entry_counts(alloc, count, blocks, false, table)?;
-    let conflicts = entry_counts(alloc, count, blocks, true, table)?;
+    let known = state_counts(alloc, count, blocks, false, store)?;
+    let conflicts = state_counts(alloc, count, blocks, true, store)?;
     let needed = needed_counts(alloc, count, blocks, reread)?;
     marks_of(alloc, &known, &conflicts, &needed, blocks)
 }
@@ -244,15 +241,16 @@ fn arcs_in(
 ///
 /// If memory runs out.
 #[tactic(auto, unfolding(crate::specs::Arcs::arcs_of))]
-pub fn arcs(
+pub fn arcs<B: BlockStore>(
     alloc: Global,
-    table: &BlockTable,
+    store: &B,
     last: u32,
     reread: &[u32],
 ) -> Result<Vec<Mark>, OutOfMemory>
-    ensures { IfOk result (λ marks. marks.items ≡ arcs_of table.now reread.now last) }
+    ensures few { IfOk result (λ marks. length marks.items ≤ 2000) }
+    ensures value { IfOk result (λ marks. B.tells → marks.items ≡ arcs_of (B.states store.now) reread.now last) }
 {
     let blocks = u64::from(last) + 1;
     let count = blocks.min(u64::from(MOST_ARCS)) as usize;
-    arcs_in(alloc, table, reread, count, blocks)
+    arcs_in(alloc, store, reread, count, blocks)
 }

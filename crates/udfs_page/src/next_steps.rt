@@ -3,8 +3,7 @@
 ghost use Rattle.std.specs.Prelude.{◌≡◌, ◌++◌, [], OnOk, option_map};
 ghost use Rattle.std.specs.String.{string_bytes};
 ghost use Rattle.udfs_salvage.specs.Found.{volume_now};
-ghost use Rattle.udfs_salvage.specs.Surveys.{survey_now};
-ghost use Rattle.udfs_overview.specs.DiscTallies.{disc_of};
+ghost use Rattle.udfs_salvage.specs.Surveys.{survey_by};
 ghost use Rattle.udfs_overview.specs.NextCommands.{cleaned, joined, needed_steps};
 ghost use Rattle.udfs_overview.specs.Repeating.{given_now, pass_number};
 ghost use Rattle.udfs_overview.specs.Widenings.{widening_text};
@@ -17,11 +16,12 @@ use crate::escapes::push_html;
 use crate::markups::push_markup;
 use crate::naming::Called;
 use std::alloc::Global;
+use udfs_lattice::BlockStore;
 use udfs_osta::OutOfMemory;
 use udfs_overview::{
-    DiscTally, Given, Margins, Pass, Widening, cleaned, count_disc, is_all_whole, pass_number,
-    push_disc_words, push_extract, push_inputs_end, push_needed_steps, push_shell_path,
-    push_shell_word, push_widening, table_path, wide_writes, widening_by,
+    Figures, Given, Margins, Pass, Widening, cleaned, pass_number, push_disc_words, push_extract,
+    push_inputs_end, push_needed_steps, push_shell_path, push_shell_word, push_widening,
+    table_path, wide_writes,
 };
 use udfs_salvage::{Survey, Volume};
 use udfs_volume::Profile;
@@ -102,12 +102,12 @@ fn push_needed_words(text: &mut String, disputed: usize) -> Result<(), OutOfMemo
     if disputed == 0 {
         push_markup(
             text,
-            "<p>Blocks are needed that are not known. Read just these again, with this drive or another, and join the pass with what was read:</p>\n",
+            "<p>Some blocks that are not known are needed. Read only these again, with this drive or another, and join the pass with what was read:</p>\n",
         )
     } else {
         push_markup(
             text,
-            "<p>Blocks in conflict are needed: of each, two readings differ. Forget them first, then read what is needed again, with this drive or another, and join the pass with the rest:</p>\n",
+            "<p>Some blocks in conflict are needed: two readings of each differ. Forget them first, then read the needed blocks again, with this drive or another, and join the pass with the rest:</p>\n",
         )
     }
 }
@@ -203,7 +203,7 @@ fn push_needed(
     push_needed_commands(alloc, text, given, pass, disputed)?;
     push_markup(
         text,
-        "<p>Then make the page anew, and do what it says:</p>\n",
+        "<p>Then make the page again, and do what it says:</p>\n",
     )?;
     push_renewed_box(alloc, text, given, called, pass, disputed)
 }
@@ -249,7 +249,7 @@ fn push_fault(
     match widening {
         Widening::No => push_markup(
             text,
-            "<p>The volume does not open, and no block to read again helps: the manual of udfsalvage says what this fault means.</p>\n",
+            "<p>The volume does not open, and reading blocks again will not help: the manual of udfsalvage explains this fault.</p>\n",
         ),
         Widening::Wants | Widening::Reads(_) => {
             push_wide(alloc, text, given, called, last, widening)
@@ -274,20 +274,19 @@ fn push_no_need(
     text: &mut String,
     given: &Given<'_>,
     called: &Called<'_>,
-    survey: &Survey<'_>,
+    figures: &Figures,
+    volume: &Volume,
 ) -> Result<(), OutOfMemory>
-    ensures { OnOk result (string_bytes text.new ≡ string_bytes text.old
-        ++ no_need_html (given_now given.now) (called_now called.now) survey.now.profile survey.now.table.now survey.now.last (survey_now survey.now) (volume_now survey.now.volume)) }
+    ensures { OnOk result (string_bytes text.new ≡ string_bytes text.old ++ no_need_html (given_now given.now) (called_now called.now) figures.now (volume_now volume.now)) }
 {
-    match &survey.volume {
-        Volume::Open(_) => push_whole_words(text, is_all_whole(alloc, survey)?),
+    match volume {
+        Volume::Open(_) => push_whole_words(text, figures.all_whole),
         Volume::Holes(_) => push_markup(
             text,
             "<p>The volume does not open, and no block is worth reading again.</p>\n",
         ),
         Volume::Fault(_) => {
-            let found = widening_by(alloc, survey.table, survey.last, survey.profile)?;
-            push_fault(alloc, text, given, called, survey.last, found)
+            push_fault(alloc, text, given, called, figures.last, figures.widening)
         }
     }
 }
@@ -298,18 +297,18 @@ fn push_worth(
     text: &mut String,
     given: &Given<'_>,
     called: &Called<'_>,
-    survey: &Survey<'_>,
-    disc: &DiscTally,
+    figures: &Figures,
 ) -> Result<(), OutOfMemory>
     ensures { OnOk result (string_bytes text.new ≡ string_bytes text.old
-        ++ needed_html (given_now given.now) (called_now called.now) survey.now.profile survey.now.last (pass_number (given_now given.now) disc.now.known) disc.now.needed_in_conflict) }
+        ++ needed_html (given_now given.now) (called_now called.now) figures.now.profile figures.now.last (pass_number (given_now given.now) figures.now.disc.known) figures.now.disc.needed_in_conflict) }
 {
     let pass = Pass {
-        profile: survey.profile,
-        last: survey.last,
-        number: pass_number(alloc, given, disc.known)?,
+        profile: figures.profile,
+        last: figures.last,
+        number: pass_number(alloc, given, figures.disc.known)?,
     };
-    push_needed(alloc, text, given, called, pass, disc.needed_in_conflict)
+    let disputed = figures.disc.needed_in_conflict;
+    push_needed(alloc, text, given, called, pass, disputed)
 }
 
 /// What to read again, if anything.
@@ -318,16 +317,16 @@ fn push_again(
     text: &mut String,
     given: &Given<'_>,
     called: &Called<'_>,
-    survey: &Survey<'_>,
-    disc: &DiscTally,
+    figures: &Figures,
+    volume: &Volume,
+    reread: &[u32],
 ) -> Result<(), OutOfMemory>
-    requires { disc.now ≡ disc_of survey.now.table.now survey.now.last survey.now.reread.items }
     ensures { OnOk result (string_bytes text.new ≡ string_bytes text.old
-        ++ again_html (given_now given.now) (called_now called.now) survey.now.profile survey.now.table.now survey.now.last (survey_now survey.now) survey.now.reread.items) }
+        ++ again_html (given_now given.now) (called_now called.now) figures.now (volume_now volume.now) reread.now) }
 {
-    match survey.reread.as_slice() {
-        [] => push_no_need(alloc, text, given, called, survey),
-        _ => push_worth(alloc, text, given, called, survey, disc),
+    match reread {
+        [] => push_no_need(alloc, text, given, called, figures, volume),
+        _ => push_worth(alloc, text, given, called, figures),
     }
 }
 
@@ -356,12 +355,14 @@ fn push_files_steps(
     alloc: Global,
     text: &mut String,
     given: &Given<'_>,
-    survey: &Survey<'_>,
+    volume: &Volume,
+    profile: Profile,
+    last: u32,
 ) -> Result<(), OutOfMemory>
-    ensures { OnOk result (string_bytes text.new ≡ string_bytes text.old ++ files_steps (given_now given.now) (volume_now survey.now.volume) survey.now.profile survey.now.last) }
+    ensures { OnOk result (string_bytes text.new ≡ string_bytes text.old ++ files_steps (given_now given.now) (volume_now volume.now) profile last) }
 {
-    match &survey.volume {
-        Volume::Open(_) => push_extract_box(alloc, text, given, survey.profile, survey.last),
+    match volume {
+        Volume::Open(_) => push_extract_box(alloc, text, given, profile, last),
         Volume::Holes(_) | Volume::Fault(_) => Ok(()),
     }
 }
@@ -379,7 +380,7 @@ fn push_left_out(
 {
     push_markup(
         text,
-        "<p>The wide rules write files that are left out here. Make the page by them:</p>\n",
+        "<p>The wide rules also write files that are left out here. To make the page with them:</p>\n",
     )?;
     push_page_box(alloc, text, given, called, Profile::Wide, last)
 }
@@ -391,47 +392,56 @@ fn push_steps(
     text: &mut String,
     given: &Given<'_>,
     called: &Called<'_>,
-    survey: &Survey<'_>,
+    figures: &Figures,
+    volume: &Volume,
+    reread: &[u32],
 ) -> Result<(), OutOfMemory>
     ensures { OnOk result (string_bytes text.new ≡ string_bytes text.old
-        ++ steps_html (given_now given.now) (called_now called.now) survey.now.profile survey.now.table.now survey.now.last (survey_now survey.now)) }
+        ++ steps_html (given_now given.now) (called_now called.now) figures.now (volume_now volume.now) reread.now) }
 {
-    let disc = count_disc(survey);
-    push_again(alloc, text, given, called, survey, &disc)?;
-    push_files_steps(alloc, text, given, survey)
+    push_again(alloc, text, given, called, figures, volume, reread)?;
+    push_files_steps(alloc, text, given, volume, figures.profile, figures.last)
 }
 
 /// What to do by these rules; or by the wide ones, where they write files that are left out.
 #[tactic(auto, unfolding(crate::specs::NextSteps::advice_html))]
-fn push_advice(
+fn push_advice<B: BlockStore>(
     alloc: Global,
     text: &mut String,
     given: &Given<'_>,
     called: &Called<'_>,
-    survey: &Survey<'_>,
+    survey: &Survey<'_, B>,
+    figures: &Figures,
 ) -> Result<(), OutOfMemory>
-    ensures { OnOk result (string_bytes text.new ≡ string_bytes text.old
-        ++ advice_html (given_now given.now) (called_now called.now) survey.now.profile survey.now.table.now survey.now.last (survey_now survey.now)) }
+    ensures { OnOk result (string_bytes text.new ≡ string_bytes text.old ++ advice_html (given_now given.now) (called_now called.now) figures.now (survey_by B.states survey.now)) }
 {
     if wide_writes(alloc, survey)? {
-        push_left_out(alloc, text, given, called, survey.last)
+        push_left_out(alloc, text, given, called, figures.last)
     } else {
-        push_steps(alloc, text, given, called, survey)
+        push_steps(
+            alloc,
+            text,
+            given,
+            called,
+            figures,
+            &survey.volume,
+            &survey.reread,
+        )
     }
 }
 
 /// What to do next, of a page that is called so.
 #[tactic(auto, unfolding(crate::specs::NextSteps::next_html))]
-pub(crate) fn push_next(
+pub(crate) fn push_next<B: BlockStore>(
     alloc: Global,
     text: &mut String,
     given: &Given<'_>,
     called: &Called<'_>,
-    survey: &Survey<'_>,
+    survey: &Survey<'_, B>,
+    figures: &Figures,
 ) -> Result<(), OutOfMemory>
-    ensures { OnOk result (string_bytes text.new ≡ string_bytes text.old
-        ++ next_html (given_now given.now) (called_now called.now) survey.now.profile survey.now.table.now survey.now.last (survey_now survey.now)) }
+    ensures { OnOk result (string_bytes text.new ≡ string_bytes text.old ++ next_html (given_now given.now) (called_now called.now) figures.now (survey_by B.states survey.now)) }
 {
     push_markup(text, "<h2>What to do next</h2>\n")?;
-    push_advice(alloc, text, given, called, survey)
+    push_advice(alloc, text, given, called, survey, figures)
 }

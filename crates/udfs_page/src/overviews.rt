@@ -4,17 +4,15 @@ ghost use Rattle.std.specs.Prelude.{◌≡◌, ◌++◌, OnOk, option_map};
 ghost use Rattle.std.specs.String.{string_bytes};
 ghost use Rattle.udfs_volume.specs.LayoutParts.{parts_now};
 ghost use Rattle.udfs_salvage.specs.Found.{found_now, volume_now};
-ghost use Rattle.udfs_salvage.specs.Surveys.{survey_now};
-ghost use Rattle.udfs_lattice.specs.Tables.{state_of};
+ghost use Rattle.udfs_salvage.specs.Surveys.{survey_by};
 ghost use Rattle.udfs_overview.specs.Disagreements.{apart_lines};
-ghost use Rattle.udfs_overview.specs.DiscTallies.{disc_of};
 ghost use Rattle.udfs_overview.specs.Guarantees.{guarantee_line, why_place, why_words};
 ghost use Rattle.udfs_overview.specs.LeftOut.{left_out_line};
-ghost use Rattle.udfs_overview.specs.MovedTags.{moved_count, moved_line};
-ghost use Rattle.udfs_overview.specs.NodeWidenings.{wider_count, wider_line};
+ghost use Rattle.udfs_overview.specs.LostSummaries.{lost_lines};
+ghost use Rattle.udfs_overview.specs.MovedTags.{moved_line};
+ghost use Rattle.udfs_overview.specs.NodeWidenings.{wider_line};
 ghost use Rattle.udfs_overview.specs.Sentences.{sentence};
-ghost use Rattle.udfs_overview.specs.SummaryTexts.{disc_line, files_line, others_line, unnamed_line};
-ghost use Rattle.udfs_overview.specs.Tallies.{tally_of};
+ghost use Rattle.udfs_overview.specs.SummaryTexts.{disc_line, files_line, others_line};
 ghost use Rattle.udfs_overview.specs.TornLists.{shown_path};
 ghost use Rattle.udfs_overview.specs.VolumeLines.{label_text, volume_line};
 ghost use Rattle.udfs_page.specs.Escapes.{html_lines, html_text};
@@ -24,14 +22,14 @@ ghost use Rattle.udfs_page.specs.Overviews.{counted_html, folder_counts_html, fo
 use crate::escapes::{push_html, push_lines};
 use crate::markups::{push_markup, push_shown};
 use std::alloc::Global;
+use udfs_lattice::BlockStore;
 use udfs_lawfulness::{Lawfulness, Why};
 use udfs_osta::{Label, OutOfMemory};
 use udfs_overview::{
-    Tally, UnnamedTally, count_disc, count_moved, count_nodes, count_unnamed, count_wider,
-    first_torn_folder, left_out_types, push_apart, push_disc, push_disc_size, push_files,
-    push_grouped, push_guarantee_line, push_label, push_left_out, push_moved, push_others,
-    push_revision, push_sentence, push_shown_path, push_unnamed, push_volume, push_why_place,
-    push_why_words, push_wider,
+    DiscTally, Figures, LostTally, Tally, Verdict, first_torn_folder, left_out_types, push_apart,
+    push_disc, push_disc_size, push_files, push_grouped, push_guarantee_line, push_label,
+    push_left_out, push_lost, push_moved, push_others, push_revision, push_sentence,
+    push_shown_path, push_volume, push_why_place, push_why_words, push_wider,
 };
 use udfs_salvage::{OpenVolume, Survey, Volume};
 use udfs_walk::Path;
@@ -218,53 +216,40 @@ fn push_left_out_lines(alloc: Global, text: &mut String, types: &[u8]) -> Result
     push_lines(text, &lines)
 }
 
-/// The line of whole files that no name leads to.
-fn push_unnamed_lines(
-    alloc: Global,
-    text: &mut String,
-    tally: &UnnamedTally,
-) -> Result<(), OutOfMemory>
-    ensures { OnOk result (string_bytes text.new ≡ string_bytes text.old ++ html_lines (unnamed_line tally.now)) }
+/// The lines of what is lost, and of deleted entries.
+fn push_lost_lines(alloc: Global, text: &mut String, lost: &LostTally) -> Result<(), OutOfMemory>
+    ensures { OnOk result (string_bytes text.new ≡ string_bytes text.old ++ html_lines (lost_lines lost.now)) }
 {
     let mut lines = String::new(alloc);
-    push_unnamed(&mut lines, tally)?;
+    push_lost(&mut lines, lost)?;
     push_lines(text, &lines)
 }
 
 /// The line of the blocks.
-fn push_disc_lines(alloc: Global, text: &mut String, survey: &Survey<'_>) -> Result<(), OutOfMemory>
-    ensures { OnOk result (string_bytes text.new ≡ string_bytes text.old ++ html_lines (disc_line (disc_of survey.now.table.now survey.now.last survey.now.reread.items))) }
+fn push_disc_lines(alloc: Global, text: &mut String, disc: &DiscTally) -> Result<(), OutOfMemory>
+    ensures { OnOk result (string_bytes text.new ≡ string_bytes text.old ++ html_lines (disc_line disc.now)) }
 {
     let mut lines = String::new(alloc);
-    push_disc(&mut lines, &count_disc(survey))?;
+    push_disc(&mut lines, disc)?;
     push_lines(text, &lines)
 }
 
 /// The lines of known anchors that differ, and of known copies of the volume's descriptors that do.
-fn push_apart_lines(
-    alloc: Global,
-    text: &mut String,
-    survey: &Survey<'_>,
-) -> Result<(), OutOfMemory>
-    ensures { OnOk result (string_bytes text.new ≡ string_bytes text.old ++ html_lines (apart_lines survey.now.profile (state_of survey.now.table.now) survey.now.last)) }
+fn push_apart_lines(alloc: Global, text: &mut String, figures: &Figures) -> Result<(), OutOfMemory>
+    ensures { OnOk result (string_bytes text.new ≡ string_bytes text.old ++ html_lines (apart_lines figures.now.anchors figures.now.copies_differ)) }
 {
     let mut lines = String::new(alloc);
-    push_apart(alloc, &mut lines, survey)?;
+    push_apart(&mut lines, figures.anchors, figures.copies_differ)?;
     push_lines(text, &lines)
 }
 
 /// The line of the folders with tags of another place, and that of what has a fault and is read by the wide rules.
-fn push_moved_lines(
-    alloc: Global,
-    text: &mut String,
-    survey: &Survey<'_>,
-) -> Result<(), OutOfMemory>
-    ensures { OnOk result (string_bytes text.new ≡ string_bytes text.old ++ html_lines (moved_line (moved_count (state_of survey.now.table.now) (survey_now survey.now))
-        ++ wider_line (wider_count survey.now.profile (state_of survey.now.table.now) survey.now.last (survey_now survey.now).nodes))) }
+fn push_moved_lines(alloc: Global, text: &mut String, figures: &Figures) -> Result<(), OutOfMemory>
+    ensures { OnOk result (string_bytes text.new ≡ string_bytes text.old ++ html_lines (moved_line figures.now.moved ++ wider_line figures.now.wider)) }
 {
     let mut lines = String::new(alloc);
-    push_moved(&mut lines, count_moved(alloc, survey)?)?;
-    push_wider(&mut lines, count_wider(alloc, survey)?)?;
+    push_moved(&mut lines, figures.moved)?;
+    push_wider(&mut lines, figures.wider)?;
     push_lines(text, &lines)
 }
 
@@ -289,43 +274,45 @@ fn push_found(
     tally: &Tally,
     path: Option<&Path>,
     types: &[u8],
-    unnamed: &UnnamedTally,
 ) -> Result<(), OutOfMemory>
-    ensures { OnOk result (string_bytes text.new ≡ string_bytes text.old ++ found_html tally.now (option_map (λ path. path.now) path.entry) types.now unnamed.now) }
+    ensures { OnOk result (string_bytes text.new ≡ string_bytes text.old ++ found_html tally.now (option_map (λ path. path.now) path.entry) types.now) }
 {
     push_file_lines(alloc, text, tally)?;
     push_folders(alloc, text, tally, path)?;
     push_other_lines(alloc, text, tally)?;
-    push_left_out_lines(alloc, text, types)?;
-    push_unnamed_lines(alloc, text, unnamed)
+    push_left_out_lines(alloc, text, types)
 }
 
 /// The lines of a volume that opens.
-fn push_opened(
+fn push_opened<B: BlockStore>(
     alloc: Global,
     text: &mut String,
     opened: &OpenVolume,
-    survey: &Survey<'_>,
+    survey: &Survey<'_, B>,
+    figures: &Figures,
 ) -> Result<(), OutOfMemory>
-    ensures { OnOk result (string_bytes text.new ≡ string_bytes text.old ++ opened_html (tally_of (state_of survey.now.table.now) (survey_now survey.now).nodes) (found_now opened.now) survey.now.last (survey_now survey.now)) }
+    ensures { OnOk result (string_bytes text.new ≡ string_bytes text.old ++ opened_html figures.now (found_now opened.now) (survey_by B.states survey.now)) }
 {
-    let tally = count_nodes(alloc, survey)?;
     let types = left_out_types(alloc, survey)?;
-    let unnamed = count_unnamed(survey);
-    push_open(alloc, text, opened, survey.last)?;
-    push_sentence_lines(alloc, text, &tally, survey.reread.len())?;
+    push_open(alloc, text, opened, figures.last)?;
+    push_sentence_lines(alloc, text, &figures.tally, survey.reread.len())?;
     let path = first_torn_folder(survey);
-    push_found(alloc, text, &tally, path, &types, &unnamed)
+    push_found(alloc, text, &figures.tally, path, &types)
 }
 
 /// The lines of the volume: of one that does not open, why.
-fn push_volume_of(alloc: Global, text: &mut String, survey: &Survey<'_>) -> Result<(), OutOfMemory>
-    ensures { OnOk result (string_bytes text.new ≡ string_bytes text.old ++ volume_html (state_of survey.now.table.now) (volume_now survey.now.volume) survey.now.last (survey_now survey.now)) }
+fn push_volume_of<B: BlockStore>(
+    alloc: Global,
+    text: &mut String,
+    survey: &Survey<'_, B>,
+    figures: &Figures,
+) -> Result<(), OutOfMemory>
+    ensures { OnOk result (string_bytes text.new ≡ string_bytes text.old ++ volume_html figures.now (volume_now survey.now.volume) (survey_by B.states survey.now)) }
 {
     match &survey.volume {
-        Volume::Open(opened) => push_opened(alloc, text, opened, survey),
-        Volume::Holes(_) => push_volume_lines(alloc, text, &survey.volume, survey.last),
-        Volume::Fault(_) => push_volume_lines(alloc, text, &survey.volume, survey.last),
+        Volume::Open(opened) => push_opened(alloc, text, opened, survey, figures),
+        Volume::Holes(_) => push_volume_lines(alloc, text, &survey.volume, figures.last),
+        Volume::Fault(_) => push_volume_lines(alloc, text, &survey.volume, figures.last),
     }
 }
 
@@ -382,21 +369,37 @@ fn push_guarantee(alloc: Global, text: &mut String, answer: &Lawfulness) -> Resu
     }
 }
 
-/// All lines.
-#[tactic(auto, unfolding(crate::specs::Overviews::overview_html))]
-pub(crate) fn push_overview(
+/// The lines of the volume, and those of what is lost of it.
+fn push_volume_and_lost<B: BlockStore>(
     alloc: Global,
     text: &mut String,
-    survey: &Survey<'_>,
-    answer: &Lawfulness,
+    survey: &Survey<'_, B>,
+    figures: &Figures,
+    lost: &LostTally,
 ) -> Result<(), OutOfMemory>
-    ensures { OnOk result (string_bytes text.new ≡ string_bytes text.old ++ overview_html survey.now.profile survey.now.table.now survey.now.last (survey_now survey.now) answer.now) }
+    ensures { OnOk result (string_bytes text.new ≡ string_bytes text.old
+        ++ (volume_html figures.now (volume_now survey.now.volume) (survey_by B.states survey.now) ++ html_lines (lost_lines lost.now))) }
+{
+    push_volume_of(alloc, text, survey, figures)?;
+    push_lost_lines(alloc, text, lost)
+}
+
+/// All lines.
+#[tactic(auto, unfolding(crate::specs::Overviews::overview_html))]
+pub(crate) fn push_overview<B: BlockStore>(
+    alloc: Global,
+    text: &mut String,
+    survey: &Survey<'_, B>,
+    figures: &Figures,
+    answer: &Verdict,
+) -> Result<(), OutOfMemory>
+    ensures { OnOk result (string_bytes text.new ≡ string_bytes text.old ++ overview_html figures.now (survey_by B.states survey.now) answer.now) }
 {
     push_markup(text, "<div class=s>\n<div>")?;
-    push_volume_of(alloc, text, survey)?;
-    push_apart_lines(alloc, text, survey)?;
-    push_moved_lines(alloc, text, survey)?;
-    push_guarantee(alloc, text, answer)?;
-    push_disc_lines(alloc, text, survey)?;
+    push_volume_and_lost(alloc, text, survey, figures, &answer.lost)?;
+    push_apart_lines(alloc, text, figures)?;
+    push_moved_lines(alloc, text, figures)?;
+    push_guarantee(alloc, text, &answer.lawfulness)?;
+    push_disc_lines(alloc, text, &figures.disc)?;
     push_markup(text, "</div>\n</div>\n")
 }

@@ -1,26 +1,24 @@
 //! The page of the report that a survey represents.
 
-ghost use Rattle.std.specs.Prelude.{◌≡◌, ◌++◌, ◌+◌, ℕ, List, OnOk, option_map};
+ghost use Rattle.std.specs.Prelude.{◌≡◌, ◌≤◌, ◌++◌, ◌+◌, ℕ, List, IsErrOf, OnOk, length, option_map};
 ghost use Rattle.std.specs.String.{string_bytes};
-ghost use Rattle.udfs_lattice.specs.Tables.{Table, state_of};
+ghost use Rattle.udfs_lattice.specs.Tables.{Table};
 ghost use Rattle.udfs_volume.specs.declared.profiles.Profile.{Profile};
 ghost use Rattle.udfs_salvage.specs.Found.{volume_now};
 ghost use Rattle.udfs_salvage.specs.Reports.{Report};
-ghost use Rattle.udfs_lawfulness.specs.declared.answers.Lawfulness.{Lawfulness};
-ghost use Rattle.udfs_salvage.specs.Printing.{PassesOn, Prints};
-ghost use Rattle.udfs_salvage.specs.Surveys.{survey_now};
-ghost use Rattle.udfs_page.specs.Arcs.{arcs_of};
+ghost use Rattle.udfs_salvage.specs.Printing.{Prints};
+ghost use Rattle.udfs_salvage.specs.StorePrinting.{PassesOnBy, PrintsBy};
+ghost use Rattle.udfs_salvage.specs.Surveys.{survey_by, survey_now};
 ghost use Rattle.udfs_page.specs.Heads.{head_text, page_mark};
 ghost use Rattle.udfs_overview.specs.Repeating.{GivenWords, given_now};
-ghost use Rattle.udfs_overview.specs.TornLists.{torn_rows};
 ghost use Rattle.udfs_overview.specs.UnreadLists.{unread_paths};
 ghost use Rattle.udfs_page.specs.Naming.{CalledWords, called_now};
 ghost use Rattle.udfs_page.specs.Overviews.{title_html};
-ghost use Rattle.udfs_page.specs.Pages.{disc_html, files_html, lacking_html, page_html, torn_of};
-ghost use Rattle.udfs_page.specs.Pictures.{picture_html};
+ghost use Rattle.udfs_page.specs.Pages.{disc_html, files_html, front_html, lacking_html, page_html};
 ghost use Rattle.udfs_page.specs.UnreadTables.{unread_html};
+ghost use Rattle.udfs_overview.specs.declared.verdicts.Verdict.{Verdict};
 
-use crate::disc_arcs::arcs;
+use crate::disc_arcs::{Mark, arcs};
 use crate::heads::{push_head_back, push_head_front, push_heading, push_titled};
 use crate::markups::push_markup;
 use crate::naming::Called;
@@ -31,12 +29,11 @@ use crate::torn_tables::push_torn;
 use crate::trees::put_tree;
 use crate::unread_tables::push_unread;
 use std::alloc::Global;
-use udfs_lattice::BlockTable;
-use udfs_lawfulness::Lawfulness;
+use udfs_lattice::BlockStore;
 use udfs_osta::OutOfMemory;
-use udfs_overview::{Given, torn_files, unread_in};
+use udfs_overview::{Counts, Figures, Given, TornFiles, Verdict, unread_in};
 use udfs_reading::Sink;
-use udfs_salvage::{RunError, Survey, Volume, flush};
+use udfs_salvage::{PrintError, ReportStore, RunError, Survey, Volume, flush};
 
 /// The head, with the title of the page.
 #[tactic(auto, unfolding(crate::specs::Heads::head_text))]
@@ -55,114 +52,109 @@ fn push_head(
     push_heading(text, title)
 }
 
-/// The picture of the disc.
-fn push_arcs(
-    alloc: Global,
-    text: &mut String,
-    table: &BlockTable,
-    last: u32,
-    reread: &[u32],
-) -> Result<(), OutOfMemory>
-    ensures { OnOk result (string_bytes text.new ≡ string_bytes text.old ++ picture_html (arcs_of table.now reread.now last) (last + 1)) }
-{
-    let marks = arcs(alloc, table, last, reread)?;
-    push_picture(text, &marks, last as u64 + 1)
-}
-
 /// What the page says of the disc.
-fn push_about_disc(
+fn push_about_disc<B: BlockStore>(
     alloc: Global,
     text: &mut String,
     given: &Given<'_>,
     called: &Called<'_>,
-    survey: &Survey<'_>,
-    answer: &Lawfulness,
+    survey: &Survey<'_, B>,
+    figures: &Figures,
+    marks: &[Mark],
+    answer: &Verdict,
 ) -> Result<(), OutOfMemory>
-    ensures { OnOk result (string_bytes text.new ≡ string_bytes text.old ++ disc_html (given_now given.now) (called_now called.now) survey.now.profile survey.now.table.now survey.now.last (survey_now survey.now) answer.now) }
+    requires few { length marks.now ≤ 2000 }
+    ensures { OnOk result (string_bytes text.new ≡ string_bytes text.old ++ disc_html (given_now given.now) (called_now called.now) figures.now marks.now (survey_by B.states survey.now) answer.now) }
 {
-    push_overview(alloc, text, survey, answer)?;
-    push_arcs(alloc, text, survey.table, survey.last, &survey.reread)?;
-    push_next(alloc, text, given, called, survey)
-}
-
-/// The torn files.
-fn push_torn_files(alloc: Global, text: &mut String, survey: &Survey<'_>) -> Result<(), OutOfMemory>
-    ensures { OnOk result (string_bytes text.new ≡ string_bytes text.old ++ torn_of (torn_rows (state_of survey.now.table.now) (survey_now survey.now).nodes)) }
-{
-    let torn = torn_files(alloc, survey)?;
-    push_torn(text, torn.count, &torn.rows)
+    push_overview(alloc, text, survey, figures, answer)?;
+    push_picture(text, marks, figures.last as u64 + 1)?;
+    push_next(alloc, text, given, called, survey, figures)
 }
 
 /// What was not read.
-fn push_unread_entries(
+fn push_unread_entries<B: BlockStore>(
     alloc: Global,
     text: &mut String,
-    survey: &Survey<'_>,
+    survey: &Survey<'_, B>,
 ) -> Result<(), OutOfMemory>
-    ensures { OnOk result (string_bytes text.new ≡ string_bytes text.old ++ unread_html (unread_paths (survey_now survey.now).nodes)) }
+    ensures { OnOk result (string_bytes text.new ≡ string_bytes text.old ++ unread_html (unread_paths (survey_by B.states survey.now).nodes)) }
 {
     let paths = unread_in(alloc, survey)?;
     push_unread(alloc, text, &paths)
 }
 
 /// What was not read, and what is torn.
-fn push_lacking(alloc: Global, text: &mut String, survey: &Survey<'_>) -> Result<(), OutOfMemory>
-    ensures { OnOk result (string_bytes text.new ≡ string_bytes text.old ++ lacking_html (state_of survey.now.table.now) (survey_now survey.now).nodes) }
+fn push_lacking<B: BlockStore>(
+    alloc: Global,
+    text: &mut String,
+    survey: &Survey<'_, B>,
+    torn: &TornFiles,
+) -> Result<(), OutOfMemory>
+    ensures { OnOk result (string_bytes text.new ≡ string_bytes text.old ++ lacking_html (survey_by B.states survey.now).nodes torn.now.rows.items torn.now.count) }
 {
     push_unread_entries(alloc, text, survey)?;
-    push_torn_files(alloc, text, survey)
+    push_torn(text, torn.count, &torn.rows)
+}
+
+/// All before the tree of the nodes.
+#[tactic(auto, unfolding(crate::specs::Pages::front_html))]
+fn push_front<B: BlockStore>(
+    alloc: Global,
+    text: &mut String,
+    given: &Given<'_>,
+    called: &Called<'_>,
+    survey: &Survey<'_, B>,
+    counts: &Counts,
+    marks: &[Mark],
+    answer: &Verdict,
+) -> Result<(), OutOfMemory>
+    requires few { length marks.now ≤ 2000 }
+    ensures { OnOk result (string_bytes text.new ≡ string_bytes text.old
+        ++ front_html (given_now given.now) (called_now called.now) counts.now.figures marks.now counts.now.torn.rows.items counts.now.torn.count (survey_by B.states survey.now) answer.now) }
+{
+    let figures = &counts.figures;
+    push_head(alloc, text, called.title, &survey.volume)?;
+    push_about_disc(alloc, text, given, called, survey, figures, marks, answer)?;
+    push_lacking(alloc, text, survey, &counts.torn)
 }
 
 /// The tree of the nodes of the volume, if that opens.
-fn put_about_files<W: Sink>(
+fn put_about_files<B: BlockStore, W: Sink>(
     alloc: Global,
     text: &mut String,
     sink: &mut W,
-    survey: &Survey<'_>,
-) -> Result<(), RunError>
-    ensures { PassesOn (W.stream sink.old) (W.stream sink.new) (string_bytes text.old) (string_bytes text.new)
-        (files_html (state_of survey.now.table.now) (volume_now survey.now.volume) (survey_now survey.now)) result }
+    survey: &Survey<'_, B>,
+) -> Result<(), PrintError>
+    ensures printed { B.tells → PassesOnBy (W.stream sink.old) (W.stream sink.new) (string_bytes text.old) (string_bytes text.new)
+        (files_html (B.states survey.now.table.now) (volume_now survey.now.volume) (survey_by B.states survey.now)) result }
+    ensures fails { IsErrOf result PrintError.Unread → B.fails }
 {
     match &survey.volume {
         Volume::Open(opened) => {
-            let view = opened.view(survey.table);
+            let view = opened.view_by(survey.table);
             put_tree(alloc, text, sink, view, &survey.nodes)
         }
         _ => Ok(()),
     }
 }
 
-/// All before the tree of the nodes.
-fn push_front(
-    alloc: Global,
-    text: &mut String,
-    given: &Given<'_>,
-    called: &Called<'_>,
-    survey: &Survey<'_>,
-    answer: &Lawfulness,
-) -> Result<(), OutOfMemory>
-    ensures { OnOk result (string_bytes text.new ≡ string_bytes text.old ++ (head_text (called_now called.now).title (title_html (volume_now survey.now.volume)) ++ disc_html (given_now given.now) (called_now called.now) survey.now.profile survey.now.table.now survey.now.last (survey_now survey.now) answer.now
-        ++ lacking_html (state_of survey.now.table.now) (survey_now survey.now).nodes)) }
-{
-    push_head(alloc, text, called.title, &survey.volume)?;
-    push_about_disc(alloc, text, given, called, survey, answer)?;
-    push_lacking(alloc, text, survey)
-}
-
 /// All of it.
-fn put_page<W: Sink>(
+fn put_page<B: ReportStore, W: Sink>(
     alloc: Global,
     text: &mut String,
     sink: &mut W,
     given: &Given<'_>,
     called: &Called<'_>,
-    survey: &Survey<'_>,
-    answer: &Lawfulness,
-) -> Result<(), RunError>
-    ensures { PassesOn (W.stream sink.old) (W.stream sink.new) (string_bytes text.old) (string_bytes text.new)
-        (page_html (given_now given.now) (called_now called.now) survey.now.profile survey.now.table.now survey.now.last (survey_now survey.now) answer.now) result }
+    survey: &Survey<'_, B>,
+    answer: &Verdict,
+) -> Result<(), PrintError>
+    ensures printed { B.tells → (t : Table) → B.holds survey.now.table.now t → PassesOnBy (W.stream sink.old) (W.stream sink.new) (string_bytes text.old) (string_bytes text.new)
+        (page_html (given_now given.now) (called_now called.now) survey.now.profile t survey.now.last (survey_by B.states survey.now) answer.now) result }
+    ensures fails { IsErrOf result PrintError.Unread → B.fails }
 {
-    push_front(alloc, text, given, called, survey, answer)?;
+    let counts = Counts::of(alloc, survey)?;
+    let marks = arcs(alloc, survey.table, survey.last, &survey.reread)?;
+    push_front(alloc, text, given, called, survey, &counts, &marks, answer)?;
     put_about_files(alloc, text, sink, survey)?;
     push_markup(text, "</body>\n</html>\n")?;
     Ok(())
@@ -180,18 +172,44 @@ pub fn write_page<W: Sink>(
     given: &Given<'_>,
     called: &Called<'_>,
     survey: &Survey<'_>,
-    answer: &Lawfulness,
+    answer: &Verdict,
     sink: &mut W,
 ) -> Result<(), RunError>
     ensures { Prints (W.stream sink.old) (W.stream sink.new)
         (page_html (given_now given.now) (called_now called.now) survey.now.profile survey.now.table.now survey.now.last (survey_now survey.now) answer.now) result }
 {
+    match write_page_by(alloc, given, called, survey, answer, sink) {
+        Ok(()) => Ok(()),
+        Err(PrintError::Run(error)) => Err(error),
+        Err(PrintError::Unread) => unreachable!(),
+    }
+}
+
+/// The same as [`write_page`], by any store of blocks. What is missing of a torn node is read for its line.
+///
+/// # Errors
+///
+/// `Run` with the error of [`write_page`], and `Unread` where the bytes of a known block could not be read. In each case a prefix of the page, possibly empty,
+/// was written: what could not be read is never told as unknown.
+pub fn write_page_by<B: ReportStore, W: Sink>(
+    alloc: Global,
+    given: &Given<'_>,
+    called: &Called<'_>,
+    survey: &Survey<'_, B>,
+    answer: &Verdict,
+    sink: &mut W,
+) -> Result<(), PrintError>
+    ensures printed { B.tells → (t : Table) → B.holds survey.now.table.now t → PrintsBy (W.stream sink.old) (W.stream sink.new)
+        (page_html (given_now given.now) (called_now called.now) survey.now.profile t survey.now.last (survey_by B.states survey.now) answer.now) result }
+    ensures fails { IsErrOf result PrintError.Unread → B.fails }
+{
     let mut text = String::new(alloc);
     put_page(alloc, &mut text, sink, given, called, survey, answer)?;
-    flush(&mut text, sink)
+    flush(&mut text, sink)?;
+    Ok(())
 }
 
 /// Each page begins with the mark by which it is known. This is a law about pages; the call does nothing.
 pub fn pages_begin_so()
-    ensures { (given : GivenWords) → (called : CalledWords) → (rules : Profile) → (table : Table) → (last : ℕ) → (report : Report) → (answer : Lawfulness) → (rest : List ℕ) × (page_html given called rules table last report answer ≡ page_mark ++ rest) }
+    ensures { (given : GivenWords) → (called : CalledWords) → (rules : Profile) → (table : Table) → (last : ℕ) → (report : Report) → (answer : Verdict) → (rest : List ℕ) × (page_html given called rules table last report answer ≡ page_mark ++ rest) }
 {}

@@ -26,7 +26,7 @@ fn push_legend(text: &mut String) -> Result<(), OutOfMemory>
 {
     push_markup(
         text,
-        "<figcaption>The blocks of the disc, from the first ones inside to the last ones outside. The angle means nothing: a scratch across the disc is no line here. A stretch shows the worst that is true of a block in it:\n<ul>\n",
+        "<figcaption>The blocks of the disc, from the first ones inside to the last ones outside. The angle means nothing: a scratch across the disc does not show as a line. Each stretch shows the worst of its blocks:\n<ul>\n",
     )?;
     push_markup(
         text,

@@ -1,12 +1,13 @@
 //! The files and folders, each inside its folder. A function `push_..` appends to a text; if memory runs out, a part may be appended. A function `put_..`
 //! also hands the text to a sink in pieces.
 
-ghost use Rattle.std.specs.Prelude.{◌≡◌, ◌++◌, ◌-◌, ℕ, List, OnOk, drop, length, map};
+ghost use Rattle.std.specs.Prelude.{◌≡◌, ◌++◌, ◌-◌, ℕ, List, IsErrOf, OnOk, drop, length, map};
 ghost use Rattle.std.specs.String.{string_bytes};
-ghost use Rattle.udfs_space.specs.Views.{view_now};
+ghost use Rattle.udfs_space.specs.Views.{view_by};
 ghost use Rattle.udfs_walk.specs.Bare.{full_node, node_with};
 ghost use Rattle.udfs_walk.specs.NodeFields.{NodeFields};
 ghost use Rattle.udfs_salvage.specs.Printing.{PassesOn};
+ghost use Rattle.udfs_salvage.specs.StorePrinting.{PassesOnBy};
 ghost use Rattle.udfs_page.specs.Markups.{markup, shown_name};
 ghost use Rattle.udfs_page.specs.Nestings.{IsStepwise, open_after};
 ghost use Rattle.udfs_page.specs.Trees.{class_of, details_front, fault_html, first_depth, folder_front, folder_html, kind_html, known_lost, leaf_front, leaf_html, lost_html, node_html, node_in, nodes_html, note_html, other_html, own_name, size_html, standing_html, tail_html, told_html, tree_html};
@@ -15,12 +16,13 @@ use crate::holes::{push_closings, push_ranges};
 use crate::markups::{push_figure, push_markup, push_shown};
 use std::alloc::Global;
 use udfs_file::{Kind, NodeFault};
+use udfs_lattice::BlockStore;
 use udfs_osta::OutOfMemory;
 use udfs_overview::{lost_of, push_safe_name, push_size};
 use udfs_reading::Sink;
-use udfs_salvage::{RunError, pass_on};
-use udfs_space::View;
-use udfs_walk::{Node, Path, Standing, full_standing, tail_at};
+use udfs_salvage::{PrintError, RunError, pass_on};
+use udfs_space::StoreView;
+use udfs_walk::{Node, Path, Standing, full_standing_by, tail_by};
 
 /// How whole a node is, as the style knows it.
 fn push_class(text: &mut String, standing: &Standing) -> Result<(), OutOfMemory>
@@ -120,7 +122,7 @@ fn push_standing(text: &mut String, standing: &Standing, kind: Kind) -> Result<(
     match standing {
         Standing::Whole => Ok(()),
         Standing::Torn(torn) => push_lost(text, lost, &torn.holes),
-        Standing::Loop => push_markup(text, ", a loop: it stands inside itself"),
+        Standing::Loop => push_markup(text, ", a loop: it is inside itself"),
         Standing::Fault(fault) => push_fault(text, *fault),
     }
 }
@@ -259,21 +261,6 @@ fn push_node(
     }
 }
 
-/// A node that is given without its blocks and holes. They are found first.
-fn push_full_node(
-    alloc: Global,
-    text: &mut String,
-    view: View<'_>,
-    node: &Node,
-    next: usize,
-) -> Result<(), OutOfMemory>
-    ensures { OnOk result (string_bytes text.new ≡ string_bytes text.old ++ node_in (view_now view.entry) (full_node (view_now view.entry) node.now, next)) }
-{
-    let full = full_standing(alloc, view, node.icb, &node.standing)?;
-    let tail = tail_at(alloc, view, node.icb)?;
-    push_node(alloc, text, tail, node, &full, next)
-}
-
 /// How many names the path of the node at this place has; none where there is no such node.
 fn depth_at(nodes: &[Node], index: usize) -> usize
     ensures { result ≡ first_depth (drop index nodes.now) }
@@ -284,32 +271,53 @@ fn depth_at(nodes: &[Node], index: usize) -> usize
     }
 }
 
-/// A node that is given without its blocks and holes. They are found first. The text that is held is handed on when it is long.
-fn put_full_node<W: Sink>(
+/// A node with this standing. The text that is held is handed on when it is long.
+fn put_node<W: Sink>(
     alloc: Global,
     text: &mut String,
     sink: &mut W,
-    view: View<'_>,
+    tail: bool,
     node: &Node,
+    standing: &Standing,
     next: usize,
 ) -> Result<(), RunError>
     ensures { PassesOn (W.stream sink.old) (W.stream sink.new) (string_bytes text.old) (string_bytes text.new)
-        (node_in (view_now view.entry) (full_node (view_now view.entry) node.now, next)) result }
+        (node_html tail (node_with node.now standing.now) next) result }
 {
-    push_full_node(alloc, text, view, node, next)?;
+    push_node(alloc, text, tail, node, standing, next)?;
     pass_on(text, sink)
 }
 
-/// Nodes that are given without their blocks and holes. Those of one node are held at a time, and no more text than one piece and that of one node.
-fn put_nodes<W: Sink>(
+/// A node that is given without its blocks and holes. They are found first.
+fn put_full_node<B: BlockStore, W: Sink>(
     alloc: Global,
     text: &mut String,
     sink: &mut W,
-    view: View<'_>,
+    view: StoreView<'_, B>,
+    node: &Node,
+    next: usize,
+) -> Result<(), PrintError>
+    ensures printed { B.tells → PassesOnBy (W.stream sink.old) (W.stream sink.new) (string_bytes text.old) (string_bytes text.new)
+        (node_in (view_by B.states view.entry) (full_node (view_by B.states view.entry) node.now, next)) result }
+    ensures fails { IsErrOf result PrintError.Unread → B.fails }
+{
+    let full = full_standing_by(alloc, view, node.icb, &node.standing)?;
+    let tail = tail_by(alloc, view, node.icb)?;
+    put_node(alloc, text, sink, tail, node, &full, next)?;
+    Ok(())
+}
+
+/// Nodes that are given without their blocks and holes. Those of one node are held at a time, and no more text than one piece and that of one node.
+fn put_nodes<B: BlockStore, W: Sink>(
+    alloc: Global,
+    text: &mut String,
+    sink: &mut W,
+    view: StoreView<'_, B>,
     nodes: &[Node],
-) -> Result<(), RunError>
-    ensures { PassesOn (W.stream sink.old) (W.stream sink.new) (string_bytes text.old) (string_bytes text.new)
-        (nodes_html (view_now view.entry) (map (full_node (view_now view.entry)) nodes.now)) result }
+) -> Result<(), PrintError>
+    ensures printed { B.tells → PassesOnBy (W.stream sink.old) (W.stream sink.new) (string_bytes text.old) (string_bytes text.new)
+        (nodes_html (view_by B.states view.entry) (map (full_node (view_by B.states view.entry)) nodes.now)) result }
+    ensures fails { IsErrOf result PrintError.Unread → B.fails }
 {
     let count = nodes.len();
     for index in 0..count {
@@ -320,15 +328,16 @@ fn put_nodes<W: Sink>(
 }
 
 /// All nodes, which are given without their blocks and holes.
-pub(crate) fn put_tree<W: Sink>(
+pub(crate) fn put_tree<B: BlockStore, W: Sink>(
     alloc: Global,
     text: &mut String,
     sink: &mut W,
-    view: View<'_>,
+    view: StoreView<'_, B>,
     nodes: &[Node],
-) -> Result<(), RunError>
-    ensures { PassesOn (W.stream sink.old) (W.stream sink.new) (string_bytes text.old) (string_bytes text.new)
-        (tree_html (view_now view.entry) (map (full_node (view_now view.entry)) nodes.now)) result }
+) -> Result<(), PrintError>
+    ensures printed { B.tells → PassesOnBy (W.stream sink.old) (W.stream sink.new) (string_bytes text.old) (string_bytes text.new)
+        (tree_html (view_by B.states view.entry) (map (full_node (view_by B.states view.entry)) nodes.now)) result }
+    ensures fails { IsErrOf result PrintError.Unread → B.fails }
 {
     push_markup(text, "<h2>All files</h2>\n")?;
     put_nodes(alloc, text, sink, view, nodes)

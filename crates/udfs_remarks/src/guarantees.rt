@@ -1,37 +1,16 @@
 //! Whether the guarantee holds for a volume.
 
-ghost use Rattle.std.specs.Prelude.{◌≡◌, ◌≤◌, IfOk, IfErr, IsErrOf, OnErr, alloc_error};
+ghost use Rattle.std.specs.Prelude.{◌≤◌, IfOk, IsErrOf, OnErr};
 ghost use Rattle.std.specs.String.{string_bytes};
-ghost use Rattle.udfs_lattice.specs.Tables.{state_of};
-ghost use Rattle.udfs_lawfulness.specs.Lawfulness.{IsDecided};
 ghost use Rattle.udfs_overview.specs.Guarantees.{IsGuarantee};
 
-use std::alloc::{AllocError, Global};
+use std::alloc::Global;
 use udfs_common::files::Files;
-use udfs_common::refusal::Refusal;
-use udfs_lattice::{BlockStore, BlockTable, GaveUp, ReadFault};
-use udfs_lawfulness::{Lawfulness, lawfulness, lawfulness_by};
+use udfs_lattice::{BlockStore, GaveUp, ReadFault};
+use udfs_lawfulness::lawfulness_by;
 use udfs_overview::push_guarantee;
 use udfs_salvage::Survey;
 use udfs_volume::Profile;
-
-/// Whether the volume of a table is lawful by the rules of a profile, where `last` is its last block, or `Refusal::Memory` where memory ran out.
-pub fn judged(
-    alloc: Global,
-    table: &BlockTable,
-    last: u32,
-    profile: Profile,
-) -> Result<Lawfulness, Refusal>
-    requires from { 513 ≤ last }
-    requires to { last ≤ 4194303 }
-    ensures decided { IfOk result (IsDecided profile (state_of table.now) last) }
-    ensures refused { IfErr result (λ refusal. refusal ≡ Refusal.Memory alloc_error) }
-{
-    match lawfulness(alloc, table, last, profile) {
-        Ok(answer) => Ok(answer),
-        Err(AllocError) => Err(Refusal::Memory(AllocError)),
-    }
-}
 
 /// Whether the guarantee holds for a volume, as a sentence.
 fn guarantee_text<B: BlockStore>(

@@ -95,10 +95,10 @@ impl<'i, 'a, S: Stored> BlockStore for IndexBlocks<'i, 'a, S> {
     }
 
     fn unknown_ahead(&self, n: u32) -> u32 {
-        match self.knowledge(n) {
-            Fact::Unknown => 1,
-            _ => 0,
+        if n >= BLOCKS {
+            return u32::MAX - n;
         }
+        self.index.unknown_ahead(n)
     }
 
     #[tactic(auto, using(crate::proofs::IndexStates::far_is, crate::proofs::IndexStates::near_is))]

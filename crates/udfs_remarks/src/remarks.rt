@@ -61,7 +61,7 @@ fn of_domain(alloc: Global, told: Told<'_>) -> Result<String, AllocError> {
     };
     let whole = revision / 256;
     let part = revision % 256;
-    format!(in alloc; "volume: UDF {whole:x}.{part:02x}, which is not read")
+    format!(in alloc; "volume: UDF {whole:x}.{part:02x}, which udfsalvage does not read")
 }
 
 /// Why a volume does not open, as the first line of its summary says it.

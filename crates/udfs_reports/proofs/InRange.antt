@@ -1,14 +1,13 @@
--- The last block of a disc that has a report can be that of a volume.
-use Rattle.std.proofs.Common.{◌<◌, ◌≤◌, ℕ, arith, inl, inr}
-use Rattle.std.proofs.Math.Nat.{lt_of_not-le}
+-- The last block of a disc that has no room for a volume cannot be that of one.
+use Rattle.std.proofs.Common.{◌≡◌, ℕ, Bool, true, false, cond, arith, inl, inr, refl}
+use Rattle.std.specs.Prelude.{nat_le}
+use Rattle.udfs_overview.specs.Disagreements.{has_room}
 use Rattle.udfs_salvage.specs.Reports.{IsOutOfRange}
 
-pub range_from : (last : ℕ) → ¬ IsOutOfRange last → 513 ≤ last
-range_from last out =
-    let above : 512 < last = lt_of_not-le (λ (l : last ≤ 512). out (inl (omega arith))) in
-    omega arith
+by_tests : (last : ℕ) (from to : Bool) → nat_le 513 last ≡ from → nat_le last 4194303 ≡ to → cond from to false ≡ false → IsOutOfRange last
+by_tests last true true first second none = absurd (let no : ⊥ = cc in no)
+by_tests last true false first second none = inr (grind (arith, second))
+by_tests last false to first second none = inl (grind (arith, first))
 
-pub range_to : (last : ℕ) → ¬ IsOutOfRange last → last ≤ 4194303
-range_to last out =
-    let below : last < 4194304 = lt_of_not-le (λ (l : 4194304 ≤ last). out (inr (omega arith))) in
-    omega arith
+pub out_of_range : (last : ℕ) → has_room last ≡ false → IsOutOfRange last
+out_of_range last none = by_tests last _ _ refl refl none

@@ -1,13 +1,6 @@
 -- What the job that writes a page has done.
 use Rattle.std.proofs.Common.{◌≡◌, ◌⊎◌, ℕ, List, Option, inl, inr, ⊎_elim}
-use Rattle.std.specs.Io.KnownBytes.{Appends}
-use Rattle.udfs_reading.specs.Device.{Stream}
-use Rattle.udfs_common.specs.Jobs.{IsDone}
-use Rattle.udfs_common.specs.Keeping.{FailedOut, IsTaken, RefusedOut}
-
--- what a job wrote to some output was taken by it
-pub taken : {W : Type 0} (stream : W → Stream) (text : List ℕ) → IsDone stream (λ old new. Appends old new text) → IsTaken stream text
-taken stream text done = (done.0, done.1, done.2)
+use Rattle.udfs_common.specs.Keeping.{FailedOut, RefusedOut}
 
 -- a job that was refused leaves what the path held
 pub gave_up : {F : Type 0} {tells Shut Failed : Type 0} {holds : F → List ℕ → Option (Option (List ℕ))} {real : F → List ℕ → List ℕ} {in_place : F → List ℕ → Type 0} {out : List ℕ} {old new : F} (Puts : (List ℕ → Type 0) → Type 0) →

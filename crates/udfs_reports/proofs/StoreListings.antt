@@ -18,12 +18,8 @@ use Rattle.udfs_salvage.specs.declared.errors.StoreError.TheVariants.{Salvage, U
 use Rattle.udfs_remarks.specs.NoReports.{IsUntold, salvage_refusal_of}
 use Rattle.udfs_reports.specs.Paths.{IsListingFor}
 
--- where it says of each block what the table does, its states are the table's
-pub states_same : (blocks : Blocks) (t : Table) → ((n : ℕ) → state_of t n ≡ blocks n) → blocks ≡ state_of t
-states_same blocks t held = λ i n. sym (held n) i
-
 -- it has no report: nor has the table
-refused_table : (profile : Profile) (t : Table) (last : ℕ) (e : SalvageError) → IsRefused profile (state_of t) last e → IsUntold profile last (salvage_refusal_of e) t
+pub refused_table : (profile : Profile) (t : Table) (last : ℕ) (e : SalvageError) → IsRefused profile (state_of t) last e → IsUntold profile last (salvage_refusal_of e) t
 refused_table profile t last errors.LastRange h = inr (record { why = errors.LastRange; because = h; no_lawful = (of_refusal {X = ℕ} profile (state_of t) last errors.LastRange h).of_no_lawful; told = refl })
 refused_table profile t last (errors.PastEnd n) h = inr (record { why = errors.PastEnd n; because = h; no_lawful = (of_refusal {X = ℕ} profile (state_of t) last (errors.PastEnd n) h).of_no_lawful; told = refl })
 refused_table profile t last errors.TooManyPaths h = inr (record { why = errors.TooManyPaths; because = h; no_lawful = (of_refusal {X = ℕ} profile (state_of t) last errors.TooManyPaths h).of_no_lawful; told = refl })

@@ -15,10 +15,6 @@ use Rattle.udfs_words.specs.declared.request.RereadRequest.{RereadRequest}
 use Rattle.udfs_reports.specs.Rereading.{IsDomain, IsRefusedDomain}
 use Rattle.udfs_reports.specs.Telling.{IsRefusedTelling}
 
-pub stopped : (text : Profile → Table → ℕ → Report → List ℕ) (profile : Profile) (last : ℕ) (old new : Stream) (refusal : Refusal) (table : Table) (report : Report) (error : RunError) →
-    IsReportBy profile (state_of table) last report → Stopped old new (text profile table last report) error → refusal ≡ run_refusal_of error → IsRefusedTelling text profile last old new refusal table
-stopped text profile last old new refusal table report error is stops told = inr (record { report = report; is_report = is; error = error; stopped = stops; told = told })
-
 -- what is said of the line of a mapfile that was to be printed
 pub unput : (Unmade : Type 0) (r : RereadRequest) (last : ℕ) (old new : Stream) (refusal : Refusal) (table : Table) (bytes text : List ℕ) (whole : Bool) → IsDomain r last table bytes text whole →
     ((new ≡ old) × (refusal ≡ Memory alloc_error)) ⊎ ((refusal ≡ Output) × Failed old new text) ⊎ (Wrote old new text × IsUnput Unmade refusal) → IsRefusedDomain Unmade r last old new refusal table

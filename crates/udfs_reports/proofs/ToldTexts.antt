@@ -15,25 +15,26 @@ use Rattle.udfs_remarks.specs.NoReports.{run_refusal_of}
 use Rattle.udfs_common.specs.declared.refusal.Refusal.{Refusal}
 use Rattle.udfs_reports.specs.Telling.{BeginsText, IsRefusedTelling, Tells}
 
-module _ (text : Profile → Table → ℕ → Report → List ℕ) (profile : Profile) (last : ℕ) (t : Table) (report : Report) (old new : Stream) (headline : HeadlineBy profile (state_of t) last report) where
+module _ (IsText : Profile → Table → ℕ → Report → List ℕ → Type 0) (profile : Profile) (last : ℕ) (t : Table) (report : Report) (old new : Stream) (headline : HeadlineBy profile (state_of t) last report)
+    (text : List ℕ) (is_text : IsText profile t last report text) where
   -- all of it is out
-  pub text_told : (whole : Bool) → Wrote old new (text profile t last report) → whole ≡ all_whole report.nodes → Tells text profile last old new whole t
-  text_told whole wrote says = record { report = report; headline = headline; prints = wrote; says = says }
+  pub text_told : (whole : Bool) → Wrote old new text → whole ≡ all_whole report.nodes → Tells IsText profile last old new whole t
+  text_told whole wrote says = record { report = report; headline = headline; text = text; is_text = is_text; prints = wrote; says = says }
 
   -- the sink failed, or memory ran out
-  pub text_stopped : (error : RunError) (refusal : Refusal) → Stopped old new (text profile t last report) error → refusal ≡ run_refusal_of error → IsRefusedTelling text profile last old new refusal t
-  text_stopped error refusal stopped told = inr (record { report = report; is_report = headline.report_is; error = error; stopped = stopped; told = told })
+  pub text_stopped : (error : RunError) (refusal : Refusal) → Stopped old new text error → refusal ≡ run_refusal_of error → IsRefusedTelling IsText profile last old new refusal t
+  text_stopped error refusal stopped told = inr (record { report = report; is_report = headline.report_is; text = text; is_text = is_text; error = error; stopped = stopped; told = told })
 
   -- a read failed
-  pub text_begun : Stopped old new (text profile t last report) (leaves_as Unread) → BeginsText text profile last old new t
-  text_begun stopped = inr (record { report = report; is_report = headline.report_is; begun = stopped })
+  pub text_begun : Stopped old new text (leaves_as Unread) → BeginsText IsText profile last old new t
+  text_begun stopped = inr (record { report = report; is_report = headline.report_is; text = text; is_text = is_text; begun = stopped })
 
   -- an input had changed when all of it was out
-  pub text_out : Wrote old new (text profile t last report) → BeginsText text profile last old new t
+  pub text_out : Wrote old new text → BeginsText IsText profile last old new t
   text_out wrote = text_begun (record {
-    out = text profile t last report;
+    out = text;
     rest = [];
     given = wrote.given;
-    whole = sym (append-nil (text profile t last report));
+    whole = sym (append-nil text);
     count = wrote.kept;
   })

@@ -1,14 +1,20 @@
 -- What holds of the join of a volume's inputs, where it is known what each file holds that is read at positions.
-use Rattle.std.proofs.Common.{◌≡◌, ℕ, Bool, List, [], Err, Ok, Result, inr, subst, sym}
+use Rattle.std.proofs.Common.{◌≡◌, ℕ, Bool, List, [], Err, Ok, Option, Result, inr, refl, subst, sym}
 use Rattle.std.specs.Prelude.{IfErr, IfOk}
+use Rattle.udfs_index.specs.Copying.{AreAllTold}
 use Rattle.udfs_lattice.specs.Records.{join_all}
 use Rattle.udfs_lattice.specs.Tables.{IsTable, Table}
+use Rattle.udfs_pairs.specs.declared.any_stored.AnyStored.{AnyStored}
 use Rattle.udfs_reading.specs.Device.{Stream}
 use Rattle.udfs_words.specs.Requests.{texts}
 use Rattle.udfs_words.specs.declared.request.RereadRequest.{RereadRequest}
 use Rattle.udfs_words.specs.declared.request.VolumeSource.{VolumeSource}
+use Rattle.udfs_common.proofs.StoredLemmas.{HaveSources}
+use Rattle.udfs_common.proofs.StoredVolumes.{indexed_of}
+use Rattle.udfs_common.specs.Blaming.{stored_reason}
+use Rattle.udfs_common.specs.Indexing.{Indexed}
 use Rattle.udfs_common.specs.Reach.{Reach}
-use Rattle.udfs_common.specs.Volumes.{OfToldVolume, OfVolume}
+use Rattle.udfs_common.specs.Volumes.{IsStoredDisc, OfToldVolume, OfVolume}
 use Rattle.udfs_common.specs.declared.refusal.Refusal.{Refusal}
 use Rattle.udfs_reports.specs.Rereading.{IsRefusedNumbers, PrintsNoNumbers, PrintsNumbers, TellsNumbers}
 
@@ -24,6 +30,18 @@ told_of v = record { last = v.last; ends = v.ends; told = λ tells. (v.one_disc,
 pub of_taken : {F I M S W : Type 0} {reach : Reach F I M S W} {at : F} {volume : VolumeSource} (n : ℕ) (Told : Type 0) (Took : Table → Type 0) (Gives : ℕ → Table → Type 0) → (reach.stored_told → Told) →
     OfToldVolume reach at volume (λ last table. (last ≡ n) × IsTable table × Took table) → (Told → (t : Table) → IsTable t → Took t → Gives n t) → OfToldVolume reach at volume Gives
 of_taken n Told Took Gives told v holds = told_by Gives v (λ tells last table is. subst (λ (k : ℕ). Gives k table) (sym is.0) (holds (told tells) table is.1 is.2))
+
+-- what holds of the join of one table for each input holds of the volume's, where each of them that tells what it holds has this table
+pub of_one : {F I M S W T : Type 0} {g : _} (reach : Reach F I M S W) (at : F) (volume : VolumeSource) (content : AnyStored T g → Option (List ℕ)) (have : HaveSources reach.remaining content) (stored : List (AnyStored T g)) (n : ℕ) (New : Table → Type 0) →
+    (reach.stored_told → AreAllTold content) → IsStoredDisc reach at volume content stored_reason stored n → (i : Indexed content volume.inputs.paths.items stored volume.force New) → (Gives : ℕ → Table → Type 0) → (reach.stored_told → Gives n (join_all i.tables)) →
+    OfToldVolume reach at volume Gives
+of_one reach at volume content have stored n New told disc i Gives holds =
+    told_by Gives (indexed_of reach at volume content have stored n (λ t. t ≡ join_all i.tables) told disc (record { tables = i.tables; are = i.are; took = refl; each = i.each }))
+    (λ tells last table is. subst (λ (k : ℕ). Gives k table) (sym is.0) (subst (λ (t : Table). Gives n t) (sym is.2) (holds tells)))
+
+-- what holds of the join in any case, where it is known what each file holds that is read at positions
+pub told_then : {F I M S W : Type 0} {reach : Reach F I M S W} {at : F} {volume : VolumeSource} (Gives : ℕ → Table → Type 0) → OfVolume reach at volume (λ last table. reach.stored_told → Gives last table) → OfToldVolume reach at volume Gives
+told_then Gives v = told_by Gives (told_of v) (λ tells last table gives. gives tells)
 
 -- the numbers of the table that was taken are those of the volume
 pub numbers_told : {F I M S W : Type 0} (reach : Reach F I M S W) (at : F) (r : RereadRequest) (old new : Stream) (whole : Bool) (n : ℕ) (Told : Type 0) (Took : Table → Type 0) → texts r.only.items ≡ [] → (reach.stored_told → Told) →

@@ -12,7 +12,7 @@ use Rattle.udfs_salvage.specs.Reports.{Report}
 use Rattle.udfs_words.specs.declared.request.VolumeSource.{VolumeSource}
 use Rattle.udfs_common.specs.Reach.{Reach}
 use Rattle.udfs_common.specs.declared.refusal.Refusal.{Refusal}
-use Rattle.udfs_reports.specs.Telling.{PrintsNoText, PrintsText}
+use Rattle.udfs_reports.specs.Telling.{IsThe, PrintsNoText, PrintsText}
 
 -- the lines of a report's nodes in this form
 abbrev pub list_of : ListForm → Profile → Table → ℕ → Report → List ℕ
@@ -21,8 +21,8 @@ list_of form profile table last report = list_text form (state_of table) report
 module _ {F I M S W : Type 0} (reach : Reach F I M S W) (at : F) (form : ListForm) where
   -- the lines of the nodes of the volume's report were printed
   abbrev pub PrintsNodes : VolumeSource → Stream → Stream → Bool → Type 0
-  PrintsNodes volume old new whole = PrintsText reach at (list_of form) volume old new whole
+  PrintsNodes volume old new whole = PrintsText reach at (IsThe (list_of form)) volume old new whole
 
   -- they were not, or a beginning of them
   abbrev pub PrintsNoNodes : VolumeSource → Stream → Stream → Refusal → Type 0
-  PrintsNoNodes volume old new refusal = PrintsNoText reach at (list_of form) volume old new refusal
+  PrintsNoNodes volume old new refusal = PrintsNoText reach at (IsThe (list_of form)) volume old new refusal

@@ -145,11 +145,11 @@ module _ {F I M S W : Type 0} (reach : Reach F I M S W) (old : F) where
 
   -- where it is known what files hold: at this path
   abbrev pub IsMapFree : RereadRequest → List ℕ → Type 0
-  IsMapFree r path = reach.files.tells → IsFreeMap (reach.files.holds old) (reach.files.real old) (reach.files.in_place old) (texts r.volume.inputs.parts.items) path
+  IsMapFree r path = reach.files.tells → IsFreeMap reach.files old (texts r.volume.inputs.parts.items) path
 
   -- an image or a mapfile of the inputs is there, or no such map is
   abbrev pub IsMapSpared : RereadRequest → List ℕ → Type 0
-  IsMapSpared r path = reach.files.tells → IsSparedMap (reach.files.holds old) (reach.files.real old) (texts r.volume.inputs.parts.items) path
+  IsMapSpared r path = reach.files.tells → IsSparedMap reach.files old (texts r.volume.inputs.parts.items) path
 
   -- nor could the paths of the inputs be followed
   abbrev pub IsMapUnseen : RereadRequest → List ℕ → Type 0

@@ -5,6 +5,7 @@
 mod changes;
 mod comparing;
 pub mod giving;
+mod judging;
 pub mod list;
 pub mod lost_list;
 pub mod page;

@@ -10,6 +10,7 @@ ghost use Rattle.udfs_salvage.specs.StorePrinting.{PrintsBy};
 ghost use Rattle.udfs_salvage.specs.Stores.{IfTold};
 ghost use Rattle.udfs_remarks.specs.NoReports.{IsUntold, salvage_refusal_of};
 ghost use Rattle.udfs_reports.specs.Listing.{PrintsNoNodes, PrintsNodes, list_of};
+ghost use Rattle.udfs_reports.specs.Telling.{IsThe};
 
 use crate::telling::{Telling, tell};
 use std::alloc::Global;
@@ -76,7 +77,7 @@ pub struct NodeLines {
 }
 
 impl Telling for NodeLines {
-    ghost text = { λ lines. list_of lines.form };
+    ghost text = { λ lines. IsThe (list_of lines.form) };
 
     fn tell<B: SteadyStore, F: Files, O: Sink>(
         &self,

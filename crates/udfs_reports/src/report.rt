@@ -9,6 +9,7 @@ ghost use Rattle.udfs_salvage.specs.Stores.{IfTold};
 ghost use Rattle.udfs_salvage.specs.Surveys.{survey_by};
 ghost use Rattle.udfs_remarks.specs.NoReports.{IsUntold, salvage_refusal_of};
 ghost use Rattle.udfs_reports.specs.Reporting.{form_text};
+ghost use Rattle.udfs_reports.specs.Telling.{IsThe};
 
 use crate::telling::Telling;
 use std::alloc::Global;
@@ -29,7 +30,7 @@ use udfs_words::forms::Form;
 
 /// What a store says of its volume by the rules of a profile, where `last` is its last block. Every known block of the partitions is read, for the entries that no
 /// name leads to.
-fn surveyed_in<'a, B: ReportStore>(
+pub(crate) fn surveyed_in<'a, B: ReportStore>(
     alloc: Global,
     blocks: &'a B,
     last: u32,
@@ -113,7 +114,7 @@ impl ReportAs {
 }
 
 impl Telling for ReportAs {
-    ghost text = { λ report. form_text report.form };
+    ghost text = { λ report. IsThe (form_text report.form) };
 
     fn tell<B: SteadyStore, F: Files, O: Sink>(
         &self,

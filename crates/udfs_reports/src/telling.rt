@@ -25,8 +25,8 @@ use udfs_words::request::VolumeSource;
 
 /// What is printed of the report of a volume.
 pub trait Telling {
-    /// The text of a table's report by the rules of a profile, where this is the last block.
-    ghost text: { Self → Profile → Table → ℕ → Report → List ℕ };
+    /// What is a text of a table's report by the rules of a profile, where this is the last block.
+    ghost text: { Self → Profile → Table → ℕ → Report → List ℕ → Type 0 };
 
     /// Prints the text of the report of a store's volume by the rules of a profile, where `last` is the last block of the volume, and returns whether there
     /// are files and all of them are whole. Nothing is remarked beside it where the store has changed since it was taken.

@@ -48,11 +48,11 @@ module _ {F I M S W : Type 0} (reach : Reach F I M S W) (old : F) (request : Ima
 
   -- where it is known what files hold
   abbrev pub IsPairFree : Type 0
-  IsPairFree = reach.files.tells → IsFreePair (reach.files.holds old) (reach.files.real old) (texts request.inputs.files.items) (texts request.inputs.parts.items) request.force request.image.now request.mapfile.now
+  IsPairFree = reach.files.tells → IsFreePair reach.files old (texts request.inputs.files.items) (texts request.inputs.parts.items) request.force request.image.now request.mapfile.now
 
   -- the same
   abbrev pub IsPairSpared : Type 0
-  IsPairSpared = reach.files.tells → IsSparedPair (reach.files.real old) (reach.files.in_place old) (texts request.inputs.files.items) (texts request.inputs.parts.items) request.force request.image.now request.mapfile.now
+  IsPairSpared = reach.files.tells → IsSparedPair reach.files old (texts request.inputs.files.items) (texts request.inputs.parts.items) request.force request.image.now request.mapfile.now
 
   -- memory ran out; or they would take the place of what is to stay; or what is there could not be looked at, or the inputs were not joined then
   abbrev pub PairRefused : Refusal → Type 0
@@ -62,7 +62,7 @@ module _ {F I M S W : Type 0} (reach : Reach F I M S W) (old : F) (request : Ima
 
   -- it has no image; or the two have no place any more; or they were not put
   abbrev pub ImageUnput : ℕ → Refusal → Table → Type 0
-  ImageUnput last refusal t = HasNoImage reach.stored_told last refusal t ⊎ ((refusal ≡ Spared) × (reach.files.tells → HaveNoPlace (reach.files.real old) (reach.files.in_place old) request.force request.image.now request.mapfile.now)) ⊎
+  ImageUnput last refusal t = HasNoImage reach.stored_told last refusal t ⊎ ((refusal ≡ Spared) × (reach.files.tells → HaveNoPlace reach.files old request.force request.image.now request.mapfile.now)) ⊎
       IsUnput (PairFails reach request.image.now request.mapfile.now old) refusal
 
   -- the inputs were not joined, or not read a second time, and why; by force no image is named as one of another disc

@@ -19,11 +19,11 @@ use Rattle.udfs_tables.specs.Joining.{IsNotJoined}
 module _ {F I M S W : Type 0} (reach : Reach F I M S W) (old : F) (inputs : Inputs) (force : Bool) (out : List ℕ) where
   -- where it is known what files hold
   abbrev pub IsOutFree : Type 0
-  IsOutFree = reach.files.tells → IsFree (reach.files.holds old) (reach.files.real old) (reach.files.in_place old) (texts inputs.files.items) (texts inputs.parts.items) force out
+  IsOutFree = reach.files.tells → IsFree reach.files old (texts inputs.files.items) (texts inputs.parts.items) force out
 
   -- the same
   abbrev pub IsOutSpared : Type 0
-  IsOutSpared = reach.files.tells → IsSpared (reach.files.holds old) (reach.files.real old) (texts inputs.files.items) (texts inputs.parts.items) force out
+  IsOutSpared = reach.files.tells → IsSpared reach.files old (texts inputs.files.items) (texts inputs.parts.items) force out
 
   -- memory ran out; or it would take the place of what is to stay; or what is there could not be looked at, or the inputs were not joined then
   abbrev pub OutRefused : Refusal → Type 0

@@ -79,11 +79,11 @@ fn put_at<F: Files, T: Imaged>(
     places: &Places,
     files: &mut F,
 ) -> Result<(), Refusal>
-    requires apart { IsApart (string_bytes places.now.image) (string_bytes places.now.mapfile) }
-    requires absent { places.now.old ≡ Kind.Absent → F.tells → F.holds files.old (string_bytes places.now.mapfile) ≡ Some None }
+    requires apart { IsApart (string_bytes places.now.image.path) (string_bytes places.now.mapfile.path) }
+    requires absent { places.now.mapfile.kind ≡ Kind.Absent → F.tells → F.holds files.old (string_bytes places.now.mapfile.path) ≡ Some None }
     requires in_range { last ≤ 4194303 }
-    ensures kept { OnOk result ((t : Table) → (F.tells → T.shows of.now t) → AreKept F.Files (string_bytes places.now.image) (string_bytes places.now.mapfile) (image_bytes t last) (map_text (T.Statuses.statuses of.now) last) files.new) }
-    ensures goes { (t : Table) → (F.tells → T.shows of.now t) → GoesPair F.Files (string_bytes places.now.image) (string_bytes places.now.mapfile) (image_bytes t last) (map_text (T.Statuses.statuses of.now) last) files.old files.new }
+    ensures kept { OnOk result ((t : Table) → (F.tells → T.shows of.now t) → AreKept F.Files (string_bytes places.now.image.path) (string_bytes places.now.mapfile.path) (image_bytes t last) (map_text (T.Statuses.statuses of.now) last) files.new) }
+    ensures goes { (t : Table) → (F.tells → T.shows of.now t) → GoesPair F.Files (string_bytes places.now.image.path) (string_bytes places.now.mapfile.path) (image_bytes t last) (map_text (T.Statuses.statuses of.now) last) files.old files.new }
     ensures why { IfErr result (IsUnmade (T.inputs of.now) (Fails F.faults ⊎ SinkFails F.Output.stream)) }
 {
     let image = ImageOf { of, last };
@@ -91,11 +91,11 @@ fn put_at<F: Files, T: Imaged>(
     match put_both(
         alloc,
         files,
-        places.image.as_str(),
+        places.image.path.as_str(),
         &image,
-        places.mapfile.as_str(),
+        places.mapfile.path.as_str(),
         &map,
-        places.old,
+        places.mapfile.kind,
     ) {
         Ok(()) => Ok(()),
         Err(refusal) => Err(refusal),

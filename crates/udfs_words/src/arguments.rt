@@ -15,22 +15,14 @@ use std::alloc::{AllocError, Global};
 pub fn verbose<'a>(alloc: Global) -> Arg<'a>
     ensures { (rule_of result ≡ letter_rule (codes "verbose") 118) × (result.global ≡ false) }
 {
-    Arg::new(alloc, VERBOSE)
-        .short('v')
-        .long("verbose")
-        .help("Print more: why, and what to do next")
-        .action(ArgAction::SetTrue)
+    flag(alloc, VERBOSE, "Also print the reason, and what to do next").short('v')
 }
 
 /// The flag for saying no more than has to be said.
 pub fn quiet<'a>(alloc: Global) -> Arg<'a>
     ensures { (rule_of result ≡ letter_rule (codes "quiet") 113) × (result.global ≡ false) }
 {
-    Arg::new(alloc, QUIET)
-        .short('q')
-        .long("quiet")
-        .help("Print an error's own line alone")
-        .action(ArgAction::SetTrue)
+    flag(alloc, QUIET, "Print only an error's first line").short('q')
 }
 
 /// A flag of this name.
@@ -50,7 +42,7 @@ pub fn force<'a>(alloc: Global) -> Arg<'a>
     flag(
         alloc,
         FORCE,
-        "Write over any file that is no input, and{n}join an image of another disc",
+        "Overwrite any file that is not an input,{n}and join an image of another disc",
     )
 }
 
@@ -58,7 +50,7 @@ pub fn force<'a>(alloc: Global) -> Arg<'a>
 pub fn joining<'a>(alloc: Global) -> Arg<'a>
     ensures { (rule_of result ≡ flag_rule (codes "force")) × (result.global ≡ false) }
 {
-    flag(alloc, FORCE, "Join an image of another disc too")
+    flag(alloc, FORCE, "Join an image even if it is of another disc")
 }
 
 /// An option with one value, for which the usage shows `value`.
@@ -97,11 +89,7 @@ fn output<'a>(alloc: Global, value: &'a str, help: &'a str) -> Result<Arg<'a>, A
 pub fn null<'a>(alloc: Global) -> Arg<'a>
     ensures { (rule_of result ≡ null_rule) × (result.global ≡ false) }
 {
-    Arg::new(alloc, NULL)
-        .short('0')
-        .long(NULL)
-        .help("End lines with a zero byte")
-        .action(ArgAction::SetTrue)
+    flag(alloc, NULL, "End lines with a zero byte").short('0')
 }
 
 /// The rules by which the volume is read.
@@ -126,7 +114,7 @@ pub fn domain<'a>(alloc: Global) -> Result<Arg<'a>, AllocError>
             alloc,
             MAPFILE,
             "FILE",
-            "Write the blocks as a mapfile for ddrescue{n}-m, and print how many they are",
+            "Write the blocks as a mapfile for ddrescue{n}-m, and print how many there are",
             false,
         ),
         "domain",
@@ -141,7 +129,7 @@ pub fn group<'a>(alloc: Global) -> Arg<'a>
         alloc,
         GROUP,
         "G",
-        "Complete the mapfile to groups of G blocks:{n}16 on a DVD, 32 on a CD-RW",
+        "Extend the mapfile to whole groups of G{n}blocks: 16 on a DVD, 32 on a CD-RW",
         false,
     )
 }
@@ -150,19 +138,21 @@ pub fn group<'a>(alloc: Global) -> Arg<'a>
 pub fn blocks<'a>(alloc: Global, conflicts: bool) -> Arg<'a>
     ensures { (rule_of result ≡ blocks_rule conflicts) × (result.global ≡ false) }
 {
-    Arg::new(alloc, BLOCKS)
-        .long("blocks")
-        .value_name("LIST")
-        .help("Forget the blocks of this list: numbers, one{n}a line; - is standard input")
-        .required(!conflicts)
-        .action(ArgAction::Append)
+    option(
+        alloc,
+        BLOCKS,
+        "LIST",
+        "Forget the blocks in this list: one number{n}per line; - is standard input",
+        !conflicts,
+    )
+    .action(ArgAction::Append)
 }
 
 /// The table file to write.
 pub fn table_file<'a>(alloc: Global) -> Result<Arg<'a>, AllocError>
     ensures { IfOk result (λ arg. (rule_of arg ≡ out_rule) × (arg.global ≡ false)) }
 {
-    output(alloc, "FILE", "The table file to write, over an old one")
+    output(alloc, "FILE", "The table file to write or replace")
 }
 
 /// The page to write.
@@ -180,7 +170,7 @@ pub fn title<'a>(alloc: Global) -> Arg<'a>
         alloc,
         TITLE,
         "TEXT",
-        "What the page is called, as a shelf mark",
+        "A name for the page, such as a shelf mark",
         false,
     )
 }
@@ -189,7 +179,11 @@ pub fn title<'a>(alloc: Global) -> Arg<'a>
 pub fn image_file<'a>(alloc: Global) -> Result<Arg<'a>, AllocError>
     ensures { IfOk result (λ arg. (rule_of arg ≡ out_rule) × (arg.global ≡ false)) }
 {
-    output(alloc, "IMAGE", "The image to write, unknown bytes as zeros")
+    output(
+        alloc,
+        "IMAGE",
+        "The image to write, with zeros for blocks{n}that are not known",
+    )
 }
 
 /// The image's mapfile to write.
@@ -209,18 +203,20 @@ pub fn image_map<'a>(alloc: Global) -> Arg<'a>
 pub fn folder<'a>(alloc: Global) -> Arg<'a>
     ensures { (rule_of result ≡ value_rule (codes "to")) × (result.global ≡ false) }
 {
-    option(alloc, TO, "DIR", "The folder to make, not there yet", true)
+    option(
+        alloc,
+        TO,
+        "DIR",
+        "A new folder to write the files into",
+        true,
+    )
 }
 
 /// Paths of nodes that alone are asked for.
 pub fn only<'a>(alloc: Global, help: &'a str) -> Arg<'a>
     ensures { (rule_of result ≡ only_rule) × (result.global ≡ false) }
 {
-    Arg::new(alloc, ONLY)
-        .long("only")
-        .value_name("PATH")
-        .help(help)
-        .action(ArgAction::Append)
+    option(alloc, ONLY, "PATH", help, false).action(ArgAction::Append)
 }
 
 /// The manifest to write.
@@ -231,7 +227,7 @@ pub fn manifest<'a>(alloc: Global) -> Arg<'a>
         alloc,
         MANIFEST,
         "FILE",
-        "Write a manifest too, for sha256sum -c in{n}the new folder",
+        "Also write a manifest, for sha256sum -c in{n}the new folder",
         false,
     )
 }
@@ -244,7 +240,7 @@ pub fn lost_folder<'a>(alloc: Global) -> Arg<'a>
         alloc,
         UNNAMED,
         "DIR",
-        "Write whole files without a name too, by{n}their blocks, into this new folder",
+        "Also write whole files that have no name{n}into this new folder, by block number",
         false,
     )
 }
@@ -257,7 +253,7 @@ pub fn lost_trees<'a>(alloc: Global) -> Arg<'a>
         alloc,
         LOST,
         "DIR",
-        "Write lost folders too, with the names in{n}them, and lost files, into this new folder",
+        "Also write lost folders, with the names in{n}them, and lost files, into this new folder",
         false,
     )
 }
@@ -284,7 +280,7 @@ pub fn disc_size<'a>(alloc: Global) -> Arg<'a>
         alloc,
         SIZE,
         "BYTES",
-        "The disc's size in bytes, in place of --last{n}(or with s for blocks, k, M, G, Ki, Mi, Gi)",
+        "The disc's size in bytes, instead of --last{n}(or with s for blocks, k, M, G, Ki, Mi, Gi)",
         false,
     )
 }

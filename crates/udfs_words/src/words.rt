@@ -159,7 +159,7 @@ fn program<'a>(alloc: Global) -> Command<'a>
     ensures { app_of result ≡ program }
 {
     Command::new(alloc, "udfsalvage")
-        .about("Salvages scratched rewritable UDF discs from several passes over them")
+        .about("Recovers files from scratched rewritable UDF discs")
         .version("0.1.0")
         .subcommand_required(true)
 }
@@ -233,8 +233,8 @@ fn merge<'a>(alloc: Global, pairs: bool) -> Result<Command<'a>, AllocError>
     let command = plain(
         alloc,
         "merge",
-        "Joins readings and table files into one table file",
-        "Example:{n}  udfsalvage merge --out disc.tab --ddrescue p1.img p1.map{n}The next pass is joined so:{n}  udfsalvage merge --out disc.tab --ddrescue p2.img p2.map disc.tab",
+        "Joins passes over a disc into one table file",
+        "Example:{n}  udfsalvage merge --out disc.tab --ddrescue p1.img p1.map{n}Then add the next pass:{n}  udfsalvage merge --out disc.tab --ddrescue p2.img p2.map disc.tab",
     );
     let command = add_arg(Ok(command), out);
     let command = add_arg(
@@ -258,7 +258,7 @@ fn report<'a>(alloc: Global, given: Given) -> Result<Command<'a>, AllocError>
     );
     let command = with_end(alloc, Ok(command), given.needs_last);
     let command = add_arg(command, profile(alloc));
-    let command = add_arg(command, flag(alloc, JSON, "Print it as JSON"));
+    let command = add_arg(command, flag(alloc, JSON, "Print the report as JSON"));
     let command = add_arg(command, joining(alloc));
     with_inputs(alloc, command, given.pairs)
 }
@@ -281,7 +281,7 @@ fn reread<'a>(alloc: Global, given: Given) -> Result<Command<'a>, AllocError>
         command,
         only(
             alloc,
-            "Only the blocks for this file or folder, by{n}its path as report prints it",
+            "Ask only for this file or folder, by its{n}path as report prints it",
         ),
     );
     let command = add_arg(command, mapfile);
@@ -291,7 +291,7 @@ fn reread<'a>(alloc: Global, given: Given) -> Result<Command<'a>, AllocError>
         flag(
             alloc,
             NO_WITNESSES,
-            "Leave out of the mapfile the known blocks{n}by which a pass of another disc shows",
+            "Leave out the known blocks that reveal a{n}pass of another disc",
         ),
     );
     let command = add_arg(command, joining(alloc));
@@ -311,7 +311,7 @@ fn with_files<'a>(
         flag(
             alloc,
             FILL,
-            "Write torn files too, with zeros for what{n}is missing",
+            "Also write torn files, with zeros for what{n}is missing",
         ),
     );
     let command = add_arg(
@@ -342,18 +342,18 @@ fn extract<'a>(alloc: Global, given: Given) -> Result<Command<'a>, AllocError>
     let command = add_arg(command, lost_trees(alloc));
     let command = add_arg(
         command,
-        flag(alloc, DELETED, "With --lost: write deleted ones there too"),
+        flag(alloc, DELETED, "With --lost: also write deleted ones there"),
     );
     let command = add_arg(
         command,
-        flag(alloc, TIMES, "Set the times that the volume has"),
+        flag(alloc, TIMES, "Set modification times as on the disc"),
     );
     let command = add_arg(
         command,
         flag(
             alloc,
             SHORT_NAMES,
-            "Write what has too long a name under its{n}beginning and a number",
+            "Shorten names that are too long, and add{n}a number",
         ),
     );
     let command = add_arg(command, joining(alloc));
@@ -368,7 +368,7 @@ fn forget<'a>(alloc: Global, given: Given) -> Result<Command<'a>, AllocError>
     let command = bare(
         alloc,
         "forget",
-        "Writes the table of the inputs with some blocks unknown again",
+        "Makes blocks of a table unknown again",
         "Example:{n}  udfsalvage forget --out disc.tab --conflicts disc.tab",
         "udfsalvage forget [OPTIONS] --out <FILE> <--conflicts|--blocks <LIST>>\n                         <IN>...",
     );
@@ -391,10 +391,10 @@ fn with_shape<'a>(
 {
     let command = add_arg(command, flag(alloc, TORN, "Leave out what is whole"));
     let command = add_arg(command, null(alloc));
-    let command = add_arg(command, flag(alloc, PATHS, "Print the paths alone"));
+    let command = add_arg(command, flag(alloc, PATHS, "Print only the paths"));
     let command = add_arg(
         command,
-        flag(alloc, HEADER, "Print a first line with the columns' names"),
+        flag(alloc, HEADER, "Print a first line with column names"),
     );
     add_arg(
         command,
@@ -409,7 +409,7 @@ fn list<'a>(alloc: Global, given: Given) -> Result<Command<'a>, AllocError>
     let command = bare(
         alloc,
         "list",
-        "Prints a line for each file and folder, with what is lost of it",
+        "Prints a line for each file and folder, with how much of it is lost",
         "Example:{n}  udfsalvage list --size-of p1.map --torn --header disc.tab",
         "udfsalvage list [OPTIONS] [--last <N> | --size <BYTES>] <IN>...",
     );
@@ -421,10 +421,10 @@ fn list<'a>(alloc: Global, given: Given) -> Result<Command<'a>, AllocError>
         flag(
             alloc,
             LOST,
-            "Add lost folders, with the names in them,{n}and lost files",
+            "Also list lost folders, with the names in{n}them, and lost files",
         ),
     );
-    let command = add_arg(command, flag(alloc, DELETED, "Add these, deleted ones too"));
+    let command = add_arg(command, flag(alloc, DELETED, "The same, with deleted ones"));
     let command = add_arg(command, joining(alloc));
     with_inputs(alloc, command, given.pairs)
 }
@@ -437,7 +437,7 @@ fn image<'a>(alloc: Global, given: Given) -> Result<Command<'a>, AllocError>
     let command = bare(
         alloc,
         "image",
-        "Writes what is known of the disc as an image, with its mapfile",
+        "Writes the known blocks as an image, with its mapfile",
         "Example:{n}  udfsalvage image --size-of p1.map -o disc.img --mapfile disc.map disc.tab",
         "udfsalvage image [OPTIONS] [--last <N> | --size <BYTES>]\n                        --out <IMAGE> --mapfile <MAPFILE> <IN>...",
     );
@@ -449,7 +449,7 @@ fn image<'a>(alloc: Global, given: Given) -> Result<Command<'a>, AllocError>
         flag(
             alloc,
             FORCE,
-            "Write over an image or a mapfile that is no{n}input, and join an image of another disc",
+            "Overwrite an image or mapfile that is not{n}an input, and join an image of another disc",
         ),
     );
     with_inputs(alloc, command, given.pairs)
@@ -489,7 +489,7 @@ fn summary<'a>(alloc: Global, given: Given) -> Result<Command<'a>, AllocError>
     let command = bare(
         alloc,
         "summary",
-        "Prints what a person wants to know of the volume, on one screen",
+        "Shows the state of the disc on one screen",
         "Example:{n}  udfsalvage summary --size-of p1.map disc.tab",
         "udfsalvage summary [OPTIONS] [--last <N> | --size <BYTES>] <IN>...",
     );
@@ -511,7 +511,7 @@ fn page<'a>(alloc: Global, given: Given) -> Result<Command<'a>, AllocError>
     let command = bare(
         alloc,
         "page",
-        "Writes what is known as a page for a browser, to print or to keep",
+        "Writes the state of the disc as a page for a browser, to print or to keep",
         "Example:{n}  udfsalvage page --size-of p1.map --out disc.html disc.tab",
         "udfsalvage page [OPTIONS] [--last <N> | --size <BYTES>] --out <FILE>\n                       <IN>...",
     );

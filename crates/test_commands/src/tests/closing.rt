@@ -114,7 +114,7 @@ file p.map text # Mapfile\n0x0 + 1\n0 0x1000 +\n
 
 $ merge -v --out t.tab --ddrescue p.img short.map
 silent
-remarked 1 input: 1 known (0 new), 0 in conflict (0 new)\nshort.map ends at 2.0 kB, and p.img has 4.1 kB: are they of one pass?\n
+remarked 1 input: 1 known (0 new), 0 in conflict (0 new)\nshort.map ends at 2.0 kB, but p.img has 4.1 kB: are they from the same pass?\n
 
 $ merge -v --out t.tab --ddrescue p.img p.map
 silent

@@ -20,7 +20,7 @@ write 275 216 \x88\x13\0\0\x05
 # name leads to it; then its entry, and the file set, without which the volume does not open.
 * an extended entry of A
 write 275 152 \0\x08\0\0\x09
-let ONE Streams    1 file with named streams, which are not looked at
+let ONE Streams    1 file with named streams, which are ignored
 
 but
 $ summary --last 600 disc.tab
@@ -32,7 +32,7 @@ out-lines 1 «ONE»
 
 but 274
 $ summary --last 600 disc.tab
-out TEST   UDF 1.50, type 1   601 blocks, 1.2 MB\nNo file is complete,\n1 folder may lack names;\nat least 1 block is worth reading again\nFiles      0 whole (0 B)\nFolders    0 whole   1 torn\n           names may be missing in /\nNo name    2 whole files with data, 0 empty: extract --lost lost\n«ONE»\nGuarantee  nothing seen contradicts the standard;\n           1 block that could is not known\nDisc       600 known   1 not known   0 in conflict\n           1 of these is needed, in 1 place\nNext       udfsalvage reread --last 600 --group 16 --mapfile want.map disc.tab\n           ddrescue -d -r3 -b2048 -m want.map /dev/sr0 p600.img p600.map\n           udfsalvage merge --out disc.tab disc.tab --ddrescue p600.img p600.map\n
+out TEST   UDF 1.50, type 1   601 blocks, 1.2 MB\nNo file is complete,\nnames may be missing in 1 folder;\nat least 1 block is worth reading again\nFiles      0 whole (0 B)\nFolders    0 whole   1 torn\n           names may be missing in /\n«ONE»\nDeleted    2 entries\nGuarantee  nothing seen contradicts the standard;\n           1 unknown block could\nDisc       600 known   1 not known   0 in conflict\n           1 of these is needed, in 1 place\nNext       udfsalvage reread --last 600 --group 16 --mapfile want.map disc.tab\n           ddrescue -d -r3 -b2048 -m want.map /dev/sr0 p600.img p600.map\n           udfsalvage merge --out disc.tab disc.tab --ddrescue p600.img p600.map\n
 
 but 275
 $ summary --last 600 disc.tab
@@ -45,12 +45,12 @@ out-lines 0 Streams
 directory 1 a=3 b=3 c=4
 but
 $ summary --last 600 disc.tab
-out-lines 1 Streams    2 files with named streams, which are not looked at
+out-lines 1 Streams    2 files with named streams, which are ignored
 
 directory 1 a=3 b=3 c=3
 but
 $ summary --last 600 disc.tab
-out-lines 1 Streams    3 files with named streams, which are not looked at
+out-lines 1 Streams    3 files with named streams, which are ignored
 
 = the_length_decides
 # An address of length 0, with and without bits of a type; one of length 1; and one whose length has bits in its highest byte alone.
@@ -252,7 +252,7 @@ done 0 «HEAD»Anchors    anchors differ: block 256 opens another state of the d
 write 600 20 \x30
 but 256
 $ summary --last 600 disc.tab
-done 0 «HEAD»«REST»Guarantee  nothing seen contradicts the standard;\n           1 block that could is not known\n«DISC»600 known   1«NEXT»
+done 0 «HEAD»«REST»Guarantee  nothing seen contradicts the standard;\n           1 unknown block could\n«DISC»600 known   1«NEXT»
 
 write 600 0 \x03
 but
@@ -272,7 +272,7 @@ done 0 «HEAD»«COPIES»«REST»Guarantee  does not hold: two copies of a volum
 write 48 240 \x01\x02
 but 48
 $ summary --last 600 disc.tab
-done 0 «HEAD»«REST»Guarantee  nothing seen contradicts the standard;\n           1 block that could is not known\n«DISC»600 known   1«NEXT»
+done 0 «HEAD»«REST»Guarantee  nothing seen contradicts the standard;\n           1 unknown block could\n«DISC»600 known   1«NEXT»
 
 write 50 0 \0
 but

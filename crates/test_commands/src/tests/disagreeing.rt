@@ -47,7 +47,7 @@ file-has p.html <div>Anchors    anchors differ: block 256 opens another state of
 write 600 20 \x30
 but 256
 $ report -v --last 600 disc.tab
-remarked Nothing seen contradicts the standard; 1 block that could is not known\n
+remarked Nothing seen contradicts the standard; 1 unknown block could\n
 ";
 
 #[test]
@@ -100,7 +100,7 @@ write 32 240 P\x02
 but
 $ report -v --last 600 disc.tab
 status 1
-remarked copies of the volume's descriptors differ: the volume is not lawful, and the guarantee does not hold for it\nvolume: UDF 1.50: add --profile wide\nThe guarantee does not hold: the volume does not open: the volume is not of a UDF revision that the rules take\n
+remarked copies of the volume's descriptors differ: the volume is not lawful, and the guarantee does not hold for it\nvolume: UDF 1.50: add --profile wide\nThe guarantee does not hold: the volume does not open: the rules do not accept this UDF revision\n
 
 write 32 240 P\x02
 but

@@ -206,7 +206,7 @@ but 33 49
 $ page --size-of a.map --out p.html disc.tab
 status 1
 error
-file-has p.html <div>does not open: blocks 33 and 49 are needed</div>\n<div>Guarantee  nothing seen contradicts the standard;</div>\n<div>           2 blocks that could are not known</div>\n<div>Disc       599 known   2 not known   0 in conflict</div>\n
+file-has p.html <div>does not open: blocks 33 and 49 are needed</div>\n<div>Guarantee  nothing seen contradicts the standard;</div>\n<div>           2 unknown blocks could</div>\n<div>Disc       599 known   2 not known   0 in conflict</div>\n
 
 = a_mapfile_that_gives_none
 # One that is not there, or is no mapfile of a pass, is refused before an input is opened; one that ends where no disc does gives a number out of range.
@@ -220,10 +220,10 @@ $ list --size-of bad.map absent.rd
 refused udfsalvage: cannot take the size from the mapfile\n
 
 $ summary -v --size-of absent.map absent.rd
-refused udfsalvage: cannot take the size from the mapfile\n  absent.map is not there\n
+refused udfsalvage: cannot take the size from the mapfile\n  absent.map does not exist\n
 
 $ summary -v --size-of none.map absent.rd
-refused udfsalvage: cannot take the size from the mapfile\n  none.map is no mapfile of GNU ddrescue, or has no run\n
+refused udfsalvage: cannot take the size from the mapfile\n  none.map is not a mapfile of GNU ddrescue, or has no runs\n
 
 $ reread --size-of wanted.map absent.rd
 refused udfsalvage: cannot take the size from the mapfile\n
@@ -232,7 +232,7 @@ $ page --size-of disc.tab --out p.html disc.tab
 refused udfsalvage: cannot take the size from the mapfile\n
 
 $ report -v --size-of odd.map disc.tab
-refused udfsalvage: fault 1 LastRange\n  the last block is from 513 to 4194303: give the disc's size by --size, in bytes, or in blocks with s after it\n
+refused udfsalvage: fault 1 LastRange\n  the last block must be from 513 to 4194303: give the disc's size with --size, in bytes, or in blocks with s after the number\n
 
 $ extract --size-of small.map --to out disc.tab
 refused udfsalvage: fault 1 LastRange\n

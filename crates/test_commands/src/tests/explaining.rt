@@ -35,13 +35,13 @@ $ merge --out t.tab -v none.rd
 refused udfsalvage: input 1: fault 4 Truncated at record 0\n  none.rd is empty\n
 
 $ merge --out t.tab -v -
-refused udfsalvage: cannot open input 1\n  -: the system does not say why: this command takes it as a path; standard input is /dev/stdin\n
+refused udfsalvage: cannot open input 1\n  -: the system does not say why: for this command, - is a file name; standard input is /dev/stdin\n
 
 $ merge --out t.tab -v long.rd
-refused udfsalvage: input 1: fault 5 Trailing at record 2\n  long.rd goes on after its last record\n
+refused udfsalvage: input 1: fault 5 Trailing at record 2\n  long.rd has more data after its last record\n
 
 $ merge -v --out t.tab my.disc.iso
-refused udfsalvage: input 1: fault 1 Magic at record 0\n  my.disc.iso is no reading and no table; an image wants its map: --ddrescue my.disc.iso my.disc.map\n
+refused udfsalvage: input 1: fault 1 Magic at record 0\n  my.disc.iso is neither a reading nor a table; an image needs its mapfile: --ddrescue my.disc.iso my.disc.map\n
 
 $ merge -v --out t.tab disc.img.gz
 refused udfsalvage: input 1: fault 1 Magic at record 0\n  disc.img.gz is compressed: gunzip it, and give the image with its mapfile\n
@@ -56,16 +56,16 @@ $ merge -v --out t.tab disc.bin
 refused udfsalvage: input 1: fault 1 Magic at record 0\n  disc.bin has sectors of 2352 bytes: cut them to 2048 first, as READING.md shows under Passes of other tools\n
 
 $ report -v --last 600 plain.iso
-refused udfsalvage: input 1: fault 1 Magic at record 0\n  plain.iso is an image of ISO 9660 without UDF, which is not read: mount it, or unpack it with bsdtar\n
+refused udfsalvage: input 1: fault 1 Magic at record 0\n  plain.iso is an ISO 9660 image without UDF, which udfsalvage does not read: mount it, or unpack it with bsdtar\n
 
 $ merge -v --out t.tab bridge.iso
-refused udfsalvage: input 1: fault 1 Magic at record 0\n  bridge.iso is no reading and no table; an image wants its map: --ddrescue bridge.iso bridge.map\n
+refused udfsalvage: input 1: fault 1 Magic at record 0\n  bridge.iso is neither a reading nor a table; an image needs its mapfile: --ddrescue bridge.iso bridge.map\n
 
 $ merge -v --out t.tab --ddrescue disc.img.gz p.map
 refused udfsalvage: input 1: image ends before block 0\n  disc.img.gz is compressed: gunzip it, and give the image with its mapfile\n
 
 $ merge -v --out t.tab order.tab
-refused udfsalvage: input 1: fault 6 Order at record 2\n  order.tab is damaged, or was not written as it should be: use another copy of it\n
+refused udfsalvage: input 1: fault 6 Order at record 2\n  order.tab is damaged or malformed: use another copy of it\n
 
 $ report -v --last 600 absent.rd
 refused udfsalvage: cannot open input 1\n  absent.rd: the system does not say why\n
@@ -80,10 +80,10 @@ $ merge -v --out t.tab --ddrescue my.disc.iso absent.map
 refused udfsalvage: cannot open input 1\n  absent.map: the system does not say why\n
 
 $ merge -v --out t.tab --ddrescue my.disc.iso bad.map
-refused udfsalvage: input 1: mapfile line 2: not a run\n  bad.map is no mapfile of GNU ddrescue; the image comes first: --ddrescue IMAGE MAPFILE, here my.disc.iso and bad.map\n
+refused udfsalvage: input 1: mapfile line 2: not a run\n  bad.map is not a mapfile of GNU ddrescue; the image comes first: --ddrescue IMAGE MAPFILE, here my.disc.iso and bad.map\n
 
 $ merge -v --out t.tab --ddrescue my.disc.iso p.map
-refused udfsalvage: input 1: image ends before block 1\n  p.map says that block 1 was read, and my.disc.iso ends before it: are they of one pass?\n
+refused udfsalvage: input 1: image ends before block 1\n  p.map says that block 1 was read, but my.disc.iso ends before it: are they from the same pass?\n
 
 = a_refusal_of_no_input_says_what_to_do
 # The refusals that name no input, each with the line beneath it.
@@ -99,10 +99,10 @@ $ extract -v --last 600 --to out disc.tab
 refused udfsalvage: cannot make the folder\n  out: the system does not say why\n
 
 $ extract -v --last 600 --to new --only A disc.tab
-refused udfsalvage: --only 1 is no node\n  A does not begin with /: the paths are those that list --paths prints\n
+refused udfsalvage: --only 1 is no node\n  A does not begin with /: use a path that list --paths prints\n
 
 $ extract -v --last 600 --to new --unnamed out disc.tab
-refused udfsalvage: cannot make the folder\n  out exists already, or is where another output goes, or the folder that it is in does not exist; --unnamed wants a new folder\n
+refused udfsalvage: cannot make the folder\n  out already exists, or is where another output goes, or is in a folder that does not exist; --unnamed needs a new folder\n
 
 $ extract -v --last 600 --to new --only /A --only /none disc.tab
 refused udfsalvage: --only 2 is no node\n  /none is not one of the paths that list --paths prints\n
@@ -117,7 +117,7 @@ $ forget -v --out t.tab --blocks - disc.tab
 refused udfsalvage: cannot open list\n  /dev/stdin: the system does not say why\n
 
 $ report -v --last 512 disc.tab
-refused udfsalvage: fault 1 LastRange\n  the last block is from 513 to 4194303: give the disc's size by --size, in bytes, or in blocks with s after it\n
+refused udfsalvage: fault 1 LastRange\n  the last block must be from 513 to 4194303: give the disc's size with --size, in bytes, or in blocks with s after the number\n
 
 $ report -v --last 599 disc.tab
 refused udfsalvage: fault 2 PastEnd 600\n  block 600 is known, so the last block is not 599\n
@@ -131,40 +131,44 @@ file p.img text x
 file p.map text # Mapfile. Created by GNU ddrescue\n0 + 1\n
 
 $ merge -v --out a.rd b.rd
-refused udfsalvage: cannot write output\n  a.rd is no table file, and none of the inputs: take another name, or give --force\n
+refused udfsalvage: cannot write output\n  a.rd is neither a table file nor an input: use another name, or add --force\n
 
 $ forget -v --conflicts --out a.rd b.rd
-refused udfsalvage: cannot write output\n  a.rd is no table file, and none of the inputs: take another name, or give --force\n
+refused udfsalvage: cannot write output\n  a.rd is neither a table file nor an input: use another name, or add --force\n
 
 $ merge -v --force --out p.img b.rd --ddrescue p.img p.map
-refused udfsalvage: cannot write output\n  p.img is an input, and never written over: take another name\n
+refused udfsalvage: cannot write output\n  p.img is an input, which is never overwritten: use another name\n
 
 $ image -v --last 600 --out a.rd --mapfile new.map disc.tab
-refused udfsalvage: cannot write output\n  a.rd is there already: take another name, or give --force\n
+refused udfsalvage: cannot write output\n  a.rd already exists: use another name, or add --force\n
 
 $ image -v --last 600 --out new.img --mapfile p.map disc.tab
-refused udfsalvage: cannot write output\n  p.map is there already: take another name, or give --force\n
+refused udfsalvage: cannot write output\n  p.map already exists: use another name, or add --force\n
 
 $ image -v --force --last 600 --out new.img --mapfile disc.tab disc.tab
-refused udfsalvage: cannot write output\n  disc.tab is an input, and never written over: take another name\n
+refused udfsalvage: cannot write output\n  disc.tab is an input, which is never overwritten: use another name\n
 
 $ image -v --last 600 --out new.img --mapfile new.img disc.tab
-refused udfsalvage: cannot write output\n  new.img and new.img have to be two files, neither in the other's way, and no folders or devices\n
+refused udfsalvage: cannot write output\n  new.img and new.img must be two different files, neither in the way of the other, and not folders or devices\n
 
 $ page -v --last 600 --out a.rd disc.tab
-refused udfsalvage: cannot write output\n  a.rd is no page of udfsalvage: take another name\n
+refused udfsalvage: cannot write output\n  a.rd is not a page that udfsalvage wrote: use another name\n
 
 $ page -v --last 600 --out disc.tab disc.tab
-refused udfsalvage: cannot write output\n  disc.tab is an input, and never written over: take another name\n
+refused udfsalvage: cannot write output\n  disc.tab is an input, which is never overwritten: use another name\n
 
 $ reread -v --last 600 --mapfile p.map disc.tab
-refused udfsalvage: cannot write output\n  p.map is no map of blocks to read again that this udfsalvage wrote: take another name\n
+refused udfsalvage: cannot write output\n  p.map is not a mapfile that reread of this udfsalvage wrote: use another name\n
 
 $ extract -v --last 600 --to new --manifest a.rd disc.tab
-refused udfsalvage: cannot write output\n  a.rd is no manifest: take another name\n
+refused udfsalvage: cannot write output\n  a.rd is not a manifest: use another name\n
 
+$ extract -v --last 600 --to new --manifest new disc.tab
+refused udfsalvage: cannot write output\n  new is in the way of the new folder: use another name\n
+
+# The folder is not there yet.
 $ extract -v --last 600 --to new --manifest new/sums disc.tab
-refused udfsalvage: cannot write output\n  new/sums is in the new folder's way: take another name\n
+refused udfsalvage: cannot write output\n  new/sums: the system does not say why\n
 
 = no_more_is_said_than_is_asked_for
 # Where nobody watches and nothing more is asked for, and with `-q`, there is one line.
@@ -206,10 +210,10 @@ then status 1
 then error
 
 $ report -v --last 600 disc.tab
-remarked the volume does not open: blocks 33 and 49 are needed\nNothing seen contradicts the standard; 2 blocks that could are not known\n
+remarked the volume does not open: blocks 33 and 49 are needed\nNothing seen contradicts the standard; 2 unknown blocks could\n
 
 $ report --json --verbose --last 600 disc.tab
-remarked the volume does not open: blocks 33 and 49 are needed\nNothing seen contradicts the standard; 2 blocks that could are not known\n
+remarked the volume does not open: blocks 33 and 49 are needed\nNothing seen contradicts the standard; 2 unknown blocks could\n
 
 $ list -v --last 600 disc.tab
 remarked the volume does not open: blocks 33 and 49 are needed\n
@@ -247,7 +251,7 @@ write 32 240 \0\x02
 write 48 240 \0\x02
 but
 $ report -v --last 600 disc.tab
-remarked volume: UDF 2.00 (a camcorder or recorder disc): add --profile wide\nThe guarantee does not hold: the volume does not open: the volume is not of a UDF revision that the rules take\n
+remarked volume: UDF 2.00 (a camcorder or recorder disc): add --profile wide\nThe guarantee does not hold: the volume does not open: the rules do not accept this UDF revision\n
 
 write 32 240 \x02\x01
 write 48 240 \x02\x01
@@ -259,13 +263,13 @@ write 32 240 P\x02
 write 48 240 P\x02
 but
 $ report -v --last 600 disc.tab
-remarked volume: UDF 2.50, which is not read\nThe guarantee does not hold: the volume does not open: the volume is not of a UDF revision that the rules take\n
+remarked volume: UDF 2.50, which udfsalvage does not read\nThe guarantee does not hold: the volume does not open: the rules do not accept this UDF revision\n
 
 write 32 240 `\x02
 write 48 240 `\x02
 but
 $ extract -v --last 600 --profile wide --to new disc.tab
-remarked volume: UDF 2.60, which is not read\n
+remarked volume: UDF 2.60, which udfsalvage does not read\n
 
 write 32 217 *OSTA CD-UDF
 write 48 217 *OSTA CD-UDF
@@ -279,11 +283,11 @@ then status 1
 
 but 256
 $ report -v --last 5000 disc.tab
-remarked the volume does not open: blocks 256, 4744 and 5000 are needed; no block after 600 is known: is --last right?\nNothing seen contradicts the standard; 3 blocks that could are not known\n
+remarked the volume does not open: blocks 256, 4744 and 5000 are needed; no block after 600 is known: is --last right?\nNothing seen contradicts the standard; 3 unknown blocks could\n
 
 but 256 344 600
 $ report -v --last 600 disc.tab
-remarked the volume does not open: blocks 256, 344 and 600 are needed\nNothing seen contradicts the standard; 3 blocks that could are not known\n
+remarked the volume does not open: blocks 256, 344 and 600 are needed\nNothing seen contradicts the standard; 3 unknown blocks could\n
 
 = sparing_copies_that_disagree
 # The second copy of the sparing table, in block 200, maps the packet elsewhere.
@@ -318,7 +322,7 @@ disc sparable
 write 200 60 \xb0
 but 200
 $ report -v --last 600 disc.tab
-remarked Nothing seen contradicts the standard; 1 block that could is not known\n
+remarked Nothing seen contradicts the standard; 1 unknown block could\n
 ";
 
 #[test]

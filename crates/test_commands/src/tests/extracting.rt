@@ -196,19 +196,19 @@ remarked /A: the system does not say why\n1 written, 1 failed\n
 # The folder of both files is synced once. If that fails, neither is told as written, and both are removed, if they can be.
 but
 
-calls-fail 6 6
+calls-fail 7 7
 $ extract --last 600 --to out disc.tab
 done 1 failed /A\nfailed /B\n
 absent out/A
 absent out/B
 
-calls-fail 6 on
+calls-fail 7 on
 $ extract --last 600 --to out disc.tab
 done 1 failed /A\nfailed /B\n
 files 3
 
 # A file that fails ends its run, and the next one is in another.
-calls-fail 3 3
+calls-fail 4 4
 $ extract --last 600 --to out disc.tab
 done 1 failed /A\nwritten /B\n
 absent out/A

@@ -102,9 +102,9 @@ survives b.rd table 300:61 301:62
 # A device is written in place: no other file is made.
 passes
 
-$ merge --v1 --out dev/tab a.rd b.rd
+$ merge --v1 --out /dev/tab a.rd b.rd
 silent
-has dev/tab table 300:61 301:62
+has /dev/tab table 300:61 301:62
 calls 2
 ";
 

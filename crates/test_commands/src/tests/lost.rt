@@ -172,18 +172,22 @@ $ extract --last 600 --to out --lost m --manifest m disc.tab
 
 $ extract --last 600 --to out --lost both --unnamed both disc.tab
 
+$ extract --last 600 --to out --lost absent/found disc.tab
+
 = a_folder_that_can_not_be_made
-# Where it can not be made then, the other files are written.
+# Where it can not be made then, the other files are written: two calls make their folder and its name durable, two write each file, one syncs the names.
 but
 then status 2
 then out written /A\nwritten /B\n
 then files 3
 
-$ extract --last 600 --to out --lost absent/found disc.tab
+calls-fail 8 8
+$ extract --last 600 --to out --lost found disc.tab
 error udfsalvage: cannot make the folder\n
 
-$ extract -v --last 600 --to out --lost absent/found disc.tab
-error udfsalvage: cannot make the folder\n  absent/found: the system does not say why; the files that have a name are written\n
+calls-fail 8 8
+$ extract -v --last 600 --to out --lost found disc.tab
+error udfsalvage: cannot make the folder\n  found: the system does not say why; the files that have names were written\n
 
 = the_file_set_is_not_known_or_has_a_fault
 # The layout and the places are found, so the root is a lost folder: its link count, at byte 48 of its entry at logical block 1, is 1.
@@ -212,7 +216,7 @@ survives found/1/B text Hi
 files 3
 
 = what_has_a_name_behind_a_hole_is_written_by_it
-# The first of two blocks of /D is not read. In the second are A, a file, and E, a folder with B in it.
+# What is below the folder is looked at by its path from `./` on. The first of two blocks of /D is not read. In the second are A, a file, and E, a folder with B in it.
 directory 1 D=10
 directory 10 A=3
 directory 20 B=4
@@ -225,18 +229,18 @@ write 284 0 \x01\x01\x02\0\x3e\0\0\0\xf1\x25\x18\0\x0c\0\0\0\x01\0\0\x02\0\x08\0
 write 284 40 \x01\x01\x02\0\x6d\0\0\0\x50\xf5\x18\0\x0c\0\0\0\x01\0\x02\x02\0\x08\0\0\x14\0\0\0\0\0\0\0\0\0\0\0\0\0\x08E
 
 but 283
-$ extract --last 600 --to out --times --lost found disc.tab
+$ extract --last 600 --to out --times --lost ./found disc.tab
 done 1 written found:/D/E/B\nwritten found:/D/A\n
 survives found/by-name/D/A text «2048*a»«2048*b»«904*c»
 survives found/by-name/D/E/B text Hi
-modified found/by-name/D/A 994239000000000
-modified found/by-name/D/E 994239000000000
+modified ./found/by-name/D/A 994239000000000
+modified ./found/by-name/D/E 994239000000000
 no-folder found/20
 files 3
 
 # Where the root is not read, the torn folder is lost itself.
 but 274 283
-$ extract --last 600 --to out --lost found disc.tab
+$ extract --last 600 --to out --lost ./found disc.tab
 done 1 written found:lost:10/E/B\nwritten found:lost:10/A\n
 has-folder found/10
 survives found/by-name/10/A text «2048*a»«2048*b»«904*c»
@@ -245,7 +249,7 @@ files 3
 
 # A file that is torn is not written, by its name as by its number.
 but 283 278
-$ extract --last 600 --to out --lost found disc.tab
+$ extract --last 600 --to out --lost ./found disc.tab
 done 1 written found:/D/E/B\n
 files 2
 
@@ -268,7 +272,7 @@ write 284 40 \x01\x01\x02\0\xe3\0\0\0\x6e\x4d\x18\0\x0c\0\0\0\x01\0\0\x02\0\x08\
 write 284 80 \x01\x01\x02\0\x6c\0\0\0\x76\xce\x18\0\x0c\0\0\0\x01\0\0\x02\0\x08\0\0\x04\0\0\0\0\0\0\0\0\0\0\0\0\0\x08X
 
 but 283
-$ extract --last 600 --to out --lost found disc.tab
+$ extract --last 600 --to out --lost ./found disc.tab
 done 1 written found:/D/A\nwritten lost:4\n
 survives found/by-name/D/A text «2048*a»«2048*b»«904*c»
 survives found/4 text Hi

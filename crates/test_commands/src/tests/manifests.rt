@@ -132,7 +132,7 @@ $ extract --last 600 --to out --manifest one-space disc.tab absent.tab --ddrescu
 
 $ extract --last 600 --to out --manifest out disc.tab absent.tab --ddrescue p.img p.map
 
-$ extract --last 600 --to out --manifest out/m disc.tab absent.tab --ddrescue p.img p.map
+$ extract --last 600 --to out --manifest out/m disc.tab
 
 $ extract --last 600 --to out/ --manifest out disc.tab absent.tab --ddrescue p.img p.map
 
@@ -202,12 +202,7 @@ then survives m text «OF_B»  old\n
 then survives out/A text «2048*a»«2048*b»«904*c»
 then survives out/B text Hi
 
-calls-fail 7 10
-$ extract --last 600 --to out --manifest m disc.tab
-error udfsalvage: cannot write output\n
-has m text «OF_B»  old\n
-
-calls-fail 8 8
+calls-fail 8 11
 $ extract --last 600 --to out --manifest m disc.tab
 error udfsalvage: cannot write output\n
 has m text «OF_B»  old\n
@@ -218,6 +213,11 @@ error udfsalvage: cannot write output\n
 has m text «OF_B»  old\n
 
 calls-fail 10 10
+$ extract --last 600 --to out --manifest m disc.tab
+error udfsalvage: cannot write output\n
+has m text «OF_B»  old\n
+
+calls-fail 11 11
 $ extract --last 600 --to out --manifest m disc.tab
 error udfsalvage: cannot write output\n  the new file is in its place, whole, but a power cut may bring the old one back\n
 has m text «OF_A»  A\n«OF_B»  B\n

@@ -49,7 +49,7 @@ $ extract --last 600 --to out a.rd --ddrescue all.img p.map
 
 $ merge -v --out t.tab a.rd --ddrescue all.img first-3.map
 silent
-remarked 2 inputs: 13 known (0 new), 3 in conflict (3 new)\ninput 2 disagrees in 3 of 3 blocks: is it the same disc?\nfirst-3.map ends at 6.1 kB, and all.img has 32.8 kB: are they of one pass?\n
+remarked 2 inputs: 13 known (0 new), 3 in conflict (3 new)\ninput 2 disagrees in 3 of 3 blocks: is it the same disc?\nfirst-3.map ends at 6.1 kB, but all.img has 32.8 kB: are they from the same pass?\n
 
 $ merge --out t.tab a.rd --ddrescue all.img first-4.map
 refused udfsalvage: input 2: disagrees in 4 of 4 blocks\n
@@ -71,7 +71,7 @@ absent t.tab
 
 $ merge -v --force --out t.tab a.rd --ddrescue all.img first-4.map
 silent
-remarked 2 inputs: 12 known (0 new), 4 in conflict (4 new)\ninput 2 disagrees in 4 of 4 blocks: is it the same disc?\nfirst-4.map ends at 8.2 kB, and all.img has 32.8 kB: are they of one pass?\n
+remarked 2 inputs: 12 known (0 new), 4 in conflict (4 new)\ninput 2 disagrees in 4 of 4 blocks: is it the same disc?\nfirst-4.map ends at 8.2 kB, but all.img has 32.8 kB: are they from the same pass?\n
 
 $ report --force --last 600 a.rd --ddrescue all.img p.map
 status 1
@@ -196,7 +196,7 @@ absent t.tab
 
 $ merge -v --out t.tab dev/a.rd --ddrescue all.img first-3.map
 silent
-remarked 2 inputs: 13 known (0 new), 3 in conflict (3 new)\ninput 2 disagrees in 3 of 3 blocks: is it the same disc?\nfirst-3.map ends at 6.1 kB, and all.img has 32.8 kB: are they of one pass?\n
+remarked 2 inputs: 13 known (0 new), 3 in conflict (3 new)\ninput 2 disagrees in 3 of 3 blocks: is it the same disc?\nfirst-3.map ends at 6.1 kB, but all.img has 32.8 kB: are they from the same pass?\n
 ";
 
 #[test]

@@ -60,7 +60,7 @@ file-has p.html <div>Guarantee  does not hold: a folder is inside itself: <bdi>/
 file-has p.html <h2>Not yet looked at</h2>\n<p>Each is a file or a whole folder, of unknown size.</p>\n<ul>\n<li><bdi>/r</bdi>\n</ul>\n
 file-has p.html <div>Folders    1 whole   2 torn: names may be missing in <bdi>/p</bdi> and 1 more</div>\n
 file-has p.html <div class=t><bdi>r</bdi><small>not yet known</small></div>\n
-file-has p.html <div class=f><bdi>t</bdi><small>folder, a loop: it stands inside itself</small></div>\n
+file-has p.html <div class=f><bdi>t</bdi><small>folder, a loop: it is inside itself</small></div>\n
 file-has p.html <div class=f><bdi>u</bdi><small>not yet known, fault 1</small></div>\n
 
 = no_more_than_twenty_torn_files_in_the_table

@@ -55,7 +55,7 @@ but 272
 $ page --last 600 --out p.html disc.tab
 status 1
 file-has p.html <title>a disc that does not open</title>
-file-has p.html <div>does not open: block 272 is needed</div>\n<div>Guarantee  nothing seen contradicts the standard;</div>\n<div>           1 block that could is not known</div>\n
+file-has p.html <div>does not open: block 272 is needed</div>\n<div>Deleted    3 entries</div>\n<div>Guarantee  nothing seen contradicts the standard;</div>\n<div>           1 unknown block could</div>\n
 file-has p.html --group 16 --mapfile want.map disc.tab\n
 file-lacks p.html udfsalvage extract
 file-lacks p.html <h2>All files</h2>
@@ -68,7 +68,7 @@ write 48 240 \0\x02
 but
 $ page --last 600 --out p.html disc.tab
 status 1
-file-has p.html <div>Guarantee  does not hold: the volume does not open: <bdi>the volume is not of a UDF revision that the rules take</bdi></div>\n
+file-has p.html <div>Guarantee  does not hold: the volume does not open: <bdi>the rules do not accept this UDF revision</bdi></div>\n
 file-has p.html <p>UDF 2.00 (a camcorder or recorder disc): add --profile wide.</p>\n<pre>udfsalvage page --last 600 --profile wide --out p.html disc.tab\n</pre>\n
 file-lacks p.html udfsalvage extract
 

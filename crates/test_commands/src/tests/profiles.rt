@@ -182,6 +182,8 @@ out TEST   UDF 2.00, type 1   601 blocks, 1.2 MB\n1 file is complete, 1 damaged;
 = a_movie_without_a_name
 # The directory is not known, so no name leads to A and B.
 write 275 27 \xf9
+write 275 48 \x01
+write 276 48 \x01
 but 274
 then status 1
 then error
@@ -194,10 +196,10 @@ $ extract --last 600 --to out --unnamed lost disc.tab
 out written unnamed 4\n
 
 $ summary --last 600 --profile wide disc.tab
-out-has \nNo name    2 whole files with data, 0 empty: extract --lost lost\n
+out-has \nLost       2 files without a folder\n           what is whole of these: extract --lost lost\n
 
 $ summary --last 600 disc.tab
-out-has \nNo name    1 whole file with data, 0 empty: extract --lost lost\n
+out-has \nLost       1 file without a folder\n           what is whole of these: extract --lost lost\n
 
 = a_file_of_no_type_is_one_by_the_wide_rules
 # Old writers left the type 0, which says nothing.
@@ -230,7 +232,7 @@ out UDFREPORT1 last 600\nprofile wide\nknown 601 conflict 0\nvolume ok revision 
 
 $ summary --last 600 --profile wide disc.tab
 status 0
-out TEST   UDF 1.50, type 1   601 blocks, 1.2 MB\n2 files are complete\nFiles      2 whole (5.0 kB)\nFolders    1 whole\nTags       1 folder has tags of another place\nGuarantee  holds: nothing on this disc contradicts the standard\nDisc       601 known   0 not known   0 in conflict\nNext       All is whole. Write it out:\n           udfsalvage extract --last 600 --profile wide --to files disc.tab\n
+out TEST   UDF 1.50, type 1   601 blocks, 1.2 MB\n2 files are complete\nFiles      2 whole (5.0 kB)\nFolders    1 whole\nTags       1 folder has tags that name another place\nGuarantee  holds: nothing on this disc contradicts the standard\nDisc       601 known   0 not known   0 in conflict\nNext       All is whole. Write it out:\n           udfsalvage extract --last 600 --profile wide --to files disc.tab\n
 
 = other_types_are_no_files_by_the_wide_rules
 # Type 250 is that of a metadata file.
@@ -277,7 +279,7 @@ remarked /A: of type 249, which is not written\n1 file of a type that is not wri
 files 2
 
 $ summary --last 600 disc.tab
-out TEST   UDF 1.50, type 1   601 blocks, 1.2 MB\n1 file is complete,\n1 of a type that is not written\nFiles      1 whole (2 B)\nFolders    1 whole\nOther      1 file of a type that is not written (249, real-time): --profile wide writes it\nGuarantee  holds: nothing on this disc contradicts the standard\nDisc       601 known   0 not known   0 in conflict\nNext       The wide rules write files that are left out here. See by them:\n           udfsalvage summary --last 600 --profile wide disc.tab\n
+out TEST   UDF 1.50, type 1   601 blocks, 1.2 MB\n1 file is complete,\n1 of a type that is not written\nFiles      1 whole (2 B)\nFolders    1 whole\nOther      1 file of a type that is not written (249, real-time): --profile wide writes it\nGuarantee  holds: nothing on this disc contradicts the standard\nDisc       601 known   0 not known   0 in conflict\nNext       The wide rules also write files that are left out here:\n           udfsalvage summary --last 600 --profile wide disc.tab\n
 
 = what_is_said_of_files_of_other_types
 # Torn ones too, several, and none that is empty.

@@ -218,7 +218,7 @@ $ merge --out t.tab --ddrescue p.img want.map
 refused udfsalvage: input 1: mapfile line 2: blocks to read again, not a pass\n
 
 $ report -v --last 600 disc.tab --ddrescue p.img want.map
-refused udfsalvage: input 2: mapfile line 2: blocks to read again, not a pass\n  want.map lists blocks that are to be read: take the mapfile that ddrescue wrote of p.img\n
+refused udfsalvage: input 2: mapfile line 2: blocks to read again, not a pass\n  want.map lists blocks to read: use the mapfile that ddrescue wrote for p.img\n
 
 $ extract --last 600 --to out --ddrescue p.img want.map
 refused udfsalvage: input 1: mapfile line 2: blocks to read again, not a pass\n

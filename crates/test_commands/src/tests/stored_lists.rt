@@ -1,4 +1,4 @@
-//! `list` and `report` of regular files, of which no block is held: what it prints, what it reads, and what an input does that cannot be read.
+//! `list`, `report`, `summary` and `page` of regular files, of which no block is held: what is printed, what is read, and what an input does that cannot be read.
 
 use crate::tests::check;
 use std::test::Fail;
@@ -117,6 +117,21 @@ inputs-fail 4152
 $ report -v --last 600 disc.tab
 done 1 UDFREPORT1 last 600\nknown 1 conflict 0\nvolume holes 32 48\nreread 32 unknown\nreread 48 unknown\nend\n
 remarked the volume does not open: blocks 32 and 48 are needed\nwhether the guarantee holds is not known: an input could not be read again\n
+
+= a_device_that_fails_in_the_middle_of_a_summary_or_a_page
+# The anchor is read for the report, for whether the guarantee holds, and for what is counted, before anything is printed; the page is begun before it is counted.
+at 256
+
+some 0 6200
+inputs-fail «n»
+$ summary --last 600 disc.tab
+refused udfsalvage: input 1: fault 8 Io at record 0\n
+
+some 0 6200
+inputs-fail «n»
+$ page --last 600 --out p.html disc.tab
+refused udfsalvage: input 1: fault 8 Io at record 0\n
+files 1
 
 = the_same_report_of_files_and_devices
 # What is in `dev/` is a device: then the blocks are held.

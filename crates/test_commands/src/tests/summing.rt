@@ -17,7 +17,7 @@ done 1 TEST   UDF 1.50, type 1   601 blocks, 1.2 MB\n1 file is complete, 1 damag
 
 but 256 344 600
 $ summary --last 600 disc.tab
-done 1 does not open: blocks 256, 344 and 600 are needed\nGuarantee  nothing seen contradicts the standard;\n           3 blocks that could are not known\nDisc       598 known   3 not known   0 in conflict\n           3 of these are needed, in 3 places\nNext       udfsalvage reread --last 600 --group 16 --mapfile want.map disc.tab\n           ddrescue -d -r3 -b2048 -m want.map /dev/sr0 p598.img p598.map\n           udfsalvage merge --out disc.tab disc.tab --ddrescue p598.img p598.map\n
+done 1 does not open: blocks 256, 344 and 600 are needed\nGuarantee  nothing seen contradicts the standard;\n           3 unknown blocks could\nDisc       598 known   3 not known   0 in conflict\n           3 of these are needed, in 3 places\nNext       udfsalvage reread --last 600 --group 16 --mapfile want.map disc.tab\n           ddrescue -d -r3 -b2048 -m want.map /dev/sr0 p598.img p598.map\n           udfsalvage merge --out disc.tab disc.tab --ddrescue p598.img p598.map\n
 
 = what_to_do_next
 # A block in conflict that is needed has to be forgotten first; the rules are kept in what is suggested; and a volume that the strict rules refuse for its revision is read by the wide ones.
@@ -83,15 +83,15 @@ done 1 «HEAD»1 file is complete, 1 damaged;\n2 blocks are worth reading again\
 
 but 275
 $ summary --last 600 disc.tab
-done 1 «HEAD»1 file is complete, 1 could not be looked at;\nat least 1 block is worth reading again\nFiles      1 whole (2 B)\n           1 not yet known: a file or a whole folder\nFolders    1 whole\nGuarantee  nothing seen contradicts the standard;\n           1 block that could is not known\nDisc       600 known   1 not known   0 in conflict\n           1 of these is needed, in 1 place\nUnread     1 entry, a file or a whole folder of unknown size:\n           /A\n«P600»
+done 1 «HEAD»1 file is complete, 1 could not be looked at;\nat least 1 block is worth reading again\nFiles      1 whole (2 B)\n           1 not yet known: a file or a whole folder\nFolders    1 whole\nGuarantee  nothing seen contradicts the standard;\n           1 unknown block could\nDisc       600 known   1 not known   0 in conflict\n           1 of these is needed, in 1 place\nUnread     1 entry, a file or a whole folder of unknown size:\n           /A\n«P600»
 
 but 274
 $ summary --last 600 disc.tab
-done 1 «HEAD»No file is complete,\n1 folder may lack names;\nat least 1 block is worth reading again\nFiles      0 whole (0 B)\nFolders    0 whole   1 torn\n           names may be missing in /\nNo name    2 whole files with data, 0 empty: extract --lost lost\nGuarantee  nothing seen contradicts the standard;\n           1 block that could is not known\nDisc       600 known   1 not known   0 in conflict\n           1 of these is needed, in 1 place\n«P600»
+done 1 «HEAD»No file is complete,\nnames may be missing in 1 folder;\nat least 1 block is worth reading again\nFiles      0 whole (0 B)\nFolders    0 whole   1 torn\n           names may be missing in /\nDeleted    2 entries\nGuarantee  nothing seen contradicts the standard;\n           1 unknown block could\nDisc       600 known   1 not known   0 in conflict\n           1 of these is needed, in 1 place\n«P600»
 
 but 272
 $ summary --last 600 disc.tab
-done 1 does not open: block 272 is needed\nGuarantee  nothing seen contradicts the standard;\n           1 block that could is not known\nDisc       600 known   1 not known   0 in conflict\n           1 of these is needed, in 1 place\n«P600»
+done 1 does not open: block 272 is needed\nDeleted    3 entries\nGuarantee  nothing seen contradicts the standard;\n           1 unknown block could\nDisc       600 known   1 not known   0 in conflict\n           1 of these is needed, in 1 place\n«P600»
 
 = what_else_is_counted
 # A folder that lies in itself, a node with a fault, a block in conflict that no file needs, and an empty file of type 0 beside one of type 249, which the wide
@@ -220,14 +220,14 @@ out-has \nGuarantee  does not hold: two entries have the same path:\n           
 disc blank
 but
 $ summary --last 600 disc.tab
-out does not open: there is no anchor\nGuarantee  does not hold: the volume does not open:\n           there is no anchor\nDisc       601 known   0 not known   0 in conflict\nNext       no block to read again helps:\n           man udfsalvage-errors says what this fault means\n
+out does not open: there is no anchor\nGuarantee  does not hold: the volume does not open:\n           there is no anchor\nDisc       601 known   0 not known   0 in conflict\nNext       Reading blocks again will not help:\n           man udfsalvage-errors explains this fault\n
 
 disc sparable
 write 32 445 *UDF Virtual Partition\0
 write 48 445 *UDF Virtual Partition\0
 but
 $ summary --last 600 disc.tab
-out-begins does not open: a partition map is of a kind that is not read, such as that of write-once discs (VAT) or of metadata partitions\n
+out-begins does not open: a partition map is of a kind that cannot be read, such as that of write-once discs (VAT) or metadata partitions\n
 
 disc sparable
 but
@@ -264,6 +264,36 @@ also 278 01
 $ summary --last 600 disc.tab
 out-has 1 file is complete, 1 damaged;\n
 out-has Torn       81.9 %  /A   4.1 kB of 5.0 kB lost\n
+
+= what_is_lost_is_counted
+# The folder at 10 has the files A, of 5,000 bytes, and B, of 2. All link counts are 1. The root's body is not read, then also a block of A, then the folder's body.
+# Last the file set is not read, and the root is a lost folder too.
+directory 1 D=10
+directory 10 A=3 B=4
+write 273 48 \x01
+write 282 48 \x01
+write 275 48 \x01
+write 276 48 \x01
+
+but 274
+$ summary --last 600 disc.tab
+out-has \nLost       1 folder with 2 files whole (5.0 kB)\n           what is whole of these: extract --lost lost\nGuarantee
+
+but 274 278
+$ summary --last 600 disc.tab
+out-has \nLost       1 folder with 1 file whole (2 B), 1 torn\n           what is whole of these: extract --lost lost\nGuarantee
+
+but 274 283
+$ summary --last 600 disc.tab
+out-has \nLost       1 folder with 0 files whole (0 B)\n           2 files without a folder\n           what is whole of these: extract --lost lost\nGuarantee
+
+but 272
+$ summary --last 600 disc.tab
+out-begins does not open: block 272 is needed\nLost       2 folders with 2 files whole (5.0 kB)\n           what is whole of these: extract --lost lost\nGuarantee
+
+but
+$ summary --last 600 disc.tab
+out-lines 0 Lost
 
 = a_summary_that_cannot_be_printed
 but 278
@@ -307,7 +337,7 @@ write 292 176 \xb8\x0b\0\0\x08
 
 but 278 281
 $ summary --last 600 disc.tab
-out TEST   UDF 1.50, type 1   601 blocks, 1.2 MB\nNo file is complete, 4 damaged;\n2 blocks are worth reading again\nFiles      0 whole (0 B)\n           4 torn (7.1 kB of 18.0 kB lost)\nFolders    1 whole\nNo name    1 whole file with data, 0 empty: extract --lost lost\nGuarantee  holds: nothing on this disc contradicts the standard\nDisc       599 known   2 not known   0 in conflict\n           2 of these are needed, in 2 places\nTorn       41.0 %  /a      2.0 kB of 5.0 kB lost\n           41.0 %  /b      2.0 kB of 5.0 kB lost\n           41.0 %  /日本   2.0 kB of 5.0 kB lost\n           31.7 %  /c       952 B of 3.0 kB lost\nNext       udfsalvage reread --last 600 --group 16 --mapfile want.map disc.tab\n           ddrescue -d -r3 -b2048 -m want.map /dev/sr0 p599.img p599.map\n           udfsalvage merge --out disc.tab disc.tab --ddrescue p599.img p599.map\n
+out TEST   UDF 1.50, type 1   601 blocks, 1.2 MB\nNo file is complete, 4 damaged;\n2 blocks are worth reading again\nFiles      0 whole (0 B)\n           4 torn (7.1 kB of 18.0 kB lost)\nFolders    1 whole\nDeleted    1 entry\nGuarantee  holds: nothing on this disc contradicts the standard\nDisc       599 known   2 not known   0 in conflict\n           2 of these are needed, in 2 places\nTorn       41.0 %  /a      2.0 kB of 5.0 kB lost\n           41.0 %  /b      2.0 kB of 5.0 kB lost\n           41.0 %  /日本   2.0 kB of 5.0 kB lost\n           31.7 %  /c       952 B of 3.0 kB lost\nNext       udfsalvage reread --last 600 --group 16 --mapfile want.map disc.tab\n           ddrescue -d -r3 -b2048 -m want.map /dev/sr0 p599.img p599.map\n           udfsalvage merge --out disc.tab disc.tab --ddrescue p599.img p599.map\n
 
 = no_more_than_twenty_torn_files
 directory 1 v=3 u=3 t=3 s=3 r=3 q=3 p=3 o=3 n=3 m=3 l=3 k=3 j=3 i=3 h=3 g=3 f=3 e=3 d=3 c=3 b=3 a=3

@@ -126,19 +126,23 @@ $ extract --last 600 --to out --unnamed m --manifest m disc.tab
 
 $ extract --last 600 --to out --unnamed out --manifest m disc.tab
 
+$ extract --last 600 --to out --unnamed absent/lost disc.tab
+
 = a_folder_that_can_not_be_made
-# Where it can not be made then, the other files are written.
+# Where it can not be made then, the other files are written: two calls make their folder and its name durable, two write each file, one syncs the names.
 but
 then status 2
 then out written /A\nwritten /B\n
 then survives out/A text «2048*a»«2048*b»«904*c»
 then files 3
 
-$ extract --last 600 --to out --unnamed absent/lost disc.tab
+calls-fail 8 8
+$ extract --last 600 --to out --unnamed lost disc.tab
 error udfsalvage: cannot make the folder\n
 
-$ extract -v --last 600 --to out --unnamed absent/lost disc.tab
-error udfsalvage: cannot make the folder\n  absent/lost: the system does not say why; the files that have a name are written\n
+calls-fail 8 8
+$ extract -v --last 600 --to out --unnamed lost disc.tab
+error udfsalvage: cannot make the folder\n  lost: the system does not say why; the files that have names were written\n
 
 = a_device_that_fails
 but 274

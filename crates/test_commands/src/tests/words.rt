@@ -13,31 +13,31 @@ then status 0
 then error
 
 $ --help
-out-begins Salvages scratched rewritable UDF discs
+out-begins Recovers files from scratched rewritable UDF discs
 out-has merge
 
 $ -h
-out-begins Salvages scratched rewritable UDF discs
+out-begins Recovers files from scratched rewritable UDF discs
 out-has merge
 
 $ help merge
-out-begins Joins readings and table files into one table file
+out-begins Joins passes over a disc into one table file
 out-has --out <FILE>
 
 $ merge --help
-out-begins Joins readings and table files into one table file
+out-begins Joins passes over a disc into one table file
 out-has --v1
 
 $ merge --help
-out-begins Joins readings and table files into one table file
+out-begins Joins passes over a disc into one table file
 out-has -o, --out <FILE>
 
 $ merge --help
-out-begins Joins readings and table files into one table file
+out-begins Joins passes over a disc into one table file
 out-has --force
 
 $ merge --help
-out-begins Joins readings and table files into one table file
+out-begins Joins passes over a disc into one table file
 out-has <IN>...
 
 $ report --help

@@ -1,16 +1,15 @@
 //! The page of a sample volume, over a sink that fails.
 
+use super::stores::judged;
 use crate::tests::{assert_case, assert_same_in};
 use std::io;
 use std::io::Write;
 use std::test::Fail;
-use udfs_lawfulness::lawfulness;
 use udfs_overview::Given;
 use udfs_page::{Called, write_page};
 use udfs_reading::Writer;
 use udfs_salvage::{RunError, survey_volume};
 use udfs_samples::{Disc, LAST};
-use udfs_volume::Profile;
 
 /// The arguments of `page --last 600 --out p.html disc.tab`.
 const GIVEN: Given<'static> = Given {
@@ -57,7 +56,7 @@ fn a_sink_that_fails_is_told(rt: HostRuntime) -> Result<(), Fail> {
     let alloc = rt.alloc();
     let table = Disc::type1(alloc)?.known_but(alloc, &[278])?;
     let survey = survey_volume(alloc, &table, LAST)?;
-    let answer = lawfulness(alloc, &table, LAST, Profile::Strict)?;
+    let answer = judged(alloc, &survey)?;
     let mut text = Writer::new(Vec::new(alloc));
     write_page(alloc, &GIVEN, &CALLED, &survey, &answer, &mut text)?;
     let whole = text.into_inner();

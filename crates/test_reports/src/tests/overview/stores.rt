@@ -5,11 +5,16 @@ ghost use Rattle.udfs_lattice.specs.Tables.{state_of};
 
 use super::list::{ALL, UNREAD};
 use crate::tests::{assert_case, assert_text};
-use std::alloc::Global;
+use std::alloc::{AllocError, Global};
 use std::test::Fail;
 use udfs_lattice::{BlockStore, BlockTable, Fact, ReadFault};
-use udfs_overview::{write_list_by, write_listing_by};
-use udfs_reading::Writer;
+use udfs_lawfulness::lawfulness;
+use udfs_overview::{
+    Given, Verdict, tally_lost, write_list_by, write_listing_by, write_summary, write_summary_by,
+    write_summary_json, write_summary_json_by,
+};
+use udfs_page::{Called, write_page, write_page_by};
+use udfs_reading::{Sink, Writer};
 use udfs_salvage::{
     Listing, PrintError, ReportStore, Survey, list_volume_by, survey_volume, write_json,
     write_json_by, write_survey, write_survey_by,
@@ -144,13 +149,74 @@ fn a_failed_read_ends_the_list(rt: HostRuntime) -> Result<(), Fail> {
     Ok(())
 }
 
-/// The report of a table's survey where one block can not be read any more, as text or as JSON, and what came of it.
+/// What is printed of a survey.
+#[derive(Clone, Copy, Debug, PartialEq, Eq)]
+enum Shown {
+    Report,
+    ReportJson,
+    Summary,
+    SummaryJson,
+    Page,
+}
+
+/// All of them.
+const SHOWN: [Shown; 5] = [
+    Shown::Report,
+    Shown::ReportJson,
+    Shown::Summary,
+    Shown::SummaryJson,
+    Shown::Page,
+];
+
+/// The arguments of `summary --last 600 disc.tab`.
+const GIVEN: Given<'static> = Given {
+    files: &["disc.tab"],
+    parts: &[],
+    size: None,
+    force: false,
+};
+
+/// The page has no title.
+const CALLED: Called<'static> = Called {
+    title: None,
+    out: "p.html",
+};
+
+/// Whether the volume of a table's survey is lawful, and what is lost of it.
+pub(crate) fn judged(alloc: Global, survey: &Survey<'_>) -> Result<Verdict, Fail> {
+    let lawfulness = lawfulness(alloc, survey.table, LAST, Profile::Strict)?;
+    match tally_lost(alloc, survey) {
+        Ok(lost) => Ok(Verdict { lawfulness, lost }),
+        Err(_) => Err(Fail::from(AllocError)),
+    }
+}
+
+/// Prints it by any store.
+fn print_by<B: ReportStore, W: Sink>(
+    alloc: Global,
+    survey: &Survey<'_, B>,
+    answer: &Verdict,
+    shown: Shown,
+    sink: &mut W,
+) -> Result<(), PrintError> {
+    match shown {
+        Shown::Report => write_survey_by(alloc, survey, sink),
+        Shown::ReportJson => write_json_by(alloc, survey, sink),
+        Shown::Summary => write_summary_by(alloc, &GIVEN, survey, answer, sink),
+        Shown::SummaryJson => write_summary_json_by(alloc, survey, answer, sink),
+        Shown::Page => write_page_by(alloc, &GIVEN, &CALLED, survey, answer, sink),
+    }
+}
+
+/// What is printed of a table's survey where one block can not be read any more, and what came of it.
 fn reported(
     alloc: Global,
     table: &BlockTable,
     broken: u32,
-    json: bool,
+    shown: Shown,
 ) -> Result<(String, Result<(), PrintError>), Fail> {
+    let survey = survey_volume(alloc, table, LAST)?;
+    let answer = judged(alloc, &survey)?;
     let Survey {
         last,
         profile,
@@ -159,7 +225,7 @@ fn reported(
         unnamed,
         reread,
         ..
-    } = survey_volume(alloc, table, LAST)?;
+    } = survey;
     let blocks = Copied { table, broken };
     let survey = Survey {
         table: &blocks,
@@ -171,40 +237,43 @@ fn reported(
         reread,
     };
     let mut text = Writer::new(Vec::new(alloc));
-    let outcome = if json {
-        write_json_by(alloc, &survey, &mut text)
-    } else {
-        write_survey_by(alloc, &survey, &mut text)
-    };
+    let outcome = print_by(alloc, &survey, &answer, shown, &mut text);
     Ok((String::from_utf8(text.into_inner())?, outcome))
 }
 
-/// The report of a table's survey, as text or as JSON.
-fn told(alloc: Global, table: &BlockTable, json: bool) -> Result<String, Fail> {
+/// What is printed of a table's survey.
+fn told(alloc: Global, table: &BlockTable, shown: Shown) -> Result<String, Fail> {
     let survey = survey_volume(alloc, table, LAST)?;
+    let answer = judged(alloc, &survey)?;
     let mut text = Writer::new(Vec::new(alloc));
-    if json {
-        write_json(alloc, &survey, &mut text)?;
-    } else {
-        write_survey(alloc, &survey, &mut text)?;
+    match shown {
+        Shown::Report => write_survey(alloc, &survey, &mut text)?,
+        Shown::ReportJson => write_json(alloc, &survey, &mut text)?,
+        Shown::Summary => write_summary(alloc, &GIVEN, &survey, &answer, &mut text)?,
+        Shown::SummaryJson => write_summary_json(alloc, &survey, &answer, &mut text)?,
+        Shown::Page => write_page(alloc, &GIVEN, &CALLED, &survey, &answer, &mut text)?,
     }
     Ok(String::from_utf8(text.into_inner())?)
 }
 
-/// A report is printed of blocks that are copied as of blocks that are lent. The entry of the torn file A, block 275, is read for what it lacks: where it can
-/// not be read any more, a beginning of the report is out, and that is told as such.
+/// A report, a summary and a page are printed of blocks that are copied as of blocks that are lent. The entry of the torn file A, block 275, is read for what it
+/// lacks: where it can not be read any more, a beginning is out, and that is told as such.
 #[test]
 fn reports_of_stores_are_printed(rt: HostRuntime) -> Result<(), Fail> {
     let alloc = rt.alloc();
     let table = Disc::type1(alloc)?.known_but(alloc, &[278])?;
-    for json in [false, true] {
-        let expected = told(alloc, &table, json)?;
-        let (text, outcome) = reported(alloc, &table, u32::MAX, json)?;
-        assert_case(&rt, outcome == Ok(()), json);
+    for &shown in &SHOWN {
+        let expected = told(alloc, &table, shown)?;
+        let (text, outcome) = reported(alloc, &table, u32::MAX, shown)?;
+        assert_case(&rt, outcome == Ok(()), shown as u8);
         assert_text(&rt, text, expected.as_str());
-        let (text, outcome) = reported(alloc, &table, 275, json)?;
-        assert_case(&rt, outcome == Err(PrintError::Unread), json);
-        assert_case(&rt, expected.as_str().starts_with(text.as_str()), json);
+        let (text, outcome) = reported(alloc, &table, 275, shown)?;
+        assert_case(&rt, outcome == Err(PrintError::Unread), shown as u8);
+        assert_case(
+            &rt,
+            expected.as_str().starts_with(text.as_str()),
+            shown as u8,
+        );
     }
     Ok(())
 }

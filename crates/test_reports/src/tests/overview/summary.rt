@@ -3,8 +3,8 @@
 use crate::tests::assert_same;
 use std::test::Fail;
 use udfs_overview::{
-    DiscTally, Tally, UnnamedTally, push_disc, push_files, push_left_out, push_others, push_spares,
-    push_streams, push_unnamed,
+    DiscTally, LostTally, Tally, push_disc, push_files, push_left_out, push_lost, push_others,
+    push_spares, push_streams,
 };
 
 /// The line of files that are left out, and none where there are none.
@@ -50,19 +50,25 @@ fn lines(rt: HostRuntime) -> Result<(), Fail> {
         needed_in_conflict: 0,
         runs: 43,
     };
-    let unnamed = UnnamedTally {
-        with_data: 75,
-        empty: 159,
+    let lost = LostTally {
+        too_many: false,
+        folders: 51,
+        whole_files: 414,
+        whole_bytes: 89_100_000,
+        torn_files: 3,
+        files: 12,
+        with_data: 10,
+        deleted: 1301,
     };
     let mut text = String::new(rt.alloc());
     push_files(&mut text, &tally)?;
     push_others(&mut text, &tally)?;
-    push_unnamed(&mut text, &unnamed)?;
+    push_lost(&mut text, &lost)?;
     push_disc(&mut text, &disc)?;
     assert_same(
         &rt,
         text.as_str(),
-        "Files      287 whole (888.8 kB)\n           15 torn (at least 149.7 kB of 1.7 MB lost)\n           30 not yet known: files or whole folders\nOther      7 links and devices\nFaults     2 with faults\nNo name    75 whole files with data, 159 empty: extract --lost lost\nDisc       4,639 known   481 not known   0 in conflict\n           108 of these are needed, in 43 places\n",
+        "Files      287 whole (888.8 kB)\n           15 torn (at least 149.7 kB of 1.7 MB lost)\n           30 not yet known: files or whole folders\nOther      7 links and devices\nFaults     2 with faults\nLost       51 folders with 414 files whole (89.1 MB), 3 torn\n           12 files without a folder\n           what is whole of these: extract --lost lost\nDeleted    1,301 entries\nDisc       4,639 known   481 not known   0 in conflict\n           108 of these are needed, in 43 places\n",
     );
     Ok(())
 }
@@ -93,20 +99,86 @@ fn lines_of_nothing(rt: HostRuntime) -> Result<(), Fail> {
         needed_in_conflict: 0,
         runs: 0,
     };
-    let unnamed = UnnamedTally {
+    let lost = LostTally {
+        too_many: false,
+        folders: 0,
+        whole_files: 0,
+        whole_bytes: 0,
+        torn_files: 0,
+        files: 0,
         with_data: 0,
-        empty: 0,
+        deleted: 0,
     };
     let mut text = String::new(rt.alloc());
     push_files(&mut text, &tally)?;
     push_others(&mut text, &tally)?;
-    push_unnamed(&mut text, &unnamed)?;
+    push_lost(&mut text, &lost)?;
     push_disc(&mut text, &disc)?;
     assert_same(
         &rt,
         text.as_str(),
         "Files      0 whole (0 B)\nDisc       0 known   5,120 not known   0 in conflict\n",
     );
+    Ok(())
+}
+
+/// No command is named that would write no file, and where there is too much to follow nothing is counted.
+#[test]
+fn lines_of_what_is_lost(rt: HostRuntime) -> Result<(), Fail> {
+    let none = LostTally {
+        too_many: false,
+        folders: 0,
+        whole_files: 0,
+        whole_bytes: 0,
+        torn_files: 0,
+        files: 0,
+        with_data: 0,
+        deleted: 0,
+    };
+    let cases = [
+        (
+            LostTally {
+                folders: 1,
+                deleted: 1,
+                ..none
+            },
+            "Lost       1 folder with 0 files whole (0 B)\nDeleted    1 entry\n",
+        ),
+        (
+            LostTally {
+                folders: 2,
+                whole_files: 1,
+                whole_bytes: 999,
+                ..none
+            },
+            "Lost       2 folders with 1 file whole (999 B)\n           what is whole of these: extract --lost lost\n",
+        ),
+        (
+            LostTally {
+                files: 1,
+                with_data: 1,
+                ..none
+            },
+            "Lost       1 file without a folder\n           what is whole of these: extract --lost lost\n",
+        ),
+        (
+            LostTally { files: 2, ..none },
+            "Lost       2 files without a folder\n",
+        ),
+        (
+            LostTally {
+                too_many: true,
+                deleted: 2,
+                ..none
+            },
+            "Lost       too many folders and files to follow\nDeleted    2 entries\n",
+        ),
+    ];
+    for (tally, expected) in cases {
+        let mut text = String::new(rt.alloc());
+        push_lost(&mut text, &tally)?;
+        assert_same(&rt, text.as_str(), expected);
+    }
     Ok(())
 }
 
@@ -121,7 +193,7 @@ fn lines_of_streams_and_of_sparing_copies(rt: HostRuntime) -> Result<(), Fail> {
     assert_same(
         &rt,
         text.as_str(),
-        "Streams    1,234 files with named streams, which are not looked at\nSpares     sparing copies disagree: the volume is not lawful, and files in spared packets may be old\n",
+        "Streams    1,234 files with named streams, which are ignored\nSpares     sparing copies disagree: the volume is not lawful, and files in spared packets may be old\n",
     );
     Ok(())
 }

@@ -13,6 +13,9 @@ returns-in-Ok-index_all-clause-index g c =
     indexed_of _ _ c.args.volume.now _ have c.args.disc.now.stored.items c.args.disc.now.last _ (any_told g.F.Stored.Stored.content) c.requires
     (rw c.as_slice-paths.ensures.value at (rw c.as_slice.ensures.value at (c.in-Ok-index_all.ensures.table c.in-Ok.ensures)))
 
+pub returns-in-Ok-index_all-clause-taken : goal.returns-in-Ok-index_all-clause-taken
+returns-in-Ok-index_all-clause-taken g c = rw c.as_slice-paths.ensures.value at (rw c.as_slice.ensures.value at (c.in-Ok-index_all.ensures.table c.in-Ok.ensures))
+
 pub returns-clause-refused : goal.returns-clause-refused
 returns-clause-refused g c =
     let have = sources_for_any g.F.Input.Source.remaining g.F.Image.Image.bytes g.F.Stored.Stored.content g.met.F.Files.stored_as_input g.met.F.Files.stored_as_image in

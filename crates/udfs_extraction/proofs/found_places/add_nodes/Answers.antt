@@ -1,4 +1,4 @@
-use Rattle.std.proofs.Common.{◌≡◌, rules}
+use Rattle.std.proofs.Common.{rules}
 use Rattle.udfs_space.specs.Views.{view_now}
 use Rattle.udfs_lost.specs.FoundNames.{torn_folders}
 use Rattle.udfs_extraction.specs.Seats.{IsFoundAmong}

@@ -1,4 +1,4 @@
-use Rattle.std.proofs.Common.{◌≡◌, ◌<◌, ◌≤◌, ◌∙◌, ℕ, length, List, Some, ap, arith, inl, refl, rules, slice_get, string_bytes, subst, sym, ⊎_elim}
+use Rattle.std.proofs.Common.{◌≡◌, ◌<◌, ◌≤◌, ◌∙◌, length, Some, ap, arith, refl, rules, slice_get, string_bytes, subst, sym, ⊎_elim}
 use Rattle.std.proofs.lemmas.Bool.{cases_lt}
 use Rattle.udfs_files.specs.Disk.{folder_of}
 use Rattle.udfs_extraction.specs.declared.naming.Put.{Put}

@@ -1,4 +1,4 @@
-use Rattle.std.proofs.Common.{rules, ◌≡◌, ◌⊎◌, ◌+◌, ◌-◌, ◌++◌, ◌∷◌, ◌≤◌, ℕ, suc, List, [], refl, sym, ◌∙◌, ap, subst, arith, length, length-append, drop, map, Bor, false, if◌then◌else◌}
+use Rattle.std.proofs.Common.{rules, ◌≡◌, ◌⊎◌, ◌+◌, ◌++◌, ◌≤◌, ℕ, List, [], refl, sym, ◌∙◌, ap, subst, arith, length, length-append, drop, map, Bor, false, if◌then◌else◌}
 use Rattle.std.proofs.lemmas.List.{length-map}
 use Rattle.udfs_files.specs.Disk.{Fails, SinkFails}
 use Rattle.udfs_lattice.specs.Tables.{state_of}
@@ -7,7 +7,7 @@ use Rattle.udfs_salvage.specs.Found.{volume_now}
 use Rattle.udfs_salvage.specs.Listings.{full_in, listing_now}
 use Rattle.udfs_extraction.specs.Extracting.{IsDone, IsPutAt, Puts, TellsLines, all_good, node_line}
 use Rattle.udfs_extraction.specs.Manifests.{IsManifest, notes_text}
-use Rattle.udfs_extraction.specs.ShortNames.{IsWay, placed}
+use Rattle.udfs_extraction.specs.ShortNames.{placed}
 use Rattle.udfs_extraction.specs.declared.nodes.Fate.{Fate}
 use Rattle.udfs_extraction.proofs.ManifestLemmas.{lines_still}
 use Rattle.udfs_extraction.proofs.PutNodes.{all_behind, done_still, each_few, each_map}

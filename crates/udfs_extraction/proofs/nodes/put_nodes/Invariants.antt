@@ -1,5 +1,5 @@
 -- Each node so far has its fate, and its line where the output still takes them; what was written stays, and has its line in the manifest.
-use Rattle.std.proofs.Common.{◌≡◌, ◌≤◌, ◌<◌, ◌+◌, ◌-◌, ℕ, List, Bor, true, length, map}
+use Rattle.std.proofs.Common.{◌≡◌, ◌<◌, ◌+◌, ◌-◌, ℕ, List, Bor, true, length, map}
 use Rattle.udfs_salvage.specs.Listings.{listing_now}
 use Rattle.udfs_extraction.specs.Extracting.{IsDone, IsPutAt, Puts, all_good, node_line}
 use Rattle.udfs_extraction.specs.Manifests.{IsManifest, notes_text}

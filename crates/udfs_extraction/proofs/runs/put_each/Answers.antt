@@ -1,8 +1,6 @@
-use Rattle.std.proofs.Common.{◌≡◌, ◌≢◌, ◌∙◌, ◌+◌, ◌-◌, ◌<◌, ◌≤◌, ◌++◌, ◌∷◌, ℕ, [], Bor, List, Some, None, ap, arith, length, length-append, map, refl, rules, slice_get, string_bytes, subst, sym, ⊎_elim}
-use Rattle.udfs_lattice.specs.Tables.{state_of}
-use Rattle.udfs_salvage.specs.Found.{volume_now}
-use Rattle.udfs_salvage.specs.Listings.{full_in, listing_now}
-use Rattle.udfs_extraction.specs.Runs.{AreFresh, AreHeld, IsHeld}
+use Rattle.std.proofs.Common.{◌≡◌, ◌∙◌, ◌+◌, ◌-◌, ◌<◌, ◌≤◌, ◌++◌, ◌∷◌, ℕ, [], Bor, List, Some, None, ap, arith, length, length-append, map, rules, slice_get, subst, sym}
+use Rattle.udfs_salvage.specs.Listings.{listing_now}
+use Rattle.udfs_extraction.specs.Runs.{AreFresh, AreHeld}
 use Rattle.udfs_extraction.specs.ShortNames.{IsWay}
 use Rattle.udfs_extraction.specs.declared.naming.Put.{Put}
 use Rattle.udfs_extraction.proofs.RunLemmas.{are_held_more, are_held_still, are_fresh_more, run_nothing, run_on}

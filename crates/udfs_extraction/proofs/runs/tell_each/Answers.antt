@@ -1,4 +1,4 @@
-use Rattle.std.proofs.Common.{◌≡◌, ◌≢◌, ◌∙◌, ◌+◌, ◌-◌, ◌<◌, ◌++◌, ◌∷◌, ℕ, Bool, [], Bor, List, Option, Some, ap, append_assoc, arith, drop, false, true, length, length-append, map, refl, rules, slice_get, string_bytes, subst, sym, if◌then◌else◌}
+use Rattle.std.proofs.Common.{◌≡◌, ◌≢◌, ◌∙◌, ◌+◌, ◌<◌, ◌++◌, ◌∷◌, ℕ, [], Bor, List, Option, Some, ap, append_assoc, arith, drop, false, length, length-append, map, refl, rules, slice_get, string_bytes, subst, sym, if◌then◌else◌}
 use Rattle.std.proofs.lemmas.List.{append-nil, length-map}
 use Rattle.udfs_lattice.specs.Tables.{state_of}
 use Rattle.udfs_walk.specs.NodeFields.{NodeFields}

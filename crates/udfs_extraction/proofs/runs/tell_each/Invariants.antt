@@ -1,5 +1,5 @@
 -- What was held of each node of the run so far is told, as the files were before any was removed.
-use Rattle.std.proofs.Common.{◌≡◌, ◌≢◌, ◌+◌, ◌++◌, ℕ, Bool, Bor, List, true, false, drop, length, map, if◌then◌else◌}
+use Rattle.std.proofs.Common.{◌≡◌, ◌≢◌, ◌++◌, ℕ, Bool, Bor, List, true, false, drop, length, map, if◌then◌else◌}
 use Rattle.udfs_files.specs.Disk.{Goes}
 use Rattle.udfs_salvage.specs.Listings.{listing_now}
 use Rattle.udfs_salvage.specs.declared.extraction.Fill.{Fill}

@@ -10,13 +10,13 @@ pub returns-then-is_device : goal.returns-then-is_device
 returns-then-is_device g c = λ tells.
     let at = string_bytes c.loop.at in
     let is : IsDevice at = subst IsDevice c.as_str.ensures.value (c.is_device.ensures.0 c.if-is_device.true) in
-    led_device (g.C.Calls.log c.args.calls.now) (g.C.Calls.real c.args.calls.now) (g.C.Calls.in_place c.args.calls.now) at c.args.path.now _ refl refl (c.loop.invariant tells)
+    led_device (g.C.Calls.log c.args.calls.now) (g.C.Calls.real c.args.calls.now) (g.C.Calls.identity c.args.calls.now) (g.C.Calls.in_place c.args.calls.now) at c.args.path.now _ refl refl refl (c.loop.invariant tells)
     (g.met.C.Calls.device_leads tells c.args.calls.now at is)
 
 pub returns-in-Ok-None : goal.returns-in-Ok-None
 returns-in-Ok-None g c =
     let at = c.as_str-in-Ok-None.result.now in
-    led_all (g.C.Calls.log c.args.calls.now) (g.C.Calls.real c.args.calls.now) (g.C.Calls.in_place c.args.calls.now) at c.args.path.now g.C.Calls.tells (g.C.Calls.link_at c.args.calls.now at) c.settled.result
+    led_all (g.C.Calls.log c.args.calls.now) (g.C.Calls.real c.args.calls.now) (g.C.Calls.identity c.args.calls.now) (g.C.Calls.in_place c.args.calls.now) at c.args.path.now g.C.Calls.tells (g.C.Calls.link_at c.args.calls.now at) c.settled.result
     (λ tells. ap (g.C.Calls.real c.args.calls.now) c.as_str-in-Ok-None.ensures.value ∙ c.loop.invariant tells)
     (λ tells. ap (g.C.Calls.link_at c.args.calls.now) (c.as_str-in-Ok-None.ensures.value ∙ sym c.as_str-in-loop.ensures.value)
     ∙ none_found (g.C.Calls.link_at c.args.calls.now c.as_str-in-loop.result.now) c.in-Ok-None.field-0 c.in-Ok-None.field-0-is

@@ -1,10 +1,10 @@
 use Rattle.std.proofs.Common.{◌-◌}
-use Rattle.udfs_space.specs.Views.{view_now}
+use Rattle.udfs_space.specs.Views.{view_by}
 use Rattle.udfs_lost.proofs.MetLemmas.{IsExploring}
 use Rattle.udfs_lost.proofs.search.explore.Given as goal
 
 abbrev pub invariant-search : goal.invariant-search
-invariant-search l = IsExploring (view_now l.view) l.fn.met l.fn.icb l.met l.at
+invariant-search g l = g.B.BlockStore.tells → IsExploring (view_by g.B.BlockStore.states l.view) l.fn.met l.fn.icb l.met l.at
 
 abbrev pub decreases-search : goal.decreases-search
-decreases-search l = 18446744073709551616 - l.at
+decreases-search g l = 18446744073709551616 - l.at

@@ -1,12 +1,12 @@
 use Rattle.std.proofs.Common.{◌≡◌, ◌≤◌, take}
 use Rattle.std.specs.Prelude.{count_by}
-use Rattle.udfs_space.specs.Views.{view_now}
+use Rattle.udfs_space.specs.Views.{view_by}
 use Rattle.udfs_overview.specs.MovedTags.{is_moved}
 use Rattle.udfs_overview.proofs.moved_tags.count_folders.Given as goal
 
 -- those so far, no more than nodes
 abbrev pub invariant-loop-node : goal.invariant-loop-node
-invariant-loop-node l = record {
-  value : l.count ≡ count_by (is_moved (view_now l.view)) (take l.node-index l.nodes);
+invariant-loop-node g l = record {
+  value : g.B.BlockStore.tells → l.count ≡ count_by (is_moved (view_by g.B.BlockStore.states l.view)) (take l.node-index l.nodes);
   fits : l.count ≤ l.node-index;
 }

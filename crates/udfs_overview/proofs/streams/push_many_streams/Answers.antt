@@ -7,4 +7,4 @@ use Rattle.udfs_overview.proofs.streams.push_many_streams.Goals as goal
 pub returns : goal.returns
 returns c =
     last_appended c.push_counted.result (string_bytes c.args.text.now) (string_bytes c.push_str.new.self) (string_bytes c.push_counted.new.text)
-    (codes "Streams    ") (counted c.args.files (codes " files with named streams, which are not looked at\n")) c.in_ok-push_str.ensures.bytes c.push_counted.ensures
+    (codes "Streams    ") (counted c.args.files (codes " files with named streams, which are ignored\n")) c.in_ok-push_str.ensures.bytes c.push_counted.ensures

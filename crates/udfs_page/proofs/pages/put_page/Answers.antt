@@ -1,34 +1,77 @@
-use Rattle.std.proofs.Common.{codes}
+use Rattle.std.proofs.Common.{◌∙◌, ◌++◌, ap, subst}
+use Rattle.std.specs.Prelude.{codes}
 use Rattle.std.specs.String.{string_bytes}
 use Rattle.std.proofs.lemmas.Result.{err_from_is_err_and}
-use Rattle.udfs_salvage.specs.Surveys.{survey_now}
+use Rattle.udfs_reading.specs.Writing.{Passed}
+use Rattle.udfs_salvage.specs.Printing.{Stopped}
+use Rattle.udfs_salvage.specs.StorePrinting.{leaves_as}
+use Rattle.udfs_salvage.specs.declared.errors.RunError.TheVariants.{OutOfMemory}
+use Rattle.udfs_salvage.specs.Surveys.{survey_by}
 use Rattle.udfs_overview.specs.Repeating.{given_now}
+use Rattle.udfs_page.specs.Arcs.{arcs_of}
 use Rattle.udfs_page.specs.Naming.{called_now}
 use Rattle.udfs_page.specs.Markups.{markup}
 use Rattle.udfs_page.specs.Pages.{page_html}
-use Rattle.udfs_page.proofs.Passing.{passed_pushed, passed_refused, pushed_passed, pushed_stopped, refused_first, stopped_before}
+use Rattle.udfs_page.proofs.PageParts.{page_of_counts}
+use Rattle.udfs_salvage.proofs.StoreAnswers.{states_same}
+use Rattle.udfs_page.proofs.Passing.{gave_up_first, passed_pushed, passed_refused, pushed_passed, pushed_stopped, refused_first, stopped_before}
 use Rattle.udfs_page.proofs.pages.put_page.Goals as goal
 
-pub returns-in_err-push_front : goal.returns-in_err-push_front
-returns-in_err-push_front g c =
+pub returns-in_err-counts-clause-printed : goal.returns-in_err-counts-clause-printed
+returns-in_err-counts-clause-printed g c told t holds =
     let p = err_from_is_err_and c.from_residual.result c.from_residual.ensures.1 in
     let s = c.args.survey.now in
-    rw (p.1, p.2) (refused_first _ (string_bytes c.args.text.now) (page_html (given_now c.args.given.now) (called_now c.args.called.now) s.profile s.table.now s.last (survey_now s) c.args.answer.now))
+    rw (p.1, p.2) (gave_up_first _ (string_bytes c.args.text.now) (page_html (given_now c.args.given.now) (called_now c.args.called.now) s.profile t s.last (survey_by g.B.BlockStore.states s) c.args.answer.now) c.in_err-counts.field-0.0)
 
-pub returns-in_err-put_about_files : goal.returns-in_err-put_about_files
-unfolding page_html
-returns-in_err-put_about_files g c =
+pub returns-in_err-marks-clause-printed : goal.returns-in_err-marks-clause-printed
+returns-in_err-marks-clause-printed g c told t holds =
+    let p = err_from_is_err_and c.from_residual-in_err-marks.result c.from_residual-in_err-marks.ensures.1 in
+    let s = c.args.survey.now in
+    rw (p.1, p.2) (refused_first _ (string_bytes c.args.text.now) (page_html (given_now c.args.given.now) (called_now c.args.called.now) s.profile t s.last (survey_by g.B.BlockStore.states s) c.args.answer.now))
+
+pub returns-in_err-push_front-clause-printed : goal.returns-in_err-push_front-clause-printed
+returns-in_err-push_front-clause-printed g c told t holds =
+    let p = err_from_is_err_and c.from_residual-in_err-push_front.result c.from_residual-in_err-push_front.ensures.1 in
+    let s = c.args.survey.now in
+    rw (p.1, p.2) (refused_first _ (string_bytes c.args.text.now) (page_html (given_now c.args.given.now) (called_now c.args.called.now) s.profile t s.last (survey_by g.B.BlockStore.states s) c.args.answer.now))
+
+pub returns-in_err-put_about_files-clause-printed : goal.returns-in_err-put_about_files-clause-printed
+returns-in_err-put_about_files-clause-printed g c told t holds =
     let W = g.W.Sink in
     let p = err_from_is_err_and c.from_residual-in_err-put_about_files.result c.from_residual-in_err-put_about_files.ensures.1 in
-    rw (p.1, p.2) (stopped_before _ _ _ _ (markup (codes "</body>\n</html>\n")) _ (pushed_stopped _ (W.stream c.put_about_files.new.sink) _ _ _ _ _ c.in_ok-push_front.ensures c.in_err-put_about_files.ensures))
+    let s = c.args.survey.now in
+    let M = g.B.BlockStore.states s.table.now in
+    let r = survey_by g.B.BlockStore.states s in
+    let n = c.in_ok-counts.counts in
+    let drawn = c.deref-2.ensures.value ∙ c.in_ok-marks.ensures.value told ∙ ap (λ ns. arcs_of M ns s.last) c.deref.ensures.value in
+    let page = page_of_counts (given_now c.args.given.now) (called_now c.args.called.now) s.profile M t s.last r c.args.answer.now n.figures c.deref-2.result.now n.torn.rows.items n.torn.count
+    (states_same M t (g.met.B.ReportStore.held s.table.now t holds)) (c.in_ok-counts.ensures.counted told t holds) drawn in
+    rw (p.1, p.2) (subst (λ x. Stopped (W.stream c.args.sink.now) (W.stream c.put_about_files.new.sink) (string_bytes c.args.text.now ++ x) (leaves_as c.in_err-put_about_files.field-0.0)) page
+    (stopped_before _ _ _ _ (markup (codes "</body>\n</html>\n")) _ (pushed_stopped _ (W.stream c.put_about_files.new.sink) _ _ _ _ _ c.in_ok-push_front.ensures (c.in_err-put_about_files.ensures.printed told))))
 
-pub returns-in_err-push_markup : goal.returns-in_err-push_markup
-unfolding page_html
-returns-in_err-push_markup g c =
+pub returns-in_err-push_markup-clause-printed : goal.returns-in_err-push_markup-clause-printed
+returns-in_err-push_markup-clause-printed g c told t holds =
+    let W = g.W.Sink in
     let p = err_from_is_err_and c.from_residual-in_err-push_markup.result c.from_residual-in_err-push_markup.ensures.1 in
-    rw (p.1, p.2) (passed_refused (markup (codes "</body>\n</html>\n")) (pushed_passed _ _ _ _ _ _ _ c.in_ok-push_front.ensures c.in_ok-put_about_files.ensures))
+    let s = c.args.survey.now in
+    let M = g.B.BlockStore.states s.table.now in
+    let r = survey_by g.B.BlockStore.states s in
+    let n = c.in_ok-counts.counts in
+    let drawn = c.deref-2.ensures.value ∙ c.in_ok-marks.ensures.value told ∙ ap (λ ns. arcs_of M ns s.last) c.deref.ensures.value in
+    let page = page_of_counts (given_now c.args.given.now) (called_now c.args.called.now) s.profile M t s.last r c.args.answer.now n.figures c.deref-2.result.now n.torn.rows.items n.torn.count
+    (states_same M t (g.met.B.ReportStore.held s.table.now t holds)) (c.in_ok-counts.ensures.counted told t holds) drawn in
+    rw (p.1, p.2) (subst (λ x. Stopped (W.stream c.args.sink.now) (W.stream c.put_about_files.new.sink) (string_bytes c.args.text.now ++ x) OutOfMemory) page
+    (passed_refused (markup (codes "</body>\n</html>\n")) (pushed_passed _ (W.stream c.put_about_files.new.sink) _ _ _ _ _ c.in_ok-push_front.ensures (c.in_ok-put_about_files.ensures.printed told))))
 
-pub returns : goal.returns
-unfolding page_html
-returns g c =
-    passed_pushed (markup (codes "</body>\n</html>\n")) (pushed_passed _ _ _ _ _ _ _ c.in_ok-push_front.ensures c.in_ok-put_about_files.ensures) c.in_ok-push_markup.ensures
+pub returns-clause-printed : goal.returns-clause-printed
+returns-clause-printed g c told t holds =
+    let W = g.W.Sink in
+    let s = c.args.survey.now in
+    let M = g.B.BlockStore.states s.table.now in
+    let r = survey_by g.B.BlockStore.states s in
+    let n = c.in_ok-counts.counts in
+    let drawn = c.deref-2.ensures.value ∙ c.in_ok-marks.ensures.value told ∙ ap (λ ns. arcs_of M ns s.last) c.deref.ensures.value in
+    let page = page_of_counts (given_now c.args.given.now) (called_now c.args.called.now) s.profile M t s.last r c.args.answer.now n.figures c.deref-2.result.now n.torn.rows.items n.torn.count
+    (states_same M t (g.met.B.ReportStore.held s.table.now t holds)) (c.in_ok-counts.ensures.counted told t holds) drawn in
+    subst (Passed (W.stream c.args.sink.now) (W.stream c.put_about_files.new.sink) (string_bytes c.args.text.now) (string_bytes c.push_markup.new.text)) page
+    (passed_pushed (markup (codes "</body>\n</html>\n")) (pushed_passed _ (W.stream c.put_about_files.new.sink) _ _ _ _ _ c.in_ok-push_front.ensures (c.in_ok-put_about_files.ensures.printed told)) c.in_ok-push_markup.ensures)

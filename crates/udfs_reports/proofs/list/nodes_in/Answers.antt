@@ -2,7 +2,8 @@ use Rattle.std.proofs.Common.{subst}
 use Rattle.udfs_lattice.specs.Volumes.{Blocks}
 use Rattle.udfs_salvage.specs.Headline.{HeadlineBy}
 use Rattle.udfs_salvage.specs.Listings.{listing_by}
-use Rattle.udfs_reports.proofs.StoreListings.{states_same, untold_by}
+use Rattle.udfs_reports.proofs.StoreListings.{untold_by}
+use Rattle.udfs_salvage.proofs.StoreAnswers.{states_same}
 use Rattle.udfs_reports.proofs.list.nodes_in.Goals as goal
 
 pub returns-in-Ok-clause-headline : goal.returns-in-Ok-clause-headline

@@ -5,7 +5,7 @@ use Rattle.udfs_overview.specs.NodeLists.{list_text}
 use Rattle.udfs_salvage.specs.StorePrinting.{leaves_as}
 use Rattle.udfs_salvage.specs.Listings.{listing_by}
 use Rattle.udfs_salvage.specs.Printing.{Stopped}
-use Rattle.udfs_reports.proofs.StoreListings.{states_same}
+use Rattle.udfs_salvage.proofs.StoreAnswers.{states_same}
 use Rattle.udfs_reports.proofs.list.print_nodes.Goals as goal
 
 pub returns-in-Ok-clause-lines : goal.returns-in-Ok-clause-lines

@@ -1,39 +1,54 @@
 use Rattle.std.proofs.Common.{◌≡◌, ◌∙◌, inl, inr, refl, rules}
-use Rattle.udfs_overview.specs.Repeating.{given_now}
-use Rattle.udfs_reports.specs.Giving.{given_by}
+use Rattle.udfs_index.specs.Copying.{AreAllTold}
+use Rattle.udfs_remarks.specs.NoReports.{salvage_refusal_of}
 use Rattle.udfs_reports.specs.Paging.{called_by}
 use Rattle.udfs_page.specs.Pages.{page_html}
-use Rattle.udfs_salvage.specs.Surveys.{survey_now}
-use Rattle.udfs_common.proofs.PutsLemmas.{says_more, says_no_more}
-use Rattle.udfs_reports.proofs.InRange.{range_from, range_to}
+use Rattle.udfs_salvage.specs.Surveys.{survey_by}
+use Rattle.udfs_common.proofs.PutsLemmas.{says_more, says_no_more, unbegun_as}
 use Rattle.udfs_reports.proofs.page.page_of.Goals as goal
 
-pub judged-requires-clause-from : goal.judged-requires-clause-from
-judged-requires-clause-from g c = range_from c.args.last c.in-Ok.ensures.report.in_range
+pub returns-in-Err-Salvage-clause-puts : goal.returns-in-Err-Salvage-clause-puts
+returns-in-Err-Salvage-clause-puts g c t shows unread = unbegun_as _ _ _ _ _ g.met.F.Files.only_now
 
-pub judged-requires-clause-to : goal.judged-requires-clause-to
-judged-requires-clause-to g c = range_to c.args.last c.in-Ok.ensures.report.in_range
+pub returns-in-Err-Unread-clause-puts : goal.returns-in-Err-Unread-clause-puts
+returns-in-Err-Unread-clause-puts g c t shows unread = unbegun_as _ _ _ _ _ g.met.F.Files.only_now
 
-pub returns-in-Ok-put_page-clause-puts : goal.returns-in-Ok-put_page-clause-puts
-returns-in-Ok-put_page-clause-puts g c =
-    let s = c.in-Ok.survey in
-    let report = survey_now s in
-    let answer = c.in-Ok-judged.answer in
+pub returns-in-Ok-Ok-clause-puts : goal.returns-in-Ok-Ok-clause-puts
+returns-in-Ok-Ok-clause-puts g c t shows unread =
+    let j = c.in-Ok.judged in
+    let of = c.in-Ok.ensures.of in
     let r = c.args.request.now in
-    let same : page_html (given_now c.given_by-given.result) (called_by r) s.profile s.table.now s.last report answer ≡ page_html (given_by r.volume r.size) (called_by r) r.volume.profile c.args.table.now c.args.last report answer = search rules in
-    says_more _ _ _ (λ said bytes is. record { report = report; is_report = c.in-Ok.ensures.report; answer = answer; decided = c.in-Ok-judged.ensures.decided; is = is ∙ same; says = search rules }) c.in-Ok-put_page.ensures.puts
+    let report = survey_by g.B.BlockStore.states j.survey in
+    let shown : AreAllTold g.F.Stored.Stored.content → g.B.BlockStore.tells × g.B.ReportStore.holds j.survey.table.now t = λ told. let held = shows told in (held.0, rw of.0 held.1) in
+    says_more _ _ _ (λ said bytes is told. let held = shows told in record { report = report; is_report = (c.in-Ok.ensures.headline held.0 t held.1).report_is; answer = j.answer; decided = c.in-Ok.ensures.decided held.0 t held.1; is = is ∙ (λ i. page_html (c.given_by-given.ensures i) (called_by r) (of.2 i) t (of.1 i) report j.answer); says = c.all_whole.ensures })
+    (rw c.in-Ok-Ok.field-0-is at (c.in-Ok-Ok.ensures.puts t shown unread))
+
+pub returns-in-Ok-Err-clause-puts : goal.returns-in-Ok-Err-clause-puts
+returns-in-Ok-Err-clause-puts g c t shows unread =
+    let j = c.in-Ok.judged in
+    let of = c.in-Ok.ensures.of in
+    let r = c.args.request.now in
+    let report = survey_by g.B.BlockStore.states j.survey in
+    let shown : AreAllTold g.F.Stored.Stored.content → g.B.BlockStore.tells × g.B.ReportStore.holds j.survey.table.now t = λ told. let held = shows told in (held.0, rw of.0 held.1) in
+    says_no_more _ _ _ (λ said bytes is told. let held = shows told in record { report = report; is_report = (c.in-Ok.ensures.headline held.0 t held.1).report_is; answer = j.answer; decided = c.in-Ok.ensures.decided held.0 t held.1; is = is ∙ (λ i. page_html (c.given_by-given.ensures i) (called_by r) (of.2 i) t (of.1 i) report j.answer); says = refl })
+    (rw c.in-Ok-Err.field-0-is at (c.in-Ok-Err.ensures.puts t shown unread))
 
 pub returns-clause-puts : goal.returns-clause-puts
-returns-clause-puts g c =
-    let s = c.in-Ok.survey in
-    let report = survey_now s in
-    let answer = c.in-Ok-judged.answer in
+returns-clause-puts g c t shows unread =
+    let j = c.in-Ok.judged in
+    let of = c.in-Ok.ensures.of in
     let r = c.args.request.now in
-    let same : page_html (given_now c.given_by-given.result) (called_by r) s.profile s.table.now s.last report answer ≡ page_html (given_by r.volume r.size) (called_by r) r.volume.profile c.args.table.now c.args.last report answer = search rules in
-    says_no_more _ _ _ (λ said bytes is. record { report = report; is_report = c.in-Ok.ensures.report; answer = answer; decided = c.in-Ok-judged.ensures.decided; is = is ∙ same; says = refl }) c.in-Err-put_page.ensures.puts
+    let report = survey_by g.B.BlockStore.states j.survey in
+    let shown : AreAllTold g.F.Stored.Stored.content → g.B.BlockStore.tells × g.B.ReportStore.holds j.survey.table.now t = λ told. let held = shows told in (held.0, rw of.0 held.1) in
+    says_no_more _ _ _ (λ said bytes is told. let held = shows told in record { report = report; is_report = (c.in-Ok.ensures.headline held.0 t held.1).report_is; answer = j.answer; decided = c.in-Ok.ensures.decided held.0 t held.1; is = is ∙ (λ i. page_html (c.given_by-given.ensures i) (called_by r) (of.2 i) t (of.1 i) report j.answer); says = refl })
+    (c.in-Err.ensures.puts t shown unread)
 
-pub returns-clause-why : goal.returns-clause-why
-returns-clause-why g c = inr c.in-Err-put_page.ensures.why
+pub returns-in-Err-Salvage-clause-why : goal.returns-in-Err-Salvage-clause-why
+returns-in-Err-Salvage-clause-why g c t shows told =
+    let held = shows told in
+    let same : c.refused_report.result ≡ salvage_refusal_of c.in-Err-Salvage.error = search rules in
+    let refused = rw c.in-Err-Salvage.field-0-is at (c.in-Err-Salvage.ensures.refused held.0 t held.1) in
+    inl (rw same refused)
 
-pub returns-in-Err-judged-clause-why : goal.returns-in-Err-judged-clause-why
-returns-in-Err-judged-clause-why g c = inl (inl c.in-Err-judged.ensures.refused)
+pub returns-in-Ok-Err-clause-why : goal.returns-in-Ok-Err-clause-why
+returns-in-Ok-Err-clause-why g c t shows told = inr (rw c.in-Ok-Err.field-0-is at c.in-Ok-Err.ensures.why)

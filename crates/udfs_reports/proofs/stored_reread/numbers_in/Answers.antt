@@ -1,5 +1,6 @@
 use Rattle.udfs_salvage.specs.Listings.{listing_by}
-use Rattle.udfs_reports.proofs.StoreListings.{listing_for_all, states_same, untold_by}
+use Rattle.udfs_reports.proofs.StoreListings.{listing_for_all, untold_by}
+use Rattle.udfs_salvage.proofs.StoreAnswers.{states_same}
 use Rattle.udfs_reports.proofs.stored_reread.numbers_in.Goals as goal
 
 pub returns-in-Ok-reread_blocks_by-clause-listing : goal.returns-in-Ok-reread_blocks_by-clause-listing

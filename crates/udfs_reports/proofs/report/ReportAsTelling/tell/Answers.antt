@@ -2,6 +2,7 @@ use Rattle.std.proofs.Common.{◌≡◌, inl, refl, rules}
 use Rattle.udfs_remarks.specs.NoReports.{salvage_refusal_of}
 use Rattle.udfs_salvage.specs.Surveys.{survey_by}
 use Rattle.udfs_reports.specs.Reporting.{form_text}
+use Rattle.udfs_reports.specs.Telling.{IsThe}
 use Rattle.udfs_reports.proofs.ToldTexts.{text_begun, text_out, text_stopped, text_told}
 use Rattle.udfs_reports.proofs.report.ReportAsTelling.tell.Goals as goal
 
@@ -18,24 +19,24 @@ pub returns-in-Err-Run-clause-refused : goal.returns-in-Err-Run-clause-refused
 returns-in-Err-Run-clause-refused g c told table holds =
     let of = c.in-Ok.ensures.of in
     let printed = c.in-Err-Run.ensures.printed told table (rw of.0 holds) in
-    text_stopped (form_text c.args.self.now.form) c.args.profile c.args.last table (survey_by g.B.BlockStore.states c.in-Ok.survey) _ (g.O.Sink.stream c.print_report.new.out) (c.in-Ok.ensures.headline told table holds) c.in-Err-Run.error _
+    text_stopped (IsThe (form_text c.args.self.now.form)) c.args.profile c.args.last table (survey_by g.B.BlockStore.states c.in-Ok.survey) _ (g.O.Sink.stream c.print_report.new.out) (c.in-Ok.ensures.headline told table holds) _ refl c.in-Err-Run.error _
     (rw (← of.1, ← of.2) (rw c.in-Err-Run.field-0-is at printed)) (search rules)
 
 pub returns-in-Err-Unread-print_report-clause-begun : goal.returns-in-Err-Unread-print_report-clause-begun
 returns-in-Err-Unread-print_report-clause-begun g c told table holds =
     let of = c.in-Ok.ensures.of in
     let printed = c.in-Err-Unread-print_report.ensures.printed told table (rw of.0 holds) in
-    text_begun (form_text c.args.self.now.form) c.args.profile c.args.last table (survey_by g.B.BlockStore.states c.in-Ok.survey) _ (g.O.Sink.stream c.print_report.new.out) (c.in-Ok.ensures.headline told table holds)
+    text_begun (IsThe (form_text c.args.self.now.form)) c.args.profile c.args.last table (survey_by g.B.BlockStore.states c.in-Ok.survey) _ (g.O.Sink.stream c.print_report.new.out) (c.in-Ok.ensures.headline told table holds) _ refl
     (rw (← of.1, ← of.2) (rw c.in-Err-Unread-print_report.field-0-is at printed))
 
 pub returns-then-not-is_steady-clause-begun : goal.returns-then-not-is_steady-clause-begun
 returns-then-not-is_steady-clause-begun g c told table holds =
     let of = c.in-Ok.ensures.of in
-    text_out (form_text c.args.self.now.form) c.args.profile c.args.last table (survey_by g.B.BlockStore.states c.in-Ok.survey) _ (g.O.Sink.stream c.print_report.new.out) (c.in-Ok.ensures.headline told table holds)
+    text_out (IsThe (form_text c.args.self.now.form)) c.args.profile c.args.last table (survey_by g.B.BlockStore.states c.in-Ok.survey) _ (g.O.Sink.stream c.print_report.new.out) (c.in-Ok.ensures.headline told table holds) _ refl
     (rw (← of.1, ← of.2) (c.in-Ok-print_report.ensures.printed told table (rw of.0 holds)))
 
 pub returns-clause-printed : goal.returns-clause-printed
 returns-clause-printed g c told table holds =
     let of = c.in-Ok.ensures.of in
-    text_told (form_text c.args.self.now.form) c.args.profile c.args.last table (survey_by g.B.BlockStore.states c.in-Ok.survey) _ (g.O.Sink.stream c.print_report.new.out) (c.in-Ok.ensures.headline told table holds) _
+    text_told (IsThe (form_text c.args.self.now.form)) c.args.profile c.args.last table (survey_by g.B.BlockStore.states c.in-Ok.survey) _ (g.O.Sink.stream c.print_report.new.out) (c.in-Ok.ensures.headline told table holds) _ refl _
     (rw (← of.1, ← of.2) (c.in-Ok-print_report.ensures.printed told table (rw of.0 holds))) c.in-Ok-print_report.ensures.whole

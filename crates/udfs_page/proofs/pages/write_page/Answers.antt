@@ -1,7 +1,0 @@
-use Rattle.udfs_salvage.proofs.PublicLaws.{prints_then}
-use Rattle.udfs_page.proofs.pages.write_page.Goals as goal
-
-pub returns : goal.returns
-returns g c =
-    let W = g.W.Sink in
-    prints_then (W.stream c.flush.new.sink) c.flush.result c.new-text.ensures.bytes c.in_ok-put_page.ensures c.flush.ensures.written
