@@ -90,6 +90,7 @@ hostile: all
 	@tools/mutate $(TRIES)
 	@tools/try-same-calls $(TRIES) 100
 	@tools/try-power-cuts
+	@tools/try-rescue $(PROGRAM) 200
 
 try: all
 	@tools/try-machine $(PROGRAM) examples

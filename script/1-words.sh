@@ -64,7 +64,6 @@ fail() {
 
 leave() {
     trap '' INT TERM HUP
-    [ "$locked" = 0 ] || rm -f lock
     exit "$1"
 }
 

@@ -233,6 +233,8 @@ take_lock() {
         rm -f "work/lock.$$" "lock.$$"
     fi
     locked=1
+    # however this run ends, but for a signal that it cannot hear
+    trap 'rm -f lock' EXIT
 }
 
 # began PROCESS: when a process began, by the machine's clock ticks; nothing if it is not there
