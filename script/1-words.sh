@@ -29,7 +29,7 @@ ddrescue=${DDRESCUE:-ddrescue}
 program=${UDFSALVAGE:-udfsalvage}
 
 asked_mode='' words_given='' drive='' only='' retries=3 to='' title='' device='' folder=''
-stop=0 child='' reader='' watcher='' locked=0 round=0 given=''
+stop=0 child='' reader='' watcher='' locked=0 leaving=2 round=0 given=''
 
 # ---- Words ----
 
@@ -64,6 +64,7 @@ fail() {
 
 leave() {
     trap '' INT TERM HUP
+    leaving=$1
     exit "$1"
 }
 

@@ -233,8 +233,9 @@ take_lock() {
         rm -f "work/lock.$$" "lock.$$"
     fi
     locked=1
-    # however this run ends, but for a signal that it cannot hear
-    trap 'rm -f lock' EXIT
+    # However this run ends, but for a signal that it cannot hear. A bash that hears a signal while it reads `$(` may lose its place in the script and
+    # end there, with any status.
+    trap 'rm -f lock; exit "$leaving"' EXIT
 }
 
 # began PROCESS: when a process began, by the machine's clock ticks; nothing if it is not there
