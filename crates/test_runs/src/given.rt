@@ -16,11 +16,12 @@ pub fn give(trial: &mut Trial, word: &str, rest: &str) -> Result<bool, AllocErro
 }
 
 /// `passes` are the files `a.rd` with block 300 of bytes 61 hex, `b.rd` with block 301 of bytes 62 hex, and `c.rd` with block 300 of bytes
-/// 63 hex. `file PATH CONTENT` is a file, `folder PATH` a folder, and `let NAME TEXT` names a text.
+/// 63 hex. `file PATH CONTENT` is a file, `twin PATH` a second name of the last one, `folder PATH` a folder, and `let NAME TEXT` names a text.
 fn give_file(trial: &mut Trial, word: &str, rest: &str) -> Result<bool, AllocError> {
     match word {
         "passes" => store_passes(trial.alloc, &mut trial.memory)?,
         "file" => put_file(trial, rest)?,
+        "twin" => trial.memory.store_twin(rest)?,
         "folder" => trial.memory.store_folder(rest)?,
         "let" => {
             let (name, text) = first_word(rest);

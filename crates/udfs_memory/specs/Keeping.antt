@@ -1,11 +1,12 @@
 -- What files in memory keep tells what their log says.
+--     has_name file path              a path is one of the names of a file
 --     start_of stored                 the disk when the run began
 --     call_in what                    the call that did this
 --     found start kept path           the file that a path names, by what is kept
 --     content_in kept number          the bytes of a new file, by what is kept
 --     node_of found                   the file that a search found
-use Rattle.std.proofs.Common.{Bor}
-use Rattle.std.specs.Prelude.{ℕ, List, [], ◌∷◌, length, Option, Some, None, if◌then◌else◌, bytes_eq, nat_eq, string_bytes}
+use Rattle.std.proofs.Common.{Bor, Global}
+use Rattle.std.specs.Prelude.{ℕ, List, [], ◌∷◌, length, Bool, true, false, Option, Some, None, String, if◌then◌else◌, bytes_eq, nat_eq, string_bytes}
 use Rattle.udfs_calls.specs.Log.{Call, Node, Start, node_at}
 use Rattle.udfs_calls.specs.Log.Call.{created, opened, synced, renamed, removed, folder_made, folder_synced, failed}
 use Rattle.udfs_calls.specs.Log.Node.{there, made, folder}
@@ -21,10 +22,19 @@ abbrev pub option_now : Option (Bor (List ℕ)) → Option (List ℕ)
 option_now None = None
 option_now (Some b) = Some b.now
 
+-- a path is this second name, if there is one
+abbrev pub is_second : Option (String Global) → List ℕ → Bool
+is_second None p = false
+is_second (Some twin) p = bytes_eq p (string_bytes twin)
+
+-- a path is one of the names of a file
+abbrev pub has_name : StoredFile → List ℕ → Bool
+has_name file p = if bytes_eq p (string_bytes file.path) then true else is_second file.twin p
+
 -- the number of the file of a path: how many come after it in the list
 abbrev pub number_in : List StoredFile → List ℕ → Option ℕ
 number_in [] p = None
-number_in (file ∷ rest) p = if bytes_eq p (string_bytes file.path) then Some (length rest) else number_in rest p
+number_in (file ∷ rest) p = if has_name file p then Some (length rest) else number_in rest p
 
 -- the bytes of a file; not known of a folder or a device
 abbrev pub known_bytes : StoredFile → Option (List ℕ)

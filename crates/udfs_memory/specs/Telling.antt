@@ -50,6 +50,15 @@ IsShut stored log path = (is_plain path ≢ true) ⊎ ((number : ℕ) (bytes : L
 pub no_link : {A : Type 0} (text : A) → None ≡ Some text → ⊥
 no_link {A} text bad = cc
 
+-- what was found where a path leads, and is no regular file as far as is known, may fail
+pub other_is_shut : (stored : List StoredFile) (calls : List Call) (path : List ℕ) (found : Found) → node_of found ≡ node_at (start_of stored) calls (spelled path) → IsOther stored found → IsShut stored (log_of stored calls) path
+other_is_shut stored calls path Nothing is other = inr (λ number bytes there_is known. no_link (there number) (is ∙ there_is))
+other_is_shut stored calls path (There number) is other = inr (λ n bytes there_is known.
+    let same : number ≡ n = let e = is ∙ there_is in cc in
+    no_link bytes (sym other ∙ ap (bytes_in stored) same ∙ known))
+other_is_shut stored calls path (Made number) is other = absurd other
+other_is_shut stored calls path (Folder number) is other = inr (λ n bytes there_is known. let e = is ∙ there_is in cc)
+
 -- what begins with another byte is another list
 other_first : (x y : ℕ) (xs ys : List ℕ) → nat_eq x y ≡ false → x ∷ xs ≡ y ∷ ys → ⊥
 other_first x y xs ys other is =

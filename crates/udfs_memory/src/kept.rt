@@ -1,7 +1,7 @@
 //! What files in memory keep: those that were there when the run began, and the calls since that did something.
 
 ghost use Rattle.std.specs.Prelude.{◌≡◌, IfOk, [], bytes_eq};
-ghost use Rattle.udfs_memory.specs.Keeping.{bytes_in, call_in, content_in, found, node_of, option_now, start_of};
+ghost use Rattle.udfs_memory.specs.Keeping.{bytes_in, call_in, content_in, found, has_name, node_of, option_now, start_of};
 ghost use Rattle.udfs_memory.specs.Noted.{call_of};
 
 use crate::deeds::Deed;
@@ -12,6 +12,8 @@ use std::alloc::{AllocError, Global};
 pub struct StoredFile {
     /// Its path, spelled in full: from the root, or from `./` on.
     pub path: String,
+    /// A second path of the same file, if it has one: a hard link.
+    pub twin: Option<String>,
     /// All its bytes, or what is read from the device.
     pub bytes: Vec<u8>,
     /// Whether it is a regular file.
@@ -69,6 +71,19 @@ fn is_same(a: &[u8], b: &[u8]) -> bool
     a == b
 }
 
+/// Whether a path is one of the names of a file.
+fn has_name(file: &StoredFile, path: &[u8]) -> bool
+    ensures { result ≡ has_name file.now path.now }
+{
+    if is_same(path, file.path.as_bytes()) {
+        return true;
+    }
+    match &file.twin {
+        Some(twin) => is_same(path, twin.as_bytes()),
+        None => false,
+    }
+}
+
 /// The file of this path among those that were there when the run began.
 fn stored_at(stored: &[StoredFile], path: &[u8]) -> Found
     ensures { node_of result ≡ found (start_of stored.now) [] path.now }
@@ -76,7 +91,7 @@ fn stored_at(stored: &[StoredFile], path: &[u8]) -> Found
     match stored {
         [] => Found::Nothing,
         [file, rest @ ..] => {
-            if is_same(path, file.path.as_bytes()) {
+            if has_name(file, path) {
                 return Found::There(rest.len());
             }
             stored_at(rest, path)

@@ -73,6 +73,16 @@ impl Memory {
         }
     }
 
+    /// A path, spelled in full.
+    fn whole(&self, path: &str) -> Result<String, AllocError> {
+        let mut whole = String::new(self.alloc);
+        if path != "." && !path.starts_with('/') && !path.starts_with("./") {
+            whole.push_str("./")?;
+        }
+        whole.push_str(path)?;
+        Ok(whole)
+    }
+
     /// Puts something at a path.
     fn put(
         &mut self,
@@ -81,13 +91,9 @@ impl Memory {
         is_file: bool,
         is_folder: bool,
     ) -> Result<(), AllocError> {
-        let mut whole = String::new(self.alloc);
-        if path != "." && !path.starts_with('/') && !path.starts_with("./") {
-            whole.push_str("./")?;
-        }
-        whole.push_str(path)?;
         let file = StoredFile {
-            path: whole,
+            path: self.whole(path)?,
+            twin: None,
             bytes: bytes.to_vec(self.alloc)?,
             is_file,
             is_folder,
@@ -101,6 +107,18 @@ impl Memory {
     pub fn store(&mut self, path: &str, bytes: &[u8]) -> Result<(), AllocError> {
         let is_device = path.starts_with("dev/") || path.starts_with("/dev/");
         self.put(path, bytes, !is_device, false)
+    }
+
+    /// Gives the file that was stored last a second path: a hard link.
+    pub fn store_twin(&mut self, path: &str) -> Result<(), AllocError> {
+        let whole = self.whole(path)?;
+        match self.entries.first_mut() {
+            Some(file) => {
+                file.twin = Some(whole);
+                Ok(())
+            }
+            None => Err(AllocError),
+        }
     }
 
     /// Stores a folder.
@@ -151,6 +169,9 @@ impl Memory {
         }
         for file in &self.entries {
             self.push_entry(&mut entries, &kept, file.path.as_bytes())?;
+            if let Some(twin) = &file.twin {
+                self.push_twin(&mut entries, &kept, file.path.as_str(), twin.as_str())?;
+            }
         }
         self.entries = entries;
         Ok(())
@@ -172,6 +193,29 @@ impl Memory {
         Ok(())
     }
 
+    /// Adds what the second path of a file names after a run: the same file, where its first path names it too.
+    fn push_twin(
+        &self,
+        entries: &mut Vec<StoredFile>,
+        kept: &[Kept],
+        path: &str,
+        twin: &str,
+    ) -> Result<(), AllocError> {
+        let one = find(&self.entries, kept, path.as_bytes());
+        let other = find(&self.entries, kept, twin.as_bytes());
+        match (one, other) {
+            (Found::There(one), Found::There(other)) if one == other => {
+                let whole = String::from_str(self.alloc, twin)?;
+                let place = entries.iter().position(|file| file.path.as_str() == path);
+                if let Some(file) = place.and_then(|at| entries.get_mut(at)) {
+                    file.twin = Some(whole);
+                }
+                Ok(())
+            }
+            _ => self.push_entry(entries, kept, twin.as_bytes()),
+        }
+    }
+
     /// What a path names after a run.
     fn after(&self, kept: &[Kept], path: &str) -> Result<Option<StoredFile>, AllocError> {
         let found = find(&self.entries, kept, path.as_bytes());
@@ -188,6 +232,7 @@ impl Memory {
         let left = survivor(&self.entries, kept, path.as_bytes());
         Ok(Some(StoredFile {
             path: String::from_str(self.alloc, path)?,
+            twin: None,
             bytes: bytes.to_vec(self.alloc)?,
             is_file: match was {
                 Some(file) => file.is_file,
@@ -216,6 +261,11 @@ fn at<'a>(entries: &'a [StoredFile], path: &str) -> Option<&'a StoredFile> {
     for file in entries {
         if short(file.path.as_str()) == short(path) {
             return Some(file);
+        }
+        if let Some(twin) = &file.twin {
+            if short(twin.as_str()) == short(path) {
+                return Some(file);
+            }
         }
     }
     None

@@ -377,11 +377,14 @@ impl<'a> Calls for MemoryCalls<'a> {
         }
     }
 
+    #[tactic(auto, using(crate::specs::Telling::other_is_shut))]
     fn try_to_write(&self, path: &str) -> Result<(), Error> {
         match self.led(path) {
-            Ok(Found::There(_)) | Ok(Found::Made(_)) => Ok(()),
-            Ok(Found::Folder(_)) => Err(Error::from(ErrorKind::IsADirectory)),
             Ok(Found::Nothing) => Err(Error::from(ErrorKind::NotFound)),
+            Ok(found) if self.is_folder(&found) && !self.is_file(&found) => {
+                Err(Error::from(ErrorKind::IsADirectory))
+            }
+            Ok(_) => Ok(()),
             Err(error) => Err(error),
         }
     }

@@ -5,11 +5,13 @@ use std::test::Fail;
 
 static SCRIPT: &str = r"
 = a_pass_is_not_written_over
-# Neither a reading, an image, a mapfile or another file that is no input, nor an image or a mapfile of the inputs; and nothing is read: the input that is not
-# there is not told.
+# Neither a reading, an image, a mapfile or another file that is no input, nor an image or a mapfile of the inputs, by whichever of its names; and nothing is
+# read: the input that is not there is not told.
 passes
 file p.img text «2048*c»
+twin q.img
 file p.map text # GNU ddrescue\n0x0 + 1\n0 0x800 +\n
+twin q.map
 file near text UDFTABX1\0\x08\0\0\0\0\0\0
 file short text UDFTAB
 then refused udfsalvage: cannot write output\n
@@ -39,9 +41,18 @@ $ merge --force --out p.map --ddrescue p.img p.map
 
 $ merge --out p.img p.img --ddrescue p.img p.map
 
+$ merge --force --out q.img a.rd absent.rd --ddrescue p.img p.map
+
+$ merge --force --out q.map --ddrescue p.img p.map
+
+$ forget --conflicts --force --out q.img a.rd --ddrescue p.img p.map
+
+$ image --force --last 600 --out d.img --mapfile q.map --ddrescue p.img p.map
+
 = what_is_written_over
-# An input, by force any file, a table file of either version, a file without bytes, and a device.
+# An input, by whichever of its names, by force any file, a table file of either version, a file without bytes, and a device.
 passes
+twin d.rd
 file p.img text «2048*c»
 file first text UDFTABL1\0\x08\0\0\0\0\0\0
 file second text UDFTABL2\0\x08\0\0\0\0\0\0
@@ -51,6 +62,11 @@ file dev/tab text UDFREAD1\0\x08\0\0\0\0\0\0
 $ merge --v1 --out a.rd a.rd
 silent
 has a.rd table 300:61
+
+$ merge --v1 --out d.rd c.rd
+silent
+has d.rd table 300:63
+has c.rd reading 300:63
 
 $ merge --v1 --force --out b.rd a.rd
 silent
