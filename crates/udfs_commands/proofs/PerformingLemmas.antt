@@ -21,8 +21,7 @@ both (Err e) P Q p q = tt
 -- a mapfile whose line was printed is the mapfile
 pub some_map : {F I M S W : Type 0} (reach : Reach F I M S W) (old : F) (r : RereadRequest) (before after : Stream) (bytes : List ℕ) → ((whole : Bool) × IsMap reach old r before after whole bytes) → IsSomeMap reach old r bytes
 some_map reach old r before after bytes is =
-    let map = is.1.join.2 in
-    record { last = is.1.last; ends = is.1.ends; one_disc = is.1.one_disc; join = (is.1.join.0, is.1.join.1, (map.0, is.0, map.1)) }
+    record { last = is.1.last; ends = is.1.ends; told = λ tells. let join = (is.1.told tells).1 in let map = join.2 in ((is.1.told tells).0, (join.0, join.1, (map.0, is.0, map.1))) }
 
 -- so what is left is told of the mapfile alone
 pub map_left : {F I M S W : Type 0} (reach : Reach F I M S W) (old new : F) (asked : Request) (r : RereadRequest) (path : List ℕ) (before after : Stream) → asked ≡ Reread r → Spares reach (λ bytes. (whole : Bool) × IsMap reach old r before after whole bytes) path old new →

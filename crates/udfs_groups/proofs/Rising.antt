@@ -1,11 +1,13 @@
 -- Rising lists, and the numbers of a range.
-use Rattle.std.proofs.Common.{◌≡◌, ◌⊎◌, inl, inr, sym, ap, ◌∙◌, subst, arith, ℕ, ◌+◌, ◌-◌, ◌<◌, ◌≤◌, List, [], ◌∷◌, ◌++◌, length, take, get_or, append-nil, append_assoc}
+use Rattle.std.proofs.Common.{◌≡◌, ◌⊎◌, inl, inr, refl, sym, ap, ◌∙◌, subst, arith, ℕ, ◌+◌, ◌-◌, ◌<◌, ◌≤◌, List, [], ◌∷◌, ◌++◌, length, take, get_or, append-nil, append_assoc}
 use Rattle.std.specs.Prelude.{zero, suc, Contains}
 use Rattle.std.specs.List.{range_with_len}
 use Rattle.std.proofs.lemmas.Bool.{cases_eq}
 use Rattle.std.proofs.lemmas.List.Elements.{Contains-append_cases, Contains-append_left, Contains-append_right}
 use Rattle.udfs_lattice.proofs.Inclusion.{here, there, here_or_there, in_nothing}
+use Rattle.std.proofs.lemmas.List.{take_more}
 use Rattle.udfs_volume.specs.Seen.{IsRising}
+use Rattle.udfs_groups.specs.Adding.{IsNext}
 
 -- ---- members of two lists
 pub in_left : (xs ys : List ℕ) (n : ℕ) → Contains xs n → Contains (xs ++ ys) n
@@ -79,3 +81,41 @@ range_on xs ys whole n m last h e y w = ap (λ z. z ++ range_with_len (n + 1) (l
 
 pub range_done : (xs whole : List ℕ) (n last : ℕ) → last + 1 ≤ n → xs ++ range_with_len n (last + 1 - n) ≡ whole → xs ≡ whole
 range_done xs whole n last h w = sym (append-nil xs) ∙ ap (λ k. xs ++ range_with_len n k) (let z : 0 ≡ last + 1 - n = omega (arith, h) in z) ∙ w
+
+-- ---- the front that rises
+one_back : (n : ℕ) → n + 1 - 1 ≡ n
+one_back n = omega arith
+
+-- with one more number that is not below the next
+pub risen_more : (xs : List ℕ) (i d next : ℕ) → i < length xs → next ≤ get_or xs i d → IsRising (take i xs) → IsNext (take i xs) next → IsRising (take (i + 1) xs) × IsNext (take (i + 1) xs) (get_or xs i d + 1)
+risen_more xs i d next lt le rises (all, top) = subst (λ l. IsRising l × IsNext l (x + 1)) (sym (take_more xs i d lt)) (both_rise front (x ∷ []) rises one apart, (below, inr at))
+  where
+    x : ℕ
+    x = get_or xs i d
+
+    front : List ℕ
+    front = take i xs
+
+    one : IsRising (x ∷ [])
+    one = (λ m c. in_nothing m c, tt)
+
+    apart : (a b : ℕ) → Contains front a → Contains (x ∷ []) b → a < b
+    apart a b c e = let l = all a c in let s = alone x b e in omega (arith, l, le, s)
+
+    below : (n : ℕ) → Contains (front ++ x ∷ []) n → n < x + 1
+    below n c = go (in_one front (x ∷ []) n c)
+      where
+        go : Contains front n ⊎ Contains (x ∷ []) n → n < x + 1
+        go (inl j) = let l = all n j in omega (arith, l, le)
+        go (inr j) = let s = alone x n j in omega (arith, s)
+
+    at : Contains (front ++ x ∷ []) (x + 1 - 1)
+    at = subst (Contains (front ++ x ∷ [])) (sym (one_back x)) (in_right front (x ∷ []) x (here x []))
+
+-- in a list that rises no number is below the next
+pub never_falls : (xs : List ℕ) (i d next : ℕ) → i < length xs → get_or xs i d < next → IsNext (take i xs) next → IsRising xs → ⊥
+never_falls xs i d next lt less (all, inl none) rises = absurd (omega (arith, less, none))
+never_falls xs i d next lt less (all, inr at) rises = let before = front_below xs i d rises lt (next - 1) at in absurd (omega (arith, less, before))
+
+pub none_yet : (xs : List ℕ) → IsNext (take 0 xs) 0
+none_yet xs = (λ n c. in_nothing n c, inl refl)

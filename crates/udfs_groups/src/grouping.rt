@@ -3,7 +3,6 @@
 ghost use Rattle.std.specs.Prelude.{◌≡◌, ◌≤◌, ◌<◌, ◌+◌, ◌-◌, ◌++◌, ℕ, IfOk, Contains, false};
 ghost use Rattle.std.specs.List.{range_with_len};
 ghost use Rattle.udfs_lattice.specs.States.{is_known};
-ghost use Rattle.udfs_lattice.specs.Tables.{state_of};
 ghost use Rattle.udfs_lattice.specs.Volumes.{IsUnread};
 ghost use Rattle.udfs_volume.specs.Seen.{IsRising};
 ghost use Rattle.udfs_groups.specs.Adding.{Adds};
@@ -11,7 +10,7 @@ ghost use Rattle.udfs_groups.specs.Groups.{AreEdges, AreGrouped, group_start};
 
 use crate::edges::{first_unread, last_unread};
 use std::alloc::{AllocError, Global};
-use udfs_lattice::BlockTable;
+use udfs_lattice::BlockStore;
 
 /// The first block of the group of a block.
 fn group_start(size: u32, n: u32) -> u32
@@ -23,17 +22,18 @@ fn group_start(size: u32, n: u32) -> u32
 }
 
 /// The first and the last block of a group that are not known; `block` is not.
-fn edges(table: &BlockTable, last: u32, size: u32, block: u32) -> (u32, u32)
+fn edges<B: BlockStore>(blocks: &B, last: u32, size: u32, block: u32) -> (u32, u32)
     requires size { 0 < size }
     requires within { block ≤ last }
-    requires unread { is_known (state_of table.now block) ≡ false }
-    ensures { AreEdges (state_of table.now) last size block result.0 result.1 }
+    requires unread { B.tells → is_known (B.states blocks.now block) ≡ false }
+    ensures edges { B.tells → AreEdges (B.states blocks.now) last size block result.0 result.1 }
+    ensures to_last { result.1 ≤ last }
 {
     let start = group_start(size, block);
     let end = start.saturating_add(size - 1).min(last);
     (
-        first_unread(table, start, block),
-        last_unread(table, block, end),
+        first_unread(blocks, start, block),
+        last_unread(blocks, block, end),
     )
 }
 
@@ -50,8 +50,8 @@ fn push_blocks(asked: &mut Vec<u32>, from: u32, to: u32) -> Result<(), AllocErro
 
 /// Appends what is to be asked for because of one more listed block, where all that is asked for already is below `next`, and the block before that is the last of it.
 /// Returns what is so then.
-fn add(
-    table: &BlockTable,
+fn add<B: BlockStore>(
+    blocks: &B,
     last: u32,
     size: u32,
     block: u32,
@@ -60,8 +60,8 @@ fn add(
 ) -> Result<u64, AllocError>
     requires size { 0 < size }
     requires small { last ≤ 4194303 }
-    requires unread { is_known (state_of table.now block) ≡ false }
-    ensures { IfOk result (λ later. Adds (state_of table.now) last size block asked.old.items next asked.new.items later) }
+    requires unread { B.tells → is_known (B.states blocks.now block) ≡ false }
+    ensures { IfOk result (λ later. B.tells → Adds (B.states blocks.now) last size block asked.old.items next asked.new.items later) }
 {
     if u64::from(block) < next {
         return Ok(next);
@@ -70,7 +70,7 @@ fn add(
         asked.push(block)?;
         return Ok(u64::from(block) + 1);
     }
-    let (from, to) = edges(table, last, size, block);
+    let (from, to) = edges(blocks, last, size, block);
     push_blocks(asked, from, to)?;
     Ok(u64::from(to) + 1)
 }
@@ -80,24 +80,24 @@ fn add(
 ///
 /// # Errors
 ///
-/// `AllocError` where memory runs out.
-pub fn grouped(
+/// `AllocError` where memory runs out. Of the store only the states are asked, which reads nothing.
+pub fn grouped<B: BlockStore>(
     alloc: Global,
-    table: &BlockTable,
+    blocks: &B,
     last: u32,
     size: u32,
     listed: &[u32],
 ) -> Result<Vec<u32>, AllocError>
     requires size { 0 < size }
     requires small { last ≤ 4194303 }
-    requires rising { IsRising listed.now }
-    requires unread { IsUnread (state_of table.now) listed.now }
-    ensures { IfOk result (λ asked. AreGrouped (state_of table.now) last size listed.now asked.items) }
+    requires rising { B.tells → IsRising listed.now }
+    requires unread { B.tells → IsUnread (B.states blocks.now) listed.now }
+    ensures { IfOk result (λ asked. B.tells → AreGrouped (B.states blocks.now) last size listed.now asked.items) }
 {
     let mut asked = Vec::new(alloc);
     let mut next = 0;
     for block in listed {
-        next = add(table, last, size, *block, &mut asked, next)?;
+        next = add(blocks, last, size, *block, &mut asked, next)?;
     }
     Ok(asked)
 }

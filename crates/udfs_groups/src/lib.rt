@@ -6,6 +6,8 @@
 #![tactic(auto)]
 
 mod edges;
+mod fronts;
 mod grouping;
 
+pub use fronts::rising_front;
 pub use grouping::grouped;

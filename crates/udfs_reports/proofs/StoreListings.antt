@@ -31,24 +31,3 @@ by_error profile t last Unread h = tt
 
 pub untold_by : (profile : Profile) (blocks : Blocks) (t : Table) (last : ℕ) (why : StoreError) → blocks ≡ state_of t → IsStoreRefused profile blocks last why → IfTold (λ e. IsUntold profile last (salvage_refusal_of e) t) why
 untold_by profile blocks t last why same h = by_error profile t last why (subst (λ (bs : Blocks). IsStoreRefused profile bs last why) same h)
-
--- without paths no node is left out
-all_for : (report : Report) (ns : List NodeFields) → nodes_for [] (record report { nodes = ns }) ≡ ns
-all_for report [] = refl
-all_for report (n ∷ ns) = ap (λ (ms : List NodeFields). n ∷ ms) (all_for report ns)
-
--- its nodes are those of the table's report
-pub listing_for_all : (profile : Profile) (blocks : Blocks) (t : Table) (last : ℕ) (report : Report) → blocks ≡ state_of t → HeadlineBy profile blocks last report → IsReportBy profile blocks last report → IsListingFor [] profile last t report
-listing_for_all profile blocks t last report same headline is =
-    let by = subst (λ (bs : Blocks). IsReportBy profile bs last report) same is in
-    record {
-      report = report;
-      is_report = record {
-        headline = subst (λ (bs : Blocks). HeadlineBy profile bs last report) same headline;
-        may_be = λ k word at. absurd (let no : ⊥ = cc in no);
-        suffices = each_reread_for_suffices [] profile (state_of t) last report by;
-      };
-      volume = refl;
-      nodes = sym (all_for report report.nodes);
-      blocks = sym (rereads_for_all profile (state_of t) last report by);
-    }

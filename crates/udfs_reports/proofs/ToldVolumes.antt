@@ -6,8 +6,6 @@ use Rattle.udfs_lattice.specs.Records.{join_all}
 use Rattle.udfs_lattice.specs.Tables.{IsTable, Table}
 use Rattle.udfs_pairs.specs.declared.any_stored.AnyStored.{AnyStored}
 use Rattle.udfs_reading.specs.Device.{Stream}
-use Rattle.udfs_words.specs.Requests.{texts}
-use Rattle.udfs_words.specs.declared.request.RereadRequest.{RereadRequest}
 use Rattle.udfs_words.specs.declared.request.VolumeSource.{VolumeSource}
 use Rattle.udfs_common.proofs.StoredLemmas.{HaveSources}
 use Rattle.udfs_common.proofs.StoredVolumes.{indexed_of}
@@ -16,7 +14,6 @@ use Rattle.udfs_common.specs.Indexing.{Indexed}
 use Rattle.udfs_common.specs.Reach.{Reach}
 use Rattle.udfs_common.specs.Volumes.{IsStoredDisc, OfToldVolume, OfVolume}
 use Rattle.udfs_common.specs.declared.refusal.Refusal.{Refusal}
-use Rattle.udfs_reports.specs.Rereading.{IsRefusedNumbers, PrintsNoNumbers, PrintsNumbers, TellsNumbers}
 
 -- what follows of it holds too
 told_by : {F I M S W : Type 0} {reach : Reach F I M S W} {at : F} {volume : VolumeSource} {Holds : ℕ → Table → Type 0} (Gives : ℕ → Table → Type 0) → OfToldVolume reach at volume Holds → (reach.stored_told → (last : ℕ) (table : Table) → Holds last table → Gives last table) → OfToldVolume reach at volume Gives
@@ -42,18 +39,6 @@ of_one reach at volume content have stored n New told disc i Gives holds =
 -- what holds of the join in any case, where it is known what each file holds that is read at positions
 pub told_then : {F I M S W : Type 0} {reach : Reach F I M S W} {at : F} {volume : VolumeSource} (Gives : ℕ → Table → Type 0) → OfVolume reach at volume (λ last table. reach.stored_told → Gives last table) → OfToldVolume reach at volume Gives
 told_then Gives v = told_by Gives (told_of v) (λ tells last table gives. gives tells)
-
--- the numbers of the table that was taken are those of the volume
-pub numbers_told : {F I M S W : Type 0} (reach : Reach F I M S W) (at : F) (r : RereadRequest) (old new : Stream) (whole : Bool) (n : ℕ) (Told : Type 0) (Took : Table → Type 0) → texts r.only.items ≡ [] → (reach.stored_told → Told) →
-    OfToldVolume reach at r.volume (λ last table. (last ≡ n) × IsTable table × Took table) → (Told → (t : Table) → IsTable t → Took t → TellsNumbers [] r.volume.profile n old new whole t) → PrintsNumbers reach at r old new whole
-numbers_told reach at r old new whole n Told Took none told v numbers = of_taken n Told Took (λ last. TellsNumbers (texts r.only.items) r.volume.profile last old new whole) told v
-    (λ tells table fits took. subst (λ (only : List (List ℕ)). TellsNumbers only r.volume.profile n old new whole table) (sym none) (numbers tells table fits took))
-
--- nor were they printed
-pub numbers_untold : {F I M S W : Type 0} (reach : Reach F I M S W) (at : F) (r : RereadRequest) (old new : Stream) (refusal : Refusal) (n : ℕ) (Told : Type 0) (Took : Table → Type 0) → texts r.only.items ≡ [] → (reach.stored_told → Told) →
-    OfToldVolume reach at r.volume (λ last table. (last ≡ n) × IsTable table × Took table) → (Told → (t : Table) → IsTable t → Took t → IsRefusedNumbers [] r.volume.profile n old new refusal t) → PrintsNoNumbers reach at r old new refusal
-numbers_untold reach at r old new refusal n Told Took none told v numbers = inr (of_taken n Told Took (λ last. IsRefusedNumbers (texts r.only.items) r.volume.profile last old new refusal) told v
-    (λ tells table fits took. subst (λ (only : List (List ℕ)). IsRefusedNumbers only r.volume.profile n old new refusal table) (sym none) (numbers tells table fits took)))
 
 -- of whichever was returned
 pub if_ok_by : {A E : Type 0} {P Q : A → Type 0} (r : Result A E) → ((a : A) → P a → Q a) → IfOk r P → IfOk r Q

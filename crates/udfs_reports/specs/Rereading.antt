@@ -14,6 +14,7 @@
 --     IsMapFree           it takes the place of nothing but such a map
 --     IsMapSpared         it would take the place of something else
 --     IsMapUnseen         what is there could not be looked at
+--     IsNotMapped         why it was not put, where it may take its place
 --     MapRefused          why it was not put
 use Rattle.std.specs.Prelude.{◌≡◌, ◌⊎◌, ℕ, ◌+◌, ◌++◌, ◌==◌, Bool, List, [], ◌∷◌, Option, Some, None, alloc_error, codes, decimal, length, if◌then◌else◌}
 use Rattle.udfs_files.specs.Disk.{Fails}
@@ -38,7 +39,7 @@ use Rattle.udfs_common.specs.Guarding.{IsFreeMap, IsSparedMap, MayNotBeSeen}
 use Rattle.udfs_common.specs.Puts.{PutFails}
 use Rattle.udfs_common.specs.Reach.{Reach}
 use Rattle.udfs_common.specs.Refusing.{IsUnput}
-use Rattle.udfs_common.specs.Volumes.{IsNoVolume, IsVolumeUnread, OfToldVolume, OfVolume}
+use Rattle.udfs_common.specs.Volumes.{IsNoVolume, IsVolumeUnread, OfToldVolume}
 use Rattle.udfs_common.specs.declared.refusal.Refusal.{Refusal}
 use Rattle.udfs_common.specs.declared.refusal.Refusal.TheVariants.{Memory, Output, Spared}
 use Rattle.udfs_reports.specs.Comparing.{compared}
@@ -137,11 +138,11 @@ module _ {F I M S W : Type 0} (reach : Reach F I M S W) (old : F) where
 
   -- the mapfile of what was read of the disc, and its line
   abbrev pub IsMap : RereadRequest → Stream → Stream → Bool → List ℕ → Type 0
-  IsMap r before after whole bytes = OfVolume reach old r.volume (λ last. IsMapOf r last before after whole bytes)
+  IsMap r before after whole bytes = OfToldVolume reach old r.volume (λ last. IsMapOf r last before after whole bytes)
 
   -- the mapfile alone
   abbrev pub IsSomeMap : RereadRequest → List ℕ → Type 0
-  IsSomeMap r bytes = OfVolume reach old r.volume (λ last table. (text : List ℕ) × (whole : Bool) × IsDomain r last table bytes text whole)
+  IsSomeMap r bytes = OfToldVolume reach old r.volume (λ last table. (text : List ℕ) × (whole : Bool) × IsDomain r last table bytes text whole)
 
   -- where it is known what files hold: at this path
   abbrev pub IsMapFree : RereadRequest → List ℕ → Type 0
@@ -155,7 +156,12 @@ module _ {F I M S W : Type 0} (reach : Reach F I M S W) (old : F) where
   abbrev pub IsMapUnseen : RereadRequest → List ℕ → Type 0
   IsMapUnseen r path = MayNotBeSeen (reach.files.shut old) (Fails reach.read_faults) [] (texts r.volume.inputs.parts.items) path
 
-  -- nothing has changed or was printed, and memory ran out, or what is there is spared or could not be looked at, or the disc's end is not known or the inputs were not joined; or there is no report, or the line was not printed, or the mapfile was not put
+  -- nothing has changed or was printed, and the disc's end is not known, or the inputs were not joined, or not read again; or there is no report, or the line was not printed, or the mapfile was not put
+  abbrev pub IsNotMapped : F → RereadRequest → List ℕ → Stream → Stream → Refusal → Type 0
+  IsNotMapped new r path before after refusal = ((new ≡ old) × (after ≡ before) × (IsNoVolume reach old r.volume refusal ⊎ IsVolumeUnread reach old r.volume refusal)) ⊎
+      OfToldVolume reach old r.volume (λ last. IsRefusedDomain (PutFails reach path old) r last before after refusal)
+
+  -- nothing has changed or was printed, and memory ran out, or what is there is spared or could not be looked at, or the disc's end is not known or the inputs were not joined; or it was not put where it may take its place
   abbrev pub MapRefused : F → RereadRequest → List ℕ → Stream → Stream → Refusal → Type 0
   MapRefused new r path before after refusal = ((new ≡ old) × (after ≡ before) × ((refusal ≡ Memory alloc_error) ⊎ ((refusal ≡ Spared) × IsMapSpared r path) ⊎ ((refusal ≡ Output) × IsMapUnseen r path) ⊎ IsNoVolume reach old r.volume refusal)) ⊎
-      OfVolume reach old r.volume (λ last. IsRefusedDomain (PutFails reach path old) r last before after refusal)
+      IsNotMapped new r path before after refusal

@@ -2,7 +2,6 @@
 //! The commands that report on a volume: `report`, `reread`, `list`, `summary` and `page`.
 #![tactic(auto)]
 
-mod changes;
 mod comparing;
 pub mod giving;
 mod judging;
@@ -13,6 +12,5 @@ mod paths;
 pub mod report;
 pub mod reread;
 pub mod reread_map;
-mod stored_reread;
 pub mod summary;
 pub mod telling;

@@ -1,13 +1,14 @@
 //! What `list` prints: a line for each file and folder of a volume.
 
-ghost use Rattle.std.specs.Prelude.{◌≡◌, IfOk, IfErr, IsErrOf};
+ghost use Rattle.std.specs.Prelude.{◌≡◌, IfOk, IfErr, IsErrOf, OnOk};
 ghost use Rattle.udfs_lattice.specs.Tables.{Table, state_of};
 ghost use Rattle.udfs_overview.specs.NodeLists.{list_text};
 ghost use Rattle.udfs_salvage.specs.Headline.{HeadlineBy};
 ghost use Rattle.udfs_salvage.specs.Listings.{listing_by};
-ghost use Rattle.udfs_salvage.specs.Reports.{all_whole};
+ghost use Rattle.udfs_salvage.specs.Reports.{IsOutOfRange, all_whole};
 ghost use Rattle.udfs_salvage.specs.StorePrinting.{PrintsBy};
 ghost use Rattle.udfs_salvage.specs.Stores.{IfTold};
+ghost use Rattle.udfs_volume.specs.Seen.{IsRising};
 ghost use Rattle.udfs_remarks.specs.NoReports.{IsUntold, salvage_refusal_of};
 ghost use Rattle.udfs_reports.specs.Listing.{PrintsNoNodes, PrintsNodes, list_of};
 ghost use Rattle.udfs_reports.specs.Telling.{IsThe};
@@ -29,13 +30,15 @@ use udfs_volume::Profile;
 use udfs_words::request::VolumeSource;
 
 /// The nodes of a store's volume by the rules of a profile, where `last` is its last block.
-fn nodes_in<'a, B: ReportStore>(
+pub(crate) fn nodes_in<'a, B: ReportStore>(
     alloc: Global,
     blocks: &'a B,
     last: u32,
     profile: Profile,
 ) -> Result<Listing<'a, B>, StoreError>
     ensures headline { IfOk result (λ listing. B.tells → (t : Table) → B.holds blocks.now t → HeadlineBy profile (state_of t) last (listing_by B.states listing)) }
+    ensures range { OnOk result (¬ IsOutOfRange last) }
+    ensures rising { IfOk result (λ listing. B.tells → IsRising (listing_by B.states listing).reread) }
     ensures of { IfOk result (λ listing. listing.table.now ≡ blocks.now) }
     ensures refused { IfErr result (λ why. B.tells → (t : Table) → B.holds blocks.now t → IfTold (λ e. IsUntold profile last (salvage_refusal_of e) t) why) }
     ensures fails { IsErrOf result StoreError.Unread → B.fails }

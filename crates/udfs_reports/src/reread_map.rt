@@ -1,13 +1,16 @@
 //! The command `reread --mapfile`: readings in, the blocks to read again as a mapfile for GNU ddrescue.
 
-ghost use Rattle.std.specs.Prelude.{◌≡◌, ◌⊎◌, ◌≤◌, ◌++◌, IfOk, IfErr, OnOk, alloc_error, length, string_bytes};
+ghost use Rattle.std.specs.Prelude.{◌≡◌, ◌⊎◌, ◌≤◌, ◌++◌, IfOk, IfErr, OnErr, OnOk, alloc_error, length, string_bytes};
 ghost use Rattle.std.specs.List.Sorted.{IsNonDecreasing};
+ghost use Rattle.udfs_lattice.specs.Tables.{Table};
 ghost use Rattle.udfs_reading.specs.Writing.{Failed, Wrote};
 ghost use Rattle.udfs_rescue.specs.Writing.{domain_text};
 ghost use Rattle.udfs_salvage.specs.Texts.{line};
+ghost use Rattle.udfs_common.specs.Blaming.{stored_reason};
 ghost use Rattle.udfs_common.specs.Puts.{PutFails, PutsAs};
 ghost use Rattle.udfs_common.specs.Refusing.{IsUnput};
-ghost use Rattle.udfs_reports.specs.Rereading.{IsMap, IsMapFree, IsMapOf, IsMapSpared, IsMapUnseen, IsRefusedDomain, MapRefused, blocks_words, breaks, domain_line, group_words, known_words, runs_in, runs_words, wanted_words};
+ghost use Rattle.udfs_common.specs.Volumes.{IsStoredDisc};
+ghost use Rattle.udfs_reports.specs.Rereading.{IsMap, IsMapFree, IsMapOf, IsMapSpared, IsMapUnseen, IsNotMapped, IsRefusedDomain, MapRefused, blocks_words, breaks, domain_line, group_words, known_words, runs_in, runs_words, wanted_words};
 
 use crate::comparing::{Asked, asked_in};
 use crate::paths::listed_for;
@@ -17,11 +20,15 @@ use udfs_common::guard::{Outlook, look_at_map};
 use udfs_common::known::Known;
 use udfs_common::putting::put_file;
 use udfs_common::refusal::Refusal;
+use udfs_common::stored_volumes::{StoredDisc, indexed_volume, stored_volume, unread_volume};
 use udfs_common::volumes::{joined_volume, unwritten_volume};
 use udfs_files::{Content, Stage};
-use udfs_lattice::BlockTable;
+use udfs_index::Stored;
+use udfs_lattice::{GaveUp, ReadFault};
+use udfs_pairs::AnyStored;
 use udfs_reading::{Sink, WriteFault, write_all};
-use udfs_remarks::remarks::remark_on_listing;
+use udfs_remarks::remarks::remark_on_listing_by;
+use udfs_remarks::{IndexBlocks, SteadyStore};
 use udfs_rescue::write_domain;
 use udfs_words::group::GroupSize;
 use udfs_words::request::RereadRequest;
@@ -196,37 +203,113 @@ fn put_domain<F: Files, O: Sink>(
     }
 }
 
-/// Puts the mapfile of the blocks of a table's volume that are worth reading again for the paths of a request at a path, or of whole groups of them, and prints
+/// Puts the mapfile of the blocks of a store's volume that are worth reading again for the paths of a request at a path, or of whole groups of them, and prints
 /// how many they are. Where the request asks for it and some are, known blocks are wanted beside them, by which a pass of another disc shows. It returns whether
 /// all nodes at those paths, below them and above them are whole, and there are some.
+///
+/// # Errors
+///
+/// `ReadFault` where the bytes of a known block could not be read, or the store has changed: nothing is printed or put then. In the result: why the mapfile was
+/// not put.
 #[tactic(auto, using(crate::proofs::RereadingLemmas::in_range, crate::proofs::RereadingLemmas::from_range))]
-fn map_of<F: Files, O: Sink>(
+fn map_of<B: SteadyStore, F: Files, O: Sink>(
     alloc: Global,
-    table: &BlockTable,
+    blocks: &B,
     last: u32,
     request: &RereadRequest<'_>,
     path: &str,
     files: &mut F,
     out: &mut O,
-) -> Result<bool, Refusal>
-    ensures puts { PutsAs ⟦<F as Known>⟧.reach (λ whole bytes. IsMapOf request.now last (O.stream out.old) (O.stream out.new) whole bytes table.now) path.now files.old files.new result }
-    ensures why { IfErr result (λ refusal. IsRefusedDomain (PutFails ⟦<F as Known>⟧.reach path.now files.old) request.now last (O.stream out.old) (O.stream out.new) refusal table.now) }
+) -> Result<Result<bool, Refusal>, ReadFault>
+    ensures puts { IfOk result (PutsAs ⟦<F as Known>⟧.reach (λ whole bytes. B.tells → (t : Table) → B.holds blocks.now t → IsMapOf request.now last (O.stream out.old) (O.stream out.new) whole bytes t) path.now files.old files.new) }
+    ensures why { IfOk result (λ told. IfErr told (λ refusal. B.tells → (t : Table) → B.holds blocks.now t → IsRefusedDomain (PutFails ⟦<F as Known>⟧.reach path.now files.old) request.now last (O.stream out.old) (O.stream out.new) refusal t)) }
+    ensures unread { OnErr result ((files.new ≡ files.old) × (O.stream out.new ≡ O.stream out.old)) }
+    ensures fails { OnErr result B.fails }
 {
     files.begin(Stage::Walking);
-    let listing = match listed_for(alloc, table, last, request) {
-        Ok(listing) => listing,
-        Err(refusal) => return Err(refusal),
+    let listing = match listed_for(alloc, blocks, last, request) {
+        Ok(Ok(listing)) => listing,
+        Ok(Err(refusal)) => return Ok(Err(refusal)),
+        Err(ReadFault) => return Err(ReadFault),
     };
-    let asked = match asked_in(alloc, table, last, &listing, request) {
+    let asked = match asked_in(alloc, last, &listing, request) {
         Ok(asked) => asked,
-        Err(refusal) => return Err(refusal),
+        Err(GaveUp::OutOfMemory) => return Ok(Err(Refusal::Memory(AllocError))),
+        Err(GaveUp::Unread) => return Err(ReadFault),
     };
+    if !blocks.is_steady() {
+        return Err(ReadFault);
+    }
     match put_domain(alloc, &asked, request.group, last, path, files, out) {
         Ok(()) => {}
-        Err(refusal) => return Err(refusal),
+        Err(refusal) => return Ok(Err(refusal)),
     }
-    remark_on_listing(alloc, &listing, files);
-    Ok(listing.all_whole())
+    let _ = remark_on_listing_by(alloc, &listing, files);
+    Ok(Ok(listing.all_whole()))
+}
+
+/// Puts the mapfile that is asked for, and holds all blocks that are known.
+fn map_held<F: Files, O: Sink>(
+    alloc: Global,
+    request: &RereadRequest<'_>,
+    path: &str,
+    files: &mut F,
+    out: &mut O,
+) -> Result<bool, Refusal>
+    ensures puts { PutsAs ⟦<F as Known>⟧.reach (IsMap ⟦<F as Known>⟧.reach files.old request.now (O.stream out.old) (O.stream out.new)) path.now files.old files.new result }
+    ensures why { IfErr result (IsNotMapped ⟦<F as Known>⟧.reach files.old files.new request.now path.now (O.stream out.old) (O.stream out.new)) }
+{
+    let disc = match joined_volume(alloc, &request.volume, files) {
+        Ok(disc) => disc,
+        Err(refusal) => return Err(refusal),
+    };
+    match map_of(alloc, &disc.table, disc.last, request, path, files, out) {
+        Ok(told) => told,
+        Err(ReadFault) => unreachable!(),
+    }
+}
+
+/// Puts the mapfile that is asked for, and holds no block. Where a block could not be read, or an input has changed, nothing is printed or put.
+fn map_stored<F: Files, O: Sink>(
+    alloc: Global,
+    disc: &StoredDisc<F::Stored>,
+    request: &RereadRequest<'_>,
+    path: &str,
+    files: &mut F,
+    out: &mut O,
+) -> Result<bool, Refusal>
+    requires { IsStoredDisc ⟦<F as Known>⟧.reach files.now request.now.volume ⟦<AnyStored<F::Stored> as Stored>⟧.content stored_reason disc.now.stored.items disc.now.last }
+    ensures puts { PutsAs ⟦<F as Known>⟧.reach (IsMap ⟦<F as Known>⟧.reach files.old request.now (O.stream out.old) (O.stream out.new)) path.now files.old files.new result }
+    ensures why { IfErr result (IsNotMapped ⟦<F as Known>⟧.reach files.old files.new request.now path.now (O.stream out.old) (O.stream out.new)) }
+{
+    let volume = &request.volume;
+    let index = match indexed_volume(alloc, volume, disc, files) {
+        Ok(index) => index,
+        Err(refusal) => return Err(refusal),
+    };
+    let blocks = IndexBlocks::new(&index, disc.stored.as_slice());
+    match map_of(alloc, &blocks, disc.last, request, path, files, out) {
+        Ok(told) => told,
+        Err(ReadFault) => Err(unread_volume(volume, disc, blocks.unread(), files)),
+    }
+}
+
+/// Puts the mapfile that is asked for, by its inputs as they can be read.
+fn map_inputs<F: Files, O: Sink>(
+    alloc: Global,
+    request: &RereadRequest<'_>,
+    path: &str,
+    files: &mut F,
+    out: &mut O,
+) -> Result<bool, Refusal>
+    ensures puts { PutsAs ⟦<F as Known>⟧.reach (IsMap ⟦<F as Known>⟧.reach files.old request.now (O.stream out.old) (O.stream out.new)) path.now files.old files.new result }
+    ensures why { IfErr result (IsNotMapped ⟦<F as Known>⟧.reach files.old files.new request.now path.now (O.stream out.old) (O.stream out.new)) }
+{
+    match stored_volume(alloc, &request.volume, files) {
+        Ok(Some(disc)) => map_stored(alloc, &disc, request, path, files, out),
+        Ok(None) => map_held(alloc, request, path, files, out),
+        Err(refusal) => Err(refusal),
+    }
 }
 
 /// What is known of a mapfile that is to be written at a path.
@@ -247,13 +330,14 @@ fn look_at_asked<F: Files>(
 
 /// Prints how many blocks are worth reading again of the volume that is asked for, and then puts their mapfile at a path, whole or not at all. It returns
 /// whether there are files and all of those that are asked for are whole, with the folders above them. All inputs are opened in order before one is read, and the
-/// mapfile is begun only after all are joined.
+/// mapfile is begun only after all are joined. Where all of them are regular files, no block is held: the volume's structures, entries and directories are read
+/// where they are, and known blocks to compare.
 ///
 /// # Errors
 ///
 /// `Spared` where the mapfile would take the place of an image or a mapfile of the inputs, or of a file that is no map of blocks to read again, and `Output` where
 /// that could not be found out; then where it is not known where the disc ends, or the inputs were not joined, or there is no report, or a path is no node's
-/// (`NoNode`), or the line was not printed;
+/// (`NoNode`), or the line was not printed; `Reread` where an input could not be read a second time or has changed: nothing is printed or put then;
 /// and then those of [`put_file`].
 pub fn reread_map<F: Files, O: Sink>(
     alloc: Global,
@@ -274,11 +358,7 @@ pub fn reread_map<F: Files, O: Sink>(
         Ok(Outlook::Unknown) => return Err(unwritten_volume(alloc, volume, files)),
         Err(AllocError) => return Err(Refusal::Memory(AllocError)),
     }
-    let disc = match joined_volume(alloc, volume, files) {
-        Ok(disc) => disc,
-        Err(refusal) => return Err(refusal),
-    };
-    match map_of(alloc, &disc.table, disc.last, request, path, files, out) {
+    match map_inputs(alloc, request, path, files, out) {
         Ok(whole) => Ok(whole),
         Err(refusal) => Err(refusal),
     }

@@ -2,10 +2,9 @@
 
 ghost use Rattle.std.specs.Prelude.{◌≡◌, ◌||◌, IfOk, IfErr, map};
 ghost use Rattle.std.specs.List.{list_any};
-ghost use Rattle.udfs_lattice.specs.Tables.{state_of};
 ghost use Rattle.udfs_salvage.specs.Choosing.{is_under};
 ghost use Rattle.udfs_salvage.specs.InLine.{AsksInLine, EachRereadForSuffices, IsFirstOf, RereadsForAll, is_in_line, lies_along, may_hide, may_list, names_nothing, nodes_for, reread_for};
-ghost use Rattle.udfs_salvage.specs.Listings.{listing_now};
+ghost use Rattle.udfs_salvage.specs.Listings.{listing_by};
 ghost use Rattle.udfs_salvage.specs.NodeTexts.{path_name};
 ghost use Rattle.udfs_tree.specs.KnownLaws.{taken};
 ghost use Rattle.udfs_volume.specs.Seen.{IsRising};
@@ -15,6 +14,7 @@ use crate::errors::SalvageError;
 use crate::listings::Listing;
 use std::alloc::{AllocError, Global};
 use udfs_file::Kind;
+use udfs_lattice::BlockStore;
 use udfs_walk::{Node, Path, Standing};
 
 /// Whether one of these arguments asks for the path of this text, or for one below it.
@@ -61,15 +61,15 @@ fn nodes_in_line(alloc: Global, nodes: Vec<Node>, only: &[&str]) -> Result<Vec<N
 ///
 /// Only `OutOfMemory`, where memory runs out.
 #[tactic(auto, using(crate::proofs::InLineLists::kept_blocks, crate::proofs::InLineLists::kept_nodes, crate::proofs::InLineLists::kept_rise))]
-pub fn keep_in_line<'a>(
+pub fn keep_in_line<'a, B: BlockStore>(
     alloc: Global,
-    listing: Listing<'a>,
+    listing: Listing<'a, B>,
     only: &[&str],
-) -> Result<Listing<'a>, SalvageError>
-    ensures blocks { IfOk result (λ kept. (listing_now kept).reread ≡ reread_for (map (λ word. word.now) only.now) (listing_now listing.entry)) }
-    ensures rising { IsRising (listing_now listing.entry).reread → IfOk result (λ kept. IsRising (listing_now kept).reread) }
-    ensures nodes { IfOk result (λ kept. (listing_now kept).nodes ≡ nodes_for (map (λ word. word.now) only.now) (listing_now listing.entry)) }
-    ensures volume { IfOk result (λ kept. (listing_now kept).volume ≡ (listing_now listing.entry).volume) }
+) -> Result<Listing<'a, B>, SalvageError>
+    ensures blocks { IfOk result (λ kept. (listing_by B.states kept).reread ≡ reread_for (map (λ word. word.now) only.now) (listing_by B.states listing.entry)) }
+    ensures rising { IsRising (listing_by B.states listing.entry).reread → IfOk result (λ kept. IsRising (listing_by B.states kept).reread) }
+    ensures nodes { IfOk result (λ kept. (listing_by B.states kept).nodes ≡ nodes_for (map (λ word. word.now) only.now) (listing_by B.states listing.entry)) }
+    ensures volume { IfOk result (λ kept. (listing_by B.states kept).volume ≡ (listing_by B.states listing.entry).volume) }
     ensures of { IfOk result (λ kept. (kept.table.now ≡ listing.entry.table.now) × (kept.last ≡ listing.entry.last) × (kept.profile ≡ listing.entry.profile)) }
     ensures refused { IfErr result (λ error. error ≡ SalvageError.OutOfMemory) }
 {
@@ -151,12 +151,12 @@ fn first_of_nothing(
 /// # Errors
 ///
 /// `AllocError` where memory runs out.
-pub fn first_nowhere(
+pub fn first_nowhere<B: BlockStore>(
     alloc: Global,
     only: &[&str],
-    listing: &Listing<'_>,
+    listing: &Listing<'_, B>,
 ) -> Result<Option<usize>, AllocError>
-    ensures { IfOk result (λ first. IsFirstOf (map (λ word. word.now) only.now) (listing_now listing.now).nodes first) }
+    ensures { IfOk result (λ first. IsFirstOf (map (λ word. word.now) only.now) (listing_by B.states listing.now).nodes first) }
 {
     let first = first_of_nothing(alloc, only, &listing.nodes)?;
     Ok(first)

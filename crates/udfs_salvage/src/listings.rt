@@ -1,6 +1,6 @@
 //! Listings: what a store of blocks says of a volume and its nodes only.
 
-ghost use Rattle.std.specs.Prelude.{◌≡◌, ◌≤◌, ◌↔◌, ℕ, IfOk, IfErr, IsErrOf, OnErr, map};
+ghost use Rattle.std.specs.Prelude.{◌≡◌, ◌≤◌, ◌↔◌, ℕ, IfOk, IfErr, IsErrOf, OnErr, OnOk, map};
 ghost use Rattle.udfs_lattice.specs.Tables.{state_of};
 ghost use Rattle.udfs_volume.specs.Answers.{found};
 ghost use Rattle.udfs_volume.specs.Seen.{IsRising};
@@ -147,6 +147,7 @@ pub fn list_store<'a, B: ReportStore>(
     // All that is promised of a report holds of the one whose nodes these are.
     ensures headline { IfOk result (λ listing. B.tells → HeadlineBy profile (B.states blocks.now) last (listing_by B.states listing)) }
     ensures refused { IfErr result (λ error. B.tells → IsStoreRefused profile (B.states blocks.now) last error) }
+    ensures range { OnOk result (¬ IsOutOfRange last) }
     ensures rising { IfOk result (λ listing. B.tells → IsRising (listing_by B.states listing).reread) }
     ensures of { IfOk result (λ listing. (listing.table.now ≡ blocks.now) × (listing.last ≡ last) × (listing.profile ≡ profile)) }
     ensures fails { IsErrOf result StoreError.Unread → B.fails }

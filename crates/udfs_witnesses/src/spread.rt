@@ -1,12 +1,10 @@
 //! Known blocks from all over a disc.
 
-ghost use Rattle.std.specs.Prelude.{◌≡◌, ◌≤◌, ◌<◌, ◌++◌, ◌==◌, not, IfOk};
+ghost use Rattle.std.specs.Prelude.{◌≡◌, ◌≤◌, ◌<◌, ◌++◌, ◌==◌, not, IfOk, IsErrOf, OnErr};
 ghost use Rattle.std.specs.List.{list_any};
-ghost use Rattle.udfs_lattice.specs.Tables.{state_of};
 ghost use Rattle.udfs_witnesses.specs.Witnesses.{is_mixed, is_telling, ninth, spread, telling_in};
 
-use std::alloc::AllocError;
-use udfs_lattice::{BlockTable, Fact};
+use udfs_lattice::{BlockStore, Fact, GaveUp, ReadFault};
 
 /// Whether one of these bytes is another one than this.
 fn has_other(bytes: &[u8], first: u8) -> bool
@@ -26,12 +24,13 @@ fn is_mixed(bytes: &[u8]) -> bool
 }
 
 /// Whether a block is known and its bytes are not all equal.
-fn is_telling(table: &BlockTable, n: u32) -> bool
-    ensures { result ≡ is_telling (state_of table.now n) }
+fn is_telling<B: BlockStore>(blocks: &B, n: u32, room: &mut [u8; 2048]) -> Result<bool, ReadFault>
+    ensures value { IfOk result (λ is. B.tells → is ≡ is_telling (B.states blocks.now n)) }
+    ensures fails { OnErr result B.fails }
 {
-    match table.state(n) {
-        Fact::Known(block) => is_mixed(block),
-        _ => false,
+    match blocks.lend(n, room)? {
+        Fact::Known(block) => Ok(is_mixed(block)),
+        _ => Ok(false),
     }
 }
 
@@ -46,18 +45,21 @@ fn ninth(last: u32, i: u32) -> u32
 }
 
 /// Appends the first known block of a ninth of the disc whose bytes are not all equal.
-fn push_telling(
+fn push_telling<B: BlockStore>(
     places: &mut Vec<u32>,
-    table: &BlockTable,
+    blocks: &B,
     last: u32,
     i: u32,
-) -> Result<(), AllocError>
+) -> Result<(), GaveUp>
     requires last { last ≤ 4194303 }
     requires i { i < 9 }
-    ensures { IfOk result (λ done. places.new.items ≡ places.old.items ++ telling_in (state_of table.now) last i) }
+    ensures value { IfOk result (λ done. B.tells → places.new.items ≡ places.old.items ++ telling_in (B.states blocks.now) last i) }
+    ensures fails { IsErrOf result GaveUp.Unread → B.fails }
 {
+    let mut room = [0; 2048];
     for n in ninth(last, i)..ninth(last, i + 1) {
-        if is_telling(table, n) {
+        let is = is_telling(blocks, n, &mut room)?;
+        if is {
             places.push(n)?;
             return Ok(());
         }
@@ -66,16 +68,17 @@ fn push_telling(
 }
 
 /// Appends those of all ninths.
-pub(crate) fn push_spread(
+pub(crate) fn push_spread<B: BlockStore>(
     places: &mut Vec<u32>,
-    table: &BlockTable,
+    blocks: &B,
     last: u32,
-) -> Result<(), AllocError>
+) -> Result<(), GaveUp>
     requires { last ≤ 4194303 }
-    ensures { IfOk result (λ done. places.new.items ≡ places.old.items ++ spread (state_of table.now) last) }
+    ensures value { IfOk result (λ done. B.tells → places.new.items ≡ places.old.items ++ spread (B.states blocks.now) last) }
+    ensures fails { IsErrOf result GaveUp.Unread → B.fails }
 {
     for i in 0..9 {
-        push_telling(places, table, last, i)?;
+        push_telling(places, blocks, last, i)?;
     }
     Ok(())
 }

@@ -1,15 +1,18 @@
 use Rattle.std.proofs.Common.{◌∙◌, inl, refl}
-use Rattle.udfs_salvage.specs.Listings.{listing_now}
+use Rattle.udfs_salvage.specs.Listings.{listing_by}
 use Rattle.udfs_reports.proofs.RereadingLemmas.{begun_of, told_of}
 use Rattle.udfs_reports.proofs.reread.tell_numbers.Goals as goal
 
+pub returns-in-Ok-Err-clause-refused : goal.returns-in-Ok-Err-clause-refused
+returns-in-Ok-Err-clause-refused g c told t holds = inl (refl, rw c.in-Ok-Err.field-0-is at c.in-Ok-Err.ensures.refused told t holds)
+
+pub returns-in-Err-OutOfMemory-clause-refused : goal.returns-in-Err-OutOfMemory-clause-refused
+returns-in-Err-OutOfMemory-clause-refused g c told t holds = inl (refl, inl (inl refl))
+
 pub returns-in-Ok-write_numbers-clause-printed : goal.returns-in-Ok-write_numbers-clause-printed
-returns-in-Ok-write_numbers-clause-printed g c =
-    told_of _ _ _ _ (listing_now c.in-Ok.listing) _ _ _ _ c.in-Ok.ensures.listing (c.deref.ensures.value ∙ c.in-Ok-rereads_in.ensures.blocks) c.in-Ok-write_numbers.ensures c.all_whole.ensures
+returns-in-Ok-write_numbers-clause-printed g c told t holds =
+    told_of _ _ _ _ (listing_by g.B.BlockStore.states c.in-Ok-Ok.listing) _ _ _ _ (c.in-Ok-Ok.ensures.listing told t holds) (c.deref.ensures.value ∙ c.in-Ok-reread_blocks_by.ensures.value told) c.in-Ok-write_numbers.ensures c.all_whole.ensures
 
 pub returns-clause-refused : goal.returns-clause-refused
-returns-clause-refused g c =
-    begun_of _ _ _ _ (listing_now c.in-Ok.listing) _ _ _ c.in-Ok.ensures.listing (c.deref.ensures.value ∙ c.in-Ok-rereads_in.ensures.blocks) c.in-Err-write_numbers.ensures
-
-pub returns-in-Err-clause-refused : goal.returns-in-Err-clause-refused
-returns-in-Err-clause-refused g c = inl (refl, c.in-Err.ensures.refused)
+returns-clause-refused g c told t holds =
+    begun_of _ _ _ _ (listing_by g.B.BlockStore.states c.in-Ok-Ok.listing) _ _ _ (c.in-Ok-Ok.ensures.listing told t holds) (c.deref.ensures.value ∙ c.in-Ok-reread_blocks_by.ensures.value told) c.in-Err-write_numbers.ensures

@@ -22,3 +22,6 @@ returns-in-Ok-clause-refused g c =
 
 pub returns-in-Err-clause-refused : goal.returns-in-Err-clause-refused
 returns-in-Err-clause-refused g c told = unfit_store c.args.profile (g.B.BlockStore.states c.args.blocks.now) c.args.last c.in-Err.error (c.in-Err.ensures.bad told)
+
+pub returns-in-Ok-clause-range : goal.returns-in-Ok-clause-range
+returns-in-Ok-clause-range g c = IfOk-weaker c.look.result _ _ (λ r of. c.in-Ok.ensures.range) c.look.ensures.of

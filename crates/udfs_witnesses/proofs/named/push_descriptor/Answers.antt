@@ -1,21 +1,20 @@
 use Rattle.std.proofs.Common.{◌++◌, ◌∙◌, ◌∷◌, [], ◌+◌, List, ℕ, Bool, ap, append-nil, arith, sym}
-use Rattle.udfs_lattice.specs.Tables.{state_of}
 use Rattle.udfs_witnesses.specs.Witnesses.{is_descriptor}
 use Rattle.udfs_witnesses.proofs.WitnessLemmas.{found_here, goes_on, none_left}
 use Rattle.udfs_witnesses.proofs.named.push_descriptor.Goals as goal
 
-pub returns-then-is_descriptor : goal.returns-then-is_descriptor
-returns-then-is_descriptor c =
-    let test : ℕ → Bool = λ n. is_descriptor c.args.identifier n (state_of c.args.table.now n) in
-    let is = found_here test c.loop-n.n (c.args.first + 16) _ c.loop-n-test.true (sym c.is_descriptor.ensures ∙ c.if-is_descriptor.true) c.loop-n.invariant.1 in
+pub returns-then-is-clause-value : goal.returns-then-is-clause-value
+returns-then-is-clause-value g c told =
+    let test : ℕ → Bool = λ n. is_descriptor c.args.identifier n (g.B.BlockStore.states c.args.blocks.now n) in
+    let is = found_here test c.loop-n.n (c.args.first + 16) _ c.loop-n-test.true (sym (c.in_ok-is.ensures.value told) ∙ c.if-is.true) (c.loop-n.invariant.1 told) in
     c.in_ok-push.ensures.items ∙ ap (λ (l : List ℕ). l ++ c.loop-n.n ∷ []) c.loop-n.invariant.0 ∙ ap (λ (l : List ℕ). c.args.places.now.items ++ l) is
 
 pub loop-n-preserved : goal.loop-n-preserved
-loop-n-preserved c =
-    let test : ℕ → Bool = λ n. is_descriptor c.args.identifier n (state_of c.args.table.now n) in
-    (c.loop-n.invariant.0, goes_on test c.loop-n.n (c.args.first + 16) _ c.loop-n-test.true (sym c.is_descriptor.ensures ∙ c.if-is_descriptor.false) c.loop-n.invariant.1)
+loop-n-preserved g c =
+    let test : ℕ → Bool = λ n. is_descriptor c.args.identifier n (g.B.BlockStore.states c.args.blocks.now n) in
+    (c.loop-n.invariant.0, λ told. goes_on test c.loop-n.n (c.args.first + 16) _ c.loop-n-test.true (sym (c.in_ok-is.ensures.value told) ∙ c.if-is.false) (c.loop-n.invariant.1 told))
 
-pub returns : goal.returns
-returns c =
-    let test : ℕ → Bool = λ n. is_descriptor c.args.identifier n (state_of c.args.table.now n) in
-    c.loop-n.invariant.0 ∙ sym (append-nil c.args.places.now.items) ∙ ap (λ (l : List ℕ). c.args.places.now.items ++ l) (none_left test c.loop-n.n (c.args.first + 16) _ (omega (arith, c.loop-n-test.false)) c.loop-n.invariant.1)
+pub returns-clause-value : goal.returns-clause-value
+returns-clause-value g c told =
+    let test : ℕ → Bool = λ n. is_descriptor c.args.identifier n (g.B.BlockStore.states c.args.blocks.now n) in
+    c.loop-n.invariant.0 ∙ sym (append-nil c.args.places.now.items) ∙ ap (λ (l : List ℕ). c.args.places.now.items ++ l) (none_left test c.loop-n.n (c.args.first + 16) _ (omega (arith, c.loop-n-test.false)) (c.loop-n.invariant.1 told))
