@@ -66,7 +66,7 @@ impl Program for Commands {
         out: &mut Writer<Taker>,
         err: &mut Writer<Taker>,
     ) -> u8 {
-        run(alloc, words, files, out, err)
+        run(alloc, words, false, files, out, err)
     }
 }
 

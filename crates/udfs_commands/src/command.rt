@@ -12,7 +12,8 @@ ghost use Rattle.udfs_commands.specs.Doing.{Does, Leaves, MayFail};
 use crate::longer_images::remark_on_images;
 use crate::performing::perform;
 use crate::printing::send;
-use crate::refusing::{ask_for_last, explain, is_watched, refuse, show, tell, tell_profile};
+use crate::refusing::{ask_for_last, explain, is_explained, refuse, show, tell, tell_profile};
+use crate::unfinished::remark_on_left;
 use std::alloc::{AllocError, Global};
 use udfs_common::files::Files;
 use udfs_common::known::Known;
@@ -29,11 +30,12 @@ const TWO_STREAMS: &[u8] =
     b"error: the argument '-' cannot be used multiple times\n\nFor more information, try '--help'.\n";
 
 /// Runs the command that the arguments ask for, the program's name first, and returns its exit status: 0 where it is done and nothing is lacking, 1 where it is
-/// done and something is lacking, as where a volume is not whole, 2 where it fails. A failure is a line on `err`, with at most one more that explains it, and a
-/// fault of the arguments is clap's text there. Help and the version go to `out`.
+/// done and something is lacking, as where a volume is not whole, 2 where it fails. A failure is a line on `err`, and a fault of the arguments is clap's text there.
+/// One more line may explain it: with `hints`, to a person who watches, or with `-v`, and never with `-q`. Help and the version go to `out`.
 pub fn run<F: Files, O: Sink, E: Sink>(
     alloc: Global,
     words: &[String],
+    hints: bool,
     files: &mut F,
     out: &mut O,
     err: &mut E,
@@ -55,7 +57,7 @@ pub fn run<F: Files, O: Sink, E: Sink>(
     };
     let matches = match command.try_get_matches_from(words) {
         Ok(matches) => matches,
-        Err(error) => return show(alloc, &error, is_watched(words, files), out, err),
+        Err(error) => return show(alloc, &error, is_explained(words, hints, files), out, err),
     };
     let (name, found) = match matches.subcommand() {
         Some(found) => found,
@@ -71,9 +73,9 @@ pub fn run<F: Files, O: Sink, E: Sink>(
     let remarks = shows_remarks(tone, files);
     let outcome = perform(alloc, &request, remarks, files, out);
     if outcome.is_ok() {
-        remark_on_pairs(alloc, tone, &request, files);
+        remark_at_end(alloc, tone, &request, files);
     }
-    finish(alloc, outcome, &request, tone, words, files, err)
+    finish(alloc, outcome, &request, tone, words, hints, files, err)
 }
 
 /// Says why arguments that clap takes are no request, and returns the exit status, 2.
@@ -109,10 +111,11 @@ fn shows_remarks<F: Files>(tone: Tone, files: &F) -> bool {
     !tone.quiet && (tone.verbose || files.is_watched())
 }
 
-/// Shows, where more is told than has to be, which images are longer than their mapfiles.
-fn remark_on_pairs<F: Files>(alloc: Global, tone: Tone, request: &Request<'_>, files: &F) {
+/// Shows, where more is told than has to be, which images are longer than their mapfiles, and which new files killed runs left beside the output.
+fn remark_at_end<F: Files>(alloc: Global, tone: Tone, request: &Request<'_>, files: &F) {
     if shows_remarks(tone, files) {
         remark_on_images(alloc, request, files);
+        remark_on_left(alloc, request, files);
     }
 }
 
@@ -124,6 +127,7 @@ fn finish<F: Files, E: Sink>(
     request: &Request<'_>,
     tone: Tone,
     line: &[String],
+    hints: bool,
     files: &F,
     err: &mut E,
 ) -> u8
@@ -135,10 +139,10 @@ fn finish<F: Files, E: Sink>(
     match outcome {
         Ok(true) => 0,
         Ok(false) => 1,
-        Err(Refusal::NoLast) => ask_for_last(alloc, line, is_watched(line, files), err),
+        Err(Refusal::NoLast) => ask_for_last(alloc, line, is_explained(line, hints, files), err),
         Err(refusal) => {
             let status = refuse(alloc, &refusal, err);
-            explain(alloc, &refusal, request, tone, files, err);
+            explain(alloc, &refusal, request, tone, hints, files, err);
             status
         }
     }

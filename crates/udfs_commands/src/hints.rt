@@ -223,7 +223,7 @@ fn of_named_input<F: Files>(
 }
 
 /// The path of the file that is to be written, where one is.
-fn asked_output<'r>(request: &'r Request<'_>) -> Option<&'r str> {
+pub fn asked_output<'r>(request: &'r Request<'_>) -> Option<&'r str> {
     match request {
         Request::Merge(merge) => Some(merge.out),
         Request::Forget(forget) => Some(forget.out),
@@ -276,6 +276,12 @@ fn of_output(
         )?));
     };
     let mut line = format!(in alloc; "{}: {}", Shown(out), Said(reason))?;
+    if let Request::Extract(extract) = request
+        && is_absent(reason)
+        && out.starts_with(extract.folder)
+    {
+        line.push_str("; the folder of --to is made later: write the manifest beside it")?;
+    }
     if is_there(reason) {
         let more = format!(in alloc;
             "; files that interrupted runs left can be removed: {}.unfinished, and the same with ~ added",
@@ -284,6 +290,14 @@ fn of_output(
         line.push_str(more.as_str())?;
     }
     Ok(Some(line))
+}
+
+/// Whether the system said that something is not there.
+fn is_absent(reason: Option<Error>) -> bool {
+    match reason {
+        Some(error) => error.kind() == ErrorKind::NotFound,
+        None => false,
+    }
 }
 
 /// Whether the system said that something is there already.

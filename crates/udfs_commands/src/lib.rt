@@ -11,6 +11,7 @@ mod performing;
 mod printing;
 mod refusing;
 mod spared;
+mod unfinished;
 
 pub use command::run;
 pub use refusing::refuse_words;

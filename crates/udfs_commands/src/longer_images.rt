@@ -12,7 +12,7 @@ use udfs_words::input_path::InputPath;
 use udfs_words::request::Request;
 
 /// Whether a path leads to a file, and no pipe or device.
-fn is_file<F: Files>(alloc: Global, path: &str, files: &F) -> Result<bool, AllocError> {
+pub fn is_file<F: Files>(alloc: Global, path: &str, files: &F) -> Result<bool, AllocError> {
     match files.resolve(alloc, path, Aim::Reading)? {
         Ok(target) => Ok(target.kind == Kind::Regular),
         Err(_) => Ok(false),

@@ -31,7 +31,14 @@ const NO_INPUT: &str = "\n  <IN>...\n";
 
 /// What is one.
 const FIND_INPUT: &str =
-    "  an input is a table file or a reading, or a pass: --ddrescue IMAGE MAPFILE\n";
+    "  an input is a table file or a reading, or a pass: --ddrescue IMAGE MAPFILE; udfsalvage-rescue begins without one\n";
+
+/// How clap lists that an output is missing.
+const NO_OUT: &str = "\n  --out <FILE>\n";
+
+/// What it is.
+const SAY_OUT: &str =
+    "  --out names the file to write, which for merge and forget may be the table among the inputs\n";
 
 /// How clap says that it does not know the name of the wide rules.
 const BARE_WIDE: &str = "unexpected argument '--wide' found";
@@ -49,19 +56,20 @@ const NOTHING_TO_FORGET: &str = "\n  <--conflicts|--blocks <LIST>>\n";
 const NOT_TEXT: &[u8] =
     b"error: invalid UTF-8 was detected in one or more arguments\n\nFor more information, try '--help'.\n";
 
-/// Prints a second line beneath that of an error of what was asked for, where standard error is watched by a person or more is to be said, and not only what has
-/// to be. It prints nothing where there is no more to say, or memory runs out.
+/// Prints a second line beneath that of an error of what was asked for, with `hints`, or where standard error is watched by a person or more is to be said, and not
+/// only what has to be. It prints nothing where there is no more to say, or memory runs out.
 pub fn explain<F: Files, E: Sink>(
     alloc: Global,
     refusal: &Refusal,
     request: &Request<'_>,
     tone: Tone,
+    hints: bool,
     files: &F,
     err: &mut E,
 )
     ensures quiet { tone.quiet ≡ true → err.new ≡ err.old }
 {
-    if tone.quiet || !(files.is_watched() || tone.verbose) {
+    if tone.quiet || !(hints || files.is_watched() || tone.verbose) {
         return;
     }
     if let Ok(Some(more)) = second_line(alloc, refusal, request, files)
@@ -135,7 +143,8 @@ fn fault_text(alloc: Global, error: &Error, watched: bool) -> Result<String, All
     format!(in alloc; "{text}{more}")
 }
 
-/// What a person is told beneath clap's text of a fault of the arguments: where to find the last block, what an input is, or how the wide rules are named.
+/// What a person is told beneath clap's text of a fault of the arguments: where to find the last block, what an input is, what the output is, or how the wide
+/// rules are named.
 fn more_of(text: &str) -> &'static str {
     if text.contains(NO_LAST) {
         return FIND_LAST;
@@ -143,17 +152,20 @@ fn more_of(text: &str) -> &'static str {
     if text.contains(NO_INPUT) {
         return FIND_INPUT;
     }
+    if text.contains(NO_OUT) {
+        return SAY_OUT;
+    }
     if text.contains(BARE_WIDE) {
         return SAY_WIDE;
     }
     ""
 }
 
-/// Whether a person reads more than the line of an error, by these arguments: on a terminal, or with `--verbose`, and never with `--quiet`.
-pub fn is_watched<F: Files>(words: &[String], files: &F) -> bool {
+/// Whether more is printed than the line of an error, by these arguments: with `hints`, on a terminal, or with `--verbose`, and never with `--quiet`.
+pub fn is_explained<F: Files>(words: &[String], hints: bool, files: &F) -> bool {
     let verbose = is_given("--verbose", b"--verbose", words) || is_given("-v", b"-v", words);
     let quiet = is_given("--quiet", b"--quiet", words) || is_given("-q", b"-q", words);
-    !quiet && (verbose || files.is_watched())
+    !quiet && (hints || verbose || files.is_watched())
 }
 
 /// Says, as clap does where neither a size nor an image with its mapfile is given, that the last block has to be given, and returns the exit status, 2.

@@ -9,6 +9,7 @@ use udfs_files::{Stage, Watch};
 #[derive(Drop)]
 pub struct Witness {
     speaks: Cell<bool>,
+    hushed: Cell<bool>,
     remarks: RefCell<String>,
 }
 
@@ -17,6 +18,7 @@ impl Witness {
     pub fn new(alloc: Global) -> Witness {
         Witness {
             speaks: Cell::new(false),
+            hushed: Cell::new(false),
             remarks: RefCell::new(String::new(alloc)),
         }
     }
@@ -52,7 +54,7 @@ impl Watch for Witness {
     fn wrote(&self, _count: usize) {}
 
     fn hush(&self) {
-        self.speaks.set(false);
+        self.hushed.set(true);
     }
 
     fn speak(&self) {
@@ -60,7 +62,7 @@ impl Watch for Witness {
     }
 
     fn remark(&self, text: &str) {
-        if !self.speaks.get() {
+        if self.hushed.get() || !self.speaks.get() {
             return;
         }
         if let Ok(mut held) = self.remarks.try_borrow_mut() {

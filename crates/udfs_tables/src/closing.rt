@@ -40,7 +40,8 @@ fn of_doubt(alloc: Global, input: usize, found: Disagreement) -> Result<String, 
     Ok(line)
 }
 
-/// Makes the remarks on the join of `inputs` inputs: what was joined, and which of them may be of another disc.
+/// Makes the remarks on the join of `inputs` inputs: what was joined, and which of them may be of another disc. Where an input after the first brought
+/// anything new, they are made also where no person watches.
 pub fn remark_on_merge<F: Files>(
     alloc: Global,
     inputs: usize,
@@ -48,6 +49,9 @@ pub fn remark_on_merge<F: Files>(
     disagreements: &[Disagreement],
     files: &F,
 ) {
+    if totals.new_known > 0 || totals.new_conflicts > 0 {
+        files.speak();
+    }
     if let Ok(text) = of_totals(alloc, inputs, totals) {
         files.remark(text.as_str());
     }

@@ -9,7 +9,7 @@ use std::alloc::Global;
 use std::io::IsTerminal;
 use std::process::ExitCode;
 use std::{env, io};
-use udfs_calls::Host;
+use udfs_calls::{Calls, Host};
 use udfs_commands::{refuse_words, run};
 use udfs_files::Machine;
 use udfs_reading::Writer;
@@ -22,6 +22,14 @@ fn words_of(rt: &HostRuntime, alloc: Global) -> io::Result<Vec<String>> {
     Ok(env::args(rt)?.collect(alloc)?)
 }
 
+/// Whether standard error leads to another file than standard output does: then a line on it comes between no lines of what is printed.
+fn is_apart<C: Calls>(calls: &C) -> bool {
+    match (calls.about("/dev/stdout"), calls.about("/dev/stderr")) {
+        (Ok(out), Ok(err)) => out.device != err.device || out.inode != err.inode,
+        _ => false,
+    }
+}
+
 fn main(rt: HostRuntime) -> ExitCode {
     let alloc = rt.alloc();
     let is_watched = rt.stderr().is_terminal();
@@ -31,9 +39,10 @@ fn main(rt: HostRuntime) -> ExitCode {
     let Ok(room) = String::with_capacity(alloc, PATH_ROOM) else {
         return ExitCode::from(refuse_words(true, &mut err));
     };
+    let hints = is_apart(&Host::new(&rt));
     let mut files = Machine::new(Host::new(&rt), &rt, &screen, room);
     let status = match words_of(&rt, alloc) {
-        Ok(words) => run(alloc, words.as_slice(), &mut files, &mut out, &mut err),
+        Ok(words) => run(alloc, words.as_slice(), hints, &mut files, &mut out, &mut err),
         Err(error) => {
             let wants_memory = error.kind() == io::ErrorKind::OutOfMemory;
             refuse_words(wants_memory, &mut err)

@@ -24,8 +24,9 @@ pub struct Screen<'a, C: Clock, W: Write + Copy> {
     clock: &'a C,
     err: W,
     is_watched: bool,
-    /// Whether remarks are written.
+    /// Whether remarks are written, and whether they never are.
     remarks: Cell<bool>,
+    hushed: Cell<bool>,
     reason: Cell<Option<Error>>,
     /// When the line is written next, if ever.
     next: Cell<Option<Instant>>,
@@ -48,6 +49,7 @@ impl<'a, C: Clock, W: Write + Copy> Screen<'a, C, W> {
             err,
             is_watched,
             remarks: Cell::new(is_watched),
+            hushed: Cell::new(false),
             reason: Cell::new(None),
             next: Cell::new(None),
             is_shown: Cell::new(false),
@@ -190,7 +192,11 @@ impl<'a, C: Clock, W: Write + Copy> Watch for Screen<'a, C, W> {
 
     fn read(&self, input: usize, count: usize) {
         self.input.set(input);
-        self.count(count);
+        // While outputs are written, what is read for that does not count.
+        match self.stage.get() {
+            Stage::Writing => self.tick(),
+            Stage::Reading | Stage::Walking => self.count(count),
+        }
     }
 
     fn wrote(&self, count: usize) {
@@ -200,7 +206,7 @@ impl<'a, C: Clock, W: Write + Copy> Watch for Screen<'a, C, W> {
     fn hush(&self) {
         self.clear();
         self.next.set(None);
-        self.remarks.set(false);
+        self.hushed.set(true);
     }
 
     fn speak(&self) {
@@ -208,7 +214,7 @@ impl<'a, C: Clock, W: Write + Copy> Watch for Screen<'a, C, W> {
     }
 
     fn remark(&self, text: &str) {
-        if !self.remarks.get() {
+        if self.hushed.get() || !self.remarks.get() {
             return;
         }
         self.clear();

@@ -4,7 +4,7 @@ use crate::tests::check;
 use std::test::Fail;
 
 static SCRIPT: &str = r"
-= the_closing_line_comes_only_where_more_is_told
+= the_closing_line_comes_where_more_is_told_or_something_is_new
 passes
 
 $ merge -v --out t.tab a.rd b.rd
@@ -20,6 +20,10 @@ silent
 remarked 2 inputs: 2 known (1 new), 0 in conflict (0 new)\n
 
 $ merge --out t.tab a.rd b.rd
+silent
+remarked 2 inputs: 2 known (1 new), 0 in conflict (0 new)\n
+
+$ merge --out t.tab a.rd a.rd
 silent
 remarked
 
@@ -123,6 +127,14 @@ remarked 1 input: 2 known (0 new), 0 in conflict (0 new)\n
 $ merge --out t.tab --ddrescue p.img short.map
 silent
 remarked
+
+= a_new_file_that_a_killed_run_left_is_named
+passes
+file t.tab.unfinished text x
+
+$ merge -v --out t.tab a.rd b.rd
+silent
+remarked 2 inputs: 2 known (1 new), 0 in conflict (0 new)\nt.tab.unfinished was left by a run that was killed: remove it, unless that run goes on\n
 
 = an_input_that_contradicts_itself
 # A block of which an input has two contents is not known to it, whichever comes first; one of which it has the same content twice is.
