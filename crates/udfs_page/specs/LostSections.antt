@@ -82,9 +82,9 @@ lost_command g rules last = markup (codes "udfsalvage extract") ++ disc_words g 
 -- what is said before them
 unfoldable pub lost_front : GivenWords → Profile → ℕ → List ℕ
 lost_front g rules last =
-    markup (codes "<h2>Lost folders and files</h2>\n<p>No name that was read leads to these. The names inside a lost folder are its own. Some may be left over from what was deleted, and be old. This writes what is whole of them too:</p>\n")
+    markup (codes "<h2>Lost folders and files</h2>\n<p>No name that was read leads to these, so each is called by its block; what is inside a folder keeps its name. Some may be left over from what was deleted, and be old. This writes what is whole of them as well:</p>\n")
     ++ commands_html (lost_command g rules last)
-    ++ markup (codes "<p>The command <code>list --lost</code> also shows names that were found behind an unread block of a folder: evidence, and no proof.</p>\n")
+    ++ markup (codes "<p>The command <code>list --lost</code> also shows names that were found behind an unread block of a folder: evidence, not proof.</p>\n")
 
 -- the trees, and the lost files among entries that they do not name
 abbrev pub lost_in : View → Bool → List NodeFields → List Unnamed → List LostTree → List ℕ

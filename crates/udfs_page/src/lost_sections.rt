@@ -80,12 +80,12 @@ fn push_lost_front(
 {
     push_markup(
         text,
-        "<h2>Lost folders and files</h2>\n<p>No name that was read leads to these. The names inside a lost folder are its own. Some may be left over from what was deleted, and be old. This writes what is whole of them too:</p>\n",
+        "<h2>Lost folders and files</h2>\n<p>No name that was read leads to these, so each is called by its block; what is inside a folder keeps its name. Some may be left over from what was deleted, and be old. This writes what is whole of them as well:</p>\n",
     )?;
     push_lost_box(alloc, text, given, profile, last)?;
     push_markup(
         text,
-        "<p>The command <code>list --lost</code> also shows names that were found behind an unread block of a folder: evidence, and no proof.</p>\n",
+        "<p>The command <code>list --lost</code> also shows names that were found behind an unread block of a folder: evidence, not proof.</p>\n",
     )
 }
 
