@@ -7,12 +7,12 @@ mod DiscCounting
 mod FoundPieces
 mod FullFolders
 mod Headed
-mod LostPieces
+pub mod LostPieces
 mod LostTallying
 mod LostVolumeLaws
 mod Moving
 mod PathNames
-mod Places
+pub mod Places
 mod Rounding
 mod SafeParts
 mod SafeShowing

@@ -48,7 +48,7 @@ first_full : (v : View) (icb : Icb) (ns : List NodeFields) → option_map path_o
 first_full v icb [] = refl
 first_full v icb (n ∷ ns) = by_test (is_folder_at v icb n) n (full_node v n) (find (is_folder_at v icb) ns) (find (is_folder_at v icb) (map (full_node v) ns)) refl (first_full v icb ns)
 
-folder_full : (v : View) (ns : List NodeFields) (o : Option LongAd) → folder_at v ns o ≡ folder_at v (map (full_node v) ns) o
+pub folder_full : (v : View) (ns : List NodeFields) (o : Option LongAd) → folder_at v ns o ≡ folder_at v (map (full_node v) ns) o
 folder_full v ns None = refl
 folder_full v ns (Some a) = first_full v (icb_of a) ns
 
@@ -66,7 +66,7 @@ borrowed : (v : View) (files : List (Bor Unnamed)) → map (λ (file : Bor Unnam
 borrowed v [] = refl
 borrowed v (file ∷ files) = ap (λ l. full_entry v file.now ∷ l) (borrowed v files)
 
-files_full : (v : View) (deleted : Bool) (trees : List LostTree) (es : List Unnamed) (files : List (Bor Unnamed)) → map (λ (file : Bor Unnamed). file.now) files ≡ lost_files v deleted trees es
+pub files_full : (v : View) (deleted : Bool) (trees : List LostTree) (es : List Unnamed) (files : List (Bor Unnamed)) → map (λ (file : Bor Unnamed). file.now) files ≡ lost_files v deleted trees es
     → map (λ (file : Bor Unnamed). full_entry v file.now) files ≡ lost_files v deleted trees (map (full_entry v) es)
 files_full v deleted trees es files are = borrowed v files ∙ ap (map (full_entry v)) are ∙ sym (bare_entries_will_do v deleted trees es).files
 

@@ -1,5 +1,5 @@
 -- What is counted of what is lost: nodes and files that are lent, and entries whose lists were let go.
-use Rattle.std.proofs.Common.{◌≡◌, ◌∙◌, refl, sym, ap, subst, inl, inr, ℕ, ◌+◌, ◌<◌, ◌&&◌, Bool, true, false, List, [], ◌∷◌, ◌++◌, cond, length, map, nat_lt, take, get_or, append_assoc, Some}
+use Rattle.std.proofs.Common.{◌≡◌, ◌∙◌, refl, sym, ap, subst, inl, inr, ℕ, ◌+◌, ◌<◌, ◌&&◌, Bool, true, false, List, [], ◌∷◌, ◌++◌, cond, length, map, nat_lt, take, get_or, append_assoc, Option, Some, option_map}
 use Rattle.std.specs.Borrow.{Bor}
 use Rattle.std.specs.Prelude.{count_by, sum_by}
 use Rattle.std.proofs.lemmas.List.{length-map}
@@ -30,7 +30,8 @@ use Rattle.udfs_salvage.specs.declared.surveys.Survey as code_survey
 use Rattle.udfs_overview.specs.DiscTallies.{has_data}
 use Rattle.udfs_overview.specs.LostTallies.{IsTallied, IsTallyBy, is_deleted, is_lost_directory, lost_tally, tree_nodes, unfollowed}
 use Rattle.udfs_overview.specs.LostTrees.{IsUnfound}
-use Rattle.udfs_overview.specs.Searched.{Searched, searched, searched_by, without_root}
+use Rattle.udfs_overview.specs.Searched.{Searched, looked_in, rootless_now, searched, searched_by, without_root}
+use Rattle.udfs_overview.specs.declared.lost_found.Lost.{Lost}
 use Rattle.udfs_overview.specs.Tallies.{bytes_of, count_of, is_node_of, or_zero}
 use Rattle.udfs_overview.specs.declared.lost_tallies.LostTally.{LostTally}
 use Rattle.udfs_overview.specs.declared.tallies.NodeSort.TheVariants as sort
@@ -124,31 +125,44 @@ unfollowed_full : (v : View) (es : List Unnamed) → unfollowed v es ≡ unfollo
 unfolding unfollowed
 unfollowed_full v es = ap many (sym (deleted_full v es))
 
-pub full_tallied : (v w : View) (es entries : List Unnamed) (t : LostTally) → v ≡ w → es ≡ entries → IsTallied v es t → IsTallied w (map (full_entry w) entries) t
-full_tallied v w es entries t seen are a = subst (λ z. IsTallied z (map (full_entry z) entries) t) seen (subst (λ l. IsTallied v (map (full_entry v) l) t) are (go a))
+pub full_tallied : (v w : View) (es entries : List Unnamed) (trees : List LostTree) (t : LostTally) → v ≡ w → es ≡ entries → IsTallied v es trees t → IsTallied w (map (full_entry w) entries) trees t
+full_tallied v w es entries trees t seen are a = subst (λ z. IsTallied z (map (full_entry z) entries) trees t) seen (subst (λ l. IsTallied v (map (full_entry v) l) trees t) are (go a))
   where
-    go : IsTallied v es t → IsTallied v (map (full_entry v) es) t
-    go (inl h) = inl (record { trees = h.trees; are_lost = full_lost v v false es es h.trees refl refl h.are_lost; is = h.is ∙ tally_full v es h.trees })
-    go (inr h) = inr (full_unfound v v false es es TooManyPaths refl refl h.0, h.1 ∙ unfollowed_full v es)
+    go : IsTallied v es trees t → IsTallied v (map (full_entry v) es) trees t
+    go (inl h) = inl (record { are_lost = full_lost v v false es es trees refl refl h.are_lost; is = h.is ∙ tally_full v es trees })
+    go (inr h) = inr (record { unfound = full_unfound v v false es es TooManyPaths refl refl h.unfound; none = h.none; is = h.is ∙ unfollowed_full v es })
 
 -- ---- of a survey's volume
 module _ {B : Type 0} (states : B → Blocks) (s : code_survey.Survey B) where
-  pub opened_tally : (f : Found) (v : View) (es : List Unnamed) (t : LostTally) → volume_now s.volume ≡ found f → v ≡ view (states s.table.now) f.space → es ≡ s.unnamed.items → IsTallied v es t
-      → IsTallyBy (searched s.profile (states s.table.now) s.last (survey_by states s)) t
-  opened_tally f v es t opened seen are a =
-      subst (λ o. IsTallyBy o t) (sym (opened_place (states s.table.now) (volume_now s.volume) f s.unnamed.items (without_root s.profile (states s.table.now) s.last) opened))
-      (full_tallied v (view (states s.table.now) f.space) es s.unnamed.items t seen are a)
+  abbrev place_in : Option Searched → Option Searched
+  place_in closed = searched_by closed (states s.table.now) (volume_now s.volume) (full_entries (states s.table.now) (volume_now s.volume) s.unnamed.items)
 
-  pub holes_tally : (listed : List ℕ) (t : LostTally) → volume_now s.volume ≡ holes listed → IsTallyBy (without_root s.profile (states s.table.now) s.last) t
-      → IsTallyBy (searched s.profile (states s.table.now) s.last (survey_by states s)) t
-  holes_tally listed t is a =
-      let place : searched s.profile (states s.table.now) s.last (survey_by states s) ≡ without_root s.profile (states s.table.now) s.last
-      = (λ i. searched_by (without_root s.profile (states s.table.now) s.last) (states s.table.now) (is i) (full_entries (states s.table.now) (is i) s.unnamed.items)) in
-      subst (λ o. IsTallyBy o t) (sym place) a
+  pub opened_tally : (f : Found) (v : View) (es : List Unnamed) (trees : List LostTree) (t : LostTally) → volume_now s.volume ≡ found f → v ≡ view (states s.table.now) f.space → es ≡ s.unnamed.items → IsTallied v es trees t
+      → IsTallyBy (searched s.profile (states s.table.now) s.last (survey_by states s)) trees t
+  opened_tally f v es trees t opened seen are a =
+      subst (λ o. IsTallyBy o trees t) (sym (opened_place (states s.table.now) (volume_now s.volume) f s.unnamed.items (without_root s.profile (states s.table.now) s.last) opened))
+      (full_tallied v (view (states s.table.now) f.space) es s.unnamed.items trees t seen are a)
 
-  pub faulty_tally : (fault : VolumeFault) (t : LostTally) → volume_now s.volume ≡ faulty fault → IsTallyBy (without_root s.profile (states s.table.now) s.last) t
-      → IsTallyBy (searched s.profile (states s.table.now) s.last (survey_by states s)) t
-  faulty_tally fault t is a =
-      let place : searched s.profile (states s.table.now) s.last (survey_by states s) ≡ without_root s.profile (states s.table.now) s.last
-      = (λ i. searched_by (without_root s.profile (states s.table.now) s.last) (states s.table.now) (is i) (full_entries (states s.table.now) (is i) s.unnamed.items)) in
-      subst (λ o. IsTallyBy o t) (sym place) a
+  -- it is looked for in it
+  pub opened_there : (f : Found) (lost : Lost) → volume_now s.volume ≡ found f → looked_in (states s.table.now) (survey_by states s) lost ≡ searched s.profile (states s.table.now) s.last (survey_by states s)
+  opened_there f lost opened =
+      opened_place (states s.table.now) (volume_now s.volume) f s.unnamed.items (option_map (rootless_now (states s.table.now)) lost.rootless) opened
+      ∙ sym (opened_place (states s.table.now) (volume_now s.volume) f s.unnamed.items (without_root s.profile (states s.table.now) s.last) opened)
+
+  -- a volume that does not open is looked through in what is known of it without its file set
+  abbrev pub IsShut : Type 0
+  IsShut = (closed : Option Searched) → place_in closed ≡ closed
+
+  pub holes_shut : (listed : List ℕ) → volume_now s.volume ≡ holes listed → IsShut
+  holes_shut listed is closed = λ i. searched_by closed (states s.table.now) (is i) (full_entries (states s.table.now) (is i) s.unnamed.items)
+
+  pub faulty_shut : (fault : VolumeFault) → volume_now s.volume ≡ faulty fault → IsShut
+  faulty_shut fault is closed = λ i. searched_by closed (states s.table.now) (is i) (full_entries (states s.table.now) (is i) s.unnamed.items)
+
+  pub shut_tally : (trees : List LostTree) (t : LostTally) → IsShut → IsTallyBy (without_root s.profile (states s.table.now) s.last) trees t
+      → IsTallyBy (searched s.profile (states s.table.now) s.last (survey_by states s)) trees t
+  shut_tally trees t shut a = subst (λ o. IsTallyBy o trees t) (sym (shut (without_root s.profile (states s.table.now) s.last))) a
+
+  pub shut_there : (lost : Lost) → IsShut → option_map (rootless_now (states s.table.now)) lost.rootless ≡ without_root s.profile (states s.table.now) s.last
+      → looked_in (states s.table.now) (survey_by states s) lost ≡ searched s.profile (states s.table.now) s.last (survey_by states s)
+  shut_there lost shut at = shut (option_map (rootless_now (states s.table.now)) lost.rootless) ∙ at ∙ sym (shut (without_root s.profile (states s.table.now) s.last))

@@ -1,9 +1,9 @@
 -- What is counted of lost folders and lost files, and of deleted entries.
 --     lost_tally view entries trees       the figures of these lost trees, and of the lost files that they do not name
 --     unfollowed view entries             the same where there are too many folders and files to follow
---     IsTallied view entries tally        these are the figures of what is lost among entries that no name leads to
---     IsTallyBy searched tally            the same where it is looked for
-use Rattle.std.specs.Prelude.{◌≡◌, ◌⊎◌, ◌==◌, ◌&&◌, ◌||◌, Bool, true, false, not, List, count_by, flat_map, length, Option, Some, None}
+--     IsTallied view entries trees tally  these are the trees and the figures of what is lost among entries that no name leads to
+--     IsTallyBy searched trees tally      the same where it is looked for
+use Rattle.std.specs.Prelude.{◌≡◌, ◌⊎◌, ◌==◌, ◌&&◌, ◌||◌, Bool, true, false, not, List, [], count_by, flat_map, length, Option, Some, None}
 use Rattle.udfs_space.specs.Places.{View}
 use Rattle.udfs_walk.specs.NodeFields.{NodeFields}
 use Rattle.udfs_walk.specs.declared.answers.NodesError.TheVariants.{TooManyPaths}
@@ -53,17 +53,22 @@ unfollowed view entries = record { too_many = true; folders = 0; whole_files = 0
 unfoldable pub no_tally : LostTally
 no_tally = record { too_many = false; folders = 0; whole_files = 0; whole_bytes = 0; torn_files = 0; files = 0; with_data = 0; deleted = 0 }
 
--- the figures of the lost trees among entries
-pub record HasTrees (view : View) (entries : List Unnamed) (tally : LostTally) : Type 0 where
-  pub trees : List LostTree
+-- these are the lost trees among entries, and their figures
+pub record HasTrees (view : View) (entries : List Unnamed) (trees : List LostTree) (tally : LostTally) : Type 0 where
   pub are_lost : AreLost view false entries trees
   pub is : tally ≡ lost_tally view entries trees
 
--- or these have more than 65,536 nodes, or lead to a directory that lists more
-abbrev pub IsTallied : View → List Unnamed → LostTally → Type 0
-IsTallied view entries tally = HasTrees view entries tally ⊎ (IsUnfound view (lost_folders view false entries) TooManyPaths × (tally ≡ unfollowed view entries))
+-- or they have more than 65,536 nodes, or lead to a directory that lists more; then none are told
+pub record IsUntold (view : View) (entries : List Unnamed) (trees : List LostTree) (tally : LostTally) : Type 0 where
+  pub unfound : IsUnfound view (lost_folders view false entries) TooManyPaths
+  pub none : trees ≡ []
+  pub is : tally ≡ unfollowed view entries
+
+-- either
+abbrev pub IsTallied : View → List Unnamed → List LostTree → LostTally → Type 0
+IsTallied view entries trees tally = HasTrees view entries trees tally ⊎ IsUntold view entries trees tally
 
 -- where it is looked for; and else nothing is lost
-abbrev pub IsTallyBy : Option Searched → LostTally → Type 0
-IsTallyBy None tally = tally ≡ no_tally
-IsTallyBy (Some s) tally = IsTallied s.view s.entries tally
+abbrev pub IsTallyBy : Option Searched → List LostTree → LostTally → Type 0
+IsTallyBy None trees tally = (trees ≡ []) × (tally ≡ no_tally)
+IsTallyBy (Some s) trees tally = IsTallied s.view s.entries trees tally

@@ -4,6 +4,7 @@
 --     without_root profile blocks last   that, where these are found
 --     searched profile blocks last report    the volume of a report, and where it does not open, what is known of it without its file set
 --     searched_of survey                 the same of a survey
+--     looked_in blocks report lost       the same, as what was found tells
 --     searched_now survey lost           the same as the code has it
 use Rattle.std.specs.Prelude.{ℕ, Bool, List, Option, Some, None, cond, map, option_map}
 use Rattle.udfs_lattice.specs.Tables.{Table, state_of}
@@ -61,6 +62,10 @@ rootless_now blocks r = record {
   two = has_two (parts_now r.volume.parts);
   entries = map (full_entry (view blocks r.volume.space)) r.entries.items;
 }
+
+-- where what was found of a report tells that it was looked for
+abbrev pub looked_in : Blocks → Report → Lost → Option Searched
+looked_in blocks r lost = searched_by (option_map (rootless_now blocks) lost.rootless) blocks r.volume r.unnamed
 
 -- where the survey and what was found tell that it was looked for
 abbrev pub searched_now : code_survey.Survey Table → Lost → Option Searched

@@ -46,6 +46,7 @@ pub use left_out::{left_out_remark, left_out_types, push_left_out, wide_writes};
 pub use lost_found::{
     Lost, Rootless, find_lost, found_trees_are_the_volumes, places_are_the_volumes,
 };
+pub use lost_lines::{place_of_by, push_lost_word};
 pub use lost_list::write_lost;
 pub use lost_summaries::push_lost;
 pub use lost_tallies::{LostTally, tally_lost};

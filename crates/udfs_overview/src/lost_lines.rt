@@ -1,9 +1,9 @@
 //! What a line of the list says of a lost folder, of what is in it, and of a lost file. Each function appends to a text; if memory
 //! runs out, a part may be appended.
 
-ghost use Rattle.std.specs.Prelude.{◌≡◌, ◌++◌, OnOk, IfOk, Some, option_map};
+ghost use Rattle.std.specs.Prelude.{◌≡◌, ◌++◌, OnErr, OnOk, IfOk, Some, option_map};
 ghost use Rattle.std.specs.String.{string_bytes};
-ghost use Rattle.udfs_space.specs.Views.{view_now};
+ghost use Rattle.udfs_space.specs.Views.{view_by, view_now};
 ghost use Rattle.udfs_walk.specs.Bare.{full_entry, full_node};
 ghost use Rattle.udfs_walk.specs.Targets.{is_icb};
 ghost use Rattle.udfs_walk.specs.UnnamedEntries.{names};
@@ -18,18 +18,20 @@ use std::alloc::Global;
 use std::fmt::Write;
 use udfs_file::Kind;
 use udfs_file::file_sets::address_fault;
-use udfs_lost::parent;
+use udfs_lattice::{BlockStore, ReadFault};
+use udfs_lost::parent_by;
 use udfs_osta::{OutOfMemory, Stamp};
-use udfs_space::View;
+use udfs_space::{StoreView, View};
 use udfs_tag::{LbAddr, LongAd};
 use udfs_walk::{Node, Path, Standing, Unnamed, full_standing, tail_at};
 
-/// What a lost folder or a lost file is called.
-pub(crate) fn push_lost_word(
-    text: &mut String,
-    two: bool,
-    address: LbAddr,
-) -> Result<(), OutOfMemory>
+/// Appends what a lost folder or a lost file is called: `lost:` and the logical block of its entry, with the partition reference and a `-` before
+/// it where there are two partitions.
+///
+/// # Errors
+///
+/// If memory runs out. Then a part may be appended.
+pub fn push_lost_word(text: &mut String, two: bool, address: LbAddr) -> Result<(), OutOfMemory>
     ensures { OnOk result (string_bytes text.new ≡ string_bytes text.old ++ lost_word two address) }
 {
     let LbAddr { block, reference } = address;
@@ -85,8 +87,8 @@ fn is_icb(a: LbAddr, b: LbAddr) -> bool
 }
 
 /// Whether the address of a node is good, and leads there.
-fn names(view: View<'_>, address: LbAddr, node: &Node) -> bool
-    ensures { result ≡ names (view_now view.entry) address node.now }
+fn names<B: BlockStore>(view: StoreView<'_, B>, address: LbAddr, node: &Node) -> bool
+    ensures { result ≡ names (view_by B.states view.entry) address node.now }
 {
     match address_fault(view.space, node.icb) {
         Some(_) => false,
@@ -95,15 +97,19 @@ fn names(view: View<'_>, address: LbAddr, node: &Node) -> bool
 }
 
 /// Whether a node is the directory at an address.
-fn is_folder_at(view: View<'_>, address: LbAddr, node: &Node) -> bool
-    ensures { result ≡ is_folder_at (view_now view.entry) address node.now }
+fn is_folder_at<B: BlockStore>(view: StoreView<'_, B>, address: LbAddr, node: &Node) -> bool
+    ensures { result ≡ is_folder_at (view_by B.states view.entry) address node.now }
 {
     is_directory(node.kind) && names(view, address, node)
 }
 
 /// The path of the first node that is the directory at an address.
-fn folder_at<'a>(view: View<'_>, nodes: &'a [Node], address: LongAd) -> Option<&'a Path>
-    ensures { option_map (λ path. path.now) result ≡ folder_at (view_now view.entry) nodes.now (Some address) }
+fn folder_at<'a, B: BlockStore>(
+    view: StoreView<'_, B>,
+    nodes: &'a [Node],
+    address: LongAd,
+) -> Option<&'a Path>
+    ensures { option_map (λ path. path.now) result ≡ folder_at (view_by B.states view.entry) nodes.now (Some address) }
 {
     let mut rest = nodes;
     while let Some((first, others)) = rest.split_first() {
@@ -115,13 +121,36 @@ fn folder_at<'a>(view: View<'_>, nodes: &'a [Node], address: LongAd) -> Option<&
     None
 }
 
-/// The path of the directory in which a lost folder is, as it says itself.
+/// The path of the directory in which a lost folder is, as it says itself: none where that directory is none of these nodes.
+///
+/// # Errors
+///
+/// `ReadFault` where the bytes of a known block could not be read.
+pub fn place_of_by<'a, B: BlockStore>(
+    view: StoreView<'_, B>,
+    nodes: &'a [Node],
+    folder: LbAddr,
+) -> Result<Option<&'a Path>, ReadFault>
+    ensures value { IfOk result (λ place. B.tells → option_map (λ path. path.now) place ≡ place_of (view_by B.states view.entry) nodes.now folder) }
+    ensures fails { OnErr result B.fails }
+{
+    match parent_by(view, folder)? {
+        Some(address) => Ok(folder_at(view, nodes, address)),
+        None => Ok(None),
+    }
+}
+
+/// The same by a table.
 fn place_of<'a>(view: View<'_>, nodes: &'a [Node], folder: LbAddr) -> Option<&'a Path>
     ensures { option_map (λ path. path.now) result ≡ place_of (view_now view.entry) nodes.now folder }
 {
-    match parent(view, folder) {
-        Some(address) => folder_at(view, nodes, address),
-        None => None,
+    let stored = StoreView {
+        blocks: view.table,
+        space: view.space,
+    };
+    match place_of_by(stored, nodes, folder) {
+        Ok(place) => place,
+        Err(_) => unreachable!(),
     }
 }
 

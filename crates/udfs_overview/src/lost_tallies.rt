@@ -1,15 +1,15 @@
 //! What is counted of lost folders and lost files, and of deleted entries.
 
-ghost use Rattle.std.specs.Prelude.{◌≡◌, ◌++◌, IfOk, IsErrOf, OnErr, cond, count_by, false, length, map, sum_by, true};
+ghost use Rattle.std.specs.Prelude.{◌≡◌, ◌++◌, IfOk, IsErrOf, OnErr, cond, count_by, false, length, map, option_map, sum_by, true};
 ghost use Rattle.udfs_space.specs.Views.{view_by};
 ghost use Rattle.udfs_salvage.specs.Surveys.{survey_by};
 ghost use Rattle.udfs_overview.specs.DiscTallies.{has_data};
 ghost use Rattle.udfs_overview.specs.LostTallies.{IsTallied, IsTallyBy, is_deleted, is_lost_directory, lost_tally, no_tally, tree_nodes, unfollowed};
-ghost use Rattle.udfs_overview.specs.Searched.{searched, without_root};
+ghost use Rattle.udfs_overview.specs.Searched.{looked_in, rootless_now, searched, without_root};
 ghost use Rattle.udfs_overview.specs.Tallies.{is_node_of, or_zero};
 
 use crate::disc_tallies::has_data;
-use crate::lost_found::{found_in_by, without_root_by};
+use crate::lost_found::{Lost, found_in_by, without_root_by};
 use crate::tallies::{NodeSort, is_file, is_folder, is_loop, node_bytes};
 use std::alloc::{AllocError, Global};
 use udfs_lattice::{BlockStore, GaveUp, ReadFault};
@@ -237,58 +237,95 @@ fn tally_trees<B: BlockStore>(
     Ok(figures(&nodes, &files, deleted))
 }
 
-/// The figures of what is lost among entries that no name leads to.
+/// The trees of what is lost among entries that no name leads to, and its figures. Where the folders and files are too many to follow there are no trees.
 fn tally_in<B: BlockStore>(
     alloc: Global,
     view: StoreView<'_, B>,
     entries: &[Unnamed],
-) -> Result<LostTally, GaveUp>
-    ensures tallied { IfOk result (λ tally. B.tells → IsTallied (view_by B.states view.entry) entries.now tally) }
+) -> Result<(LostTally, Vec<LostTree>), GaveUp>
+    ensures tallied { IfOk result (λ told. B.tells → IsTallied (view_by B.states view.entry) entries.now told.1.items told.0) }
     ensures fails { IsErrOf result GaveUp.Unread → B.fails }
 {
     let deleted = count_deleted(view, entries)?;
     match found_in_by(alloc, view, false, entries) {
         Ok(trees) => {
             let tally = tally_trees(alloc, view, entries, &trees, deleted)?;
-            Ok(tally)
+            Ok((tally, trees))
         }
-        Err(why) => untallied(why, deleted),
+        Err(why) => {
+            let tally = untallied(why, deleted)?;
+            Ok((tally, Vec::new(alloc)))
+        }
     }
 }
 
-/// The figures of what is lost of a volume that does not open, where its layout and the places of its blocks are found.
+/// What is lost of a volume that does not open, where its layout and the places of its blocks are found, and its figures.
 fn tally_rootless<B: BlockStore>(
     alloc: Global,
     blocks: &B,
     last: u32,
     profile: Profile,
-) -> Result<LostTally, GaveUp>
-    ensures tallied { IfOk result (λ tally. B.tells → IsTallyBy (without_root profile (B.states blocks.now) last) tally) }
+) -> Result<(LostTally, Lost), GaveUp>
+    ensures tallied { IfOk result (λ told. B.tells → IsTallyBy (without_root profile (B.states blocks.now) last) told.1.trees.items told.0) }
+    ensures place { IfOk result (λ told. B.tells → option_map (rootless_now (B.states blocks.now)) told.1.rootless ≡ without_root profile (B.states blocks.now) last) }
     ensures fails { IsErrOf result GaveUp.Unread → B.fails }
 {
     match without_root_by(alloc, blocks, last, profile)? {
-        None => Ok(no_tally()),
+        None => {
+            let lost = Lost {
+                rootless: None,
+                trees: Vec::new(alloc),
+            };
+            Ok((no_tally(), lost))
+        }
         Some(rootless) => {
             let view = rootless.volume.view_by(blocks);
-            let tally = tally_in(alloc, view, &rootless.entries)?;
-            Ok(tally)
+            let (tally, trees) = tally_in(alloc, view, &rootless.entries)?;
+            let lost = Lost {
+                rootless: Some(rootless),
+                trees,
+            };
+            Ok((tally, lost))
         }
     }
 }
 
-/// Counts what is lost of a volume: the folders and files of the trees of its lost folders, the lost files that none of them names,
-/// and deleted entries. Lost folders and files are directories and files that no known name leads to, of link count above 0. Where
-/// the volume does not open, they are looked for by its layout and the places of its blocks alone, if these are found.
+/// What is lost of a volume that opens, and its figures.
+fn tally_opened<B: BlockStore>(
+    alloc: Global,
+    view: StoreView<'_, B>,
+    entries: &[Unnamed],
+) -> Result<(LostTally, Lost), GaveUp>
+    ensures tallied { IfOk result (λ told. B.tells → IsTallied (view_by B.states view.entry) entries.now told.1.trees.items told.0) }
+    ensures fails { IsErrOf result GaveUp.Unread → B.fails }
+{
+    let (tally, trees) = tally_in(alloc, view, entries)?;
+    let lost = Lost {
+        rootless: None,
+        trees,
+    };
+    Ok((tally, lost))
+}
+
+/// Finds what is lost of a volume, and counts it: the folders and files of the trees of its lost folders, the lost files that none of them
+/// names, and deleted entries. Lost folders and files are directories and files that no known name leads to, of link count above 0. Where
+/// the volume does not open, they are looked for by its layout and the places of its blocks alone, if these are found. Where there are too
+/// many to follow, as the figures say then, no trees are returned.
 ///
 /// # Errors
 ///
 /// `OutOfMemory` where memory runs out, and `Unread` where the bytes of a known block could not be read.
-pub fn tally_lost<B: BlockStore>(alloc: Global, survey: &Survey<'_, B>) -> Result<LostTally, GaveUp>
-    ensures tallied { IfOk result (λ tally. B.tells → IsTallyBy (searched survey.now.profile (B.states survey.now.table.now) survey.now.last (survey_by B.states survey.now)) tally) }
+pub fn tally_lost<B: BlockStore>(
+    alloc: Global,
+    survey: &Survey<'_, B>,
+) -> Result<(LostTally, Lost), GaveUp>
+    ensures tallied { IfOk result (λ told. B.tells → IsTallyBy (searched survey.now.profile (B.states survey.now.table.now) survey.now.last (survey_by B.states survey.now)) told.1.trees.items told.0) }
+    ensures place { IfOk result (λ told. B.tells → looked_in (B.states survey.now.table.now) (survey_by B.states survey.now) told.1
+        ≡ searched survey.now.profile (B.states survey.now.table.now) survey.now.last (survey_by B.states survey.now)) }
     ensures fails { IsErrOf result GaveUp.Unread → B.fails }
 {
     match &survey.volume {
-        Volume::Open(opened) => tally_in(alloc, opened.view_by(survey.table), &survey.unnamed),
+        Volume::Open(opened) => tally_opened(alloc, opened.view_by(survey.table), &survey.unnamed),
         Volume::Holes(_) => tally_rootless(alloc, survey.table, survey.last, survey.profile),
         Volume::Fault(_) => tally_rootless(alloc, survey.table, survey.last, survey.profile),
     }

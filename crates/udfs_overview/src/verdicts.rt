@@ -1,5 +1,6 @@
 //! What is told of a volume beside its report.
 
+use crate::lost_found::Lost;
 use crate::lost_tallies::LostTally;
 use udfs_lawfulness::Lawfulness;
 
@@ -10,4 +11,6 @@ pub struct Verdict {
     pub lawfulness: Lawfulness,
     /// What is counted of its lost folders and lost files, and of deleted entries.
     pub lost: LostTally,
+    /// The trees of its lost folders, and where these were looked for. There are none where there are too many to follow.
+    pub found: Lost,
 }

@@ -7,10 +7,12 @@ use Rattle.udfs_volume.specs.declared.profiles.Profile.{Profile}
 use Rattle.udfs_salvage.specs.Reports.{Report}
 use Rattle.udfs_overview.specs.declared.verdicts.Verdict.{Verdict}
 use Rattle.udfs_overview.specs.Repeating.{GivenWords}
+use Rattle.udfs_overview.specs.Searched.{looked_in}
 use Rattle.udfs_overview.specs.SummaryFigures.{figures_of}
 use Rattle.udfs_overview.specs.TornLists.{first_rows, torn_rows}
 use Rattle.udfs_page.specs.Arcs.{arcs_of}
 use Rattle.udfs_page.specs.Heads.{before_title, head_back, head_text, heading_html, page_mark, titled_html}
+use Rattle.udfs_page.specs.LostSections.{lost_html}
 use Rattle.udfs_page.specs.Markups.{markup}
 use Rattle.udfs_page.specs.Naming.{CalledWords}
 use Rattle.udfs_page.specs.Overviews.{title_html}
@@ -30,13 +32,14 @@ unfolding page_html front_html head_text
 begins_marked g called rules table last report answer = let rows = torn_rows (state_of table) report.nodes in (
   _,
   and_more _ (markup page_mark) _ (markup (codes "</body>\n</html>\n"))
+      (and_more _ (markup page_mark) _ (lost_html g rules last (looked_in (state_of table) report answer.found) report.nodes answer)
       (and_more _ (markup page_mark) _ (files_html (state_of table) report.volume report)
       (and_more _ (markup page_mark) _ (lacking_html report.nodes (first_rows rows) (length rows))
       (and_more _ (markup page_mark) _ (disc_html g called (figures_of rules table last report) (arcs_of (state_of table) report.reread last) report answer)
       (and_more _ (markup page_mark) _ (heading_html called.title)
       (and_more _ (markup page_mark) _ head_back
       (and_more _ (markup page_mark) _ (title_html report.volume)
-      (and_more (markup page_mark ++ markup before_title) (markup page_mark) (markup before_title) (titled_html called.title) refl))))))),
+      (and_more (markup page_mark ++ markup before_title) (markup page_mark) (markup before_title) (titled_html called.title) refl)))))))),
 )
 
 pub begins_so : (g : GivenWords) (called : CalledWords) (rules : Profile) (table : Table) (last : ℕ) (report : Report) (answer : Verdict) → (rest : List ℕ) × (page_html g called rules table last report answer ≡ page_mark ++ rest)

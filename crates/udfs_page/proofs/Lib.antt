@@ -3,6 +3,7 @@ mod Closings
 mod Counts
 mod Html
 mod Lines
+mod LostNodes
 mod Nesting
 mod PageParts
 mod Passing

@@ -11,5 +11,6 @@ pub mod Overviews
 pub mod TornTables
 pub mod UnreadTables
 pub mod Trees
+pub mod LostSections
 pub mod Pages
 pub mod Nestings

@@ -10,6 +10,7 @@ use Rattle.udfs_salvage.specs.Found.{Found}
 use Rattle.udfs_salvage.specs.Reports.{Report}
 use Rattle.udfs_volume.specs.declared.profiles.Profile.{Profile}
 use Rattle.udfs_overview.specs.Repeating.{GivenWords}
+use Rattle.udfs_overview.specs.Searched.{looked_in}
 use Rattle.udfs_overview.specs.SummaryFigures.{figures_of}
 use Rattle.udfs_overview.specs.TornLists.{first_rows, torn_rows}
 use Rattle.udfs_overview.specs.TornRows.{Row}
@@ -18,6 +19,7 @@ use Rattle.udfs_overview.specs.declared.summary_figures.Figures.{Figures}
 use Rattle.udfs_overview.specs.declared.verdicts.Verdict.{Verdict}
 use Rattle.udfs_page.specs.Arcs.{arcs_of}
 use Rattle.udfs_page.specs.Heads.{head_text}
+use Rattle.udfs_page.specs.LostSections.{lost_html}
 use Rattle.udfs_page.specs.Markups.{markup}
 use Rattle.udfs_page.specs.Naming.{CalledWords}
 use Rattle.udfs_page.specs.NextSteps.{next_html}
@@ -46,10 +48,10 @@ disc_html g called f marks r answer = overview_html f r answer ++ picture_html m
 unfoldable pub front_html : GivenWords → CalledWords → Figures → List Mark → List Row → ℕ → Report → Verdict → List ℕ
 front_html g called f marks rows count r answer = head_text called.title (title_html r.volume) ++ disc_html g called f marks r answer ++ lacking_html r.nodes rows count
 
--- all of it, of a report by the rules of a profile, where these arguments were given and the page is called so
+-- all of it, of a report by the rules of a profile, where these arguments were given and the page is called so: what is lost stands behind the tree, or in its place
 unfoldable pub page_html : GivenWords → CalledWords → Profile → Table → ℕ → Report → Verdict → List ℕ
 page_html g called rules table last r answer =
     let blocks = state_of table in
     let rows = torn_rows blocks r.nodes in
     front_html g called (figures_of rules table last r) (arcs_of blocks r.reread last) (first_rows rows) (length rows) r answer
-    ++ files_html blocks r.volume r ++ markup (codes "</body>\n</html>\n")
+    ++ files_html blocks r.volume r ++ lost_html g rules last (looked_in blocks r answer.found) r.nodes answer ++ markup (codes "</body>\n</html>\n")

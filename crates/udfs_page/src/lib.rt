@@ -6,6 +6,7 @@ mod disc_arcs;
 mod escapes;
 mod heads;
 mod holes;
+mod lost_sections;
 mod markups;
 mod naming;
 mod next_steps;

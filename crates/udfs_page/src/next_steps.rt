@@ -87,7 +87,7 @@ fn push_page_command(
 
 /// Commands, in a box.
 #[tactic(auto, unfolding(crate::specs::NextSteps::commands_html))]
-fn push_commands(text: &mut String, commands: &str) -> Result<(), OutOfMemory>
+pub(crate) fn push_commands(text: &mut String, commands: &str) -> Result<(), OutOfMemory>
     ensures { OnOk result (string_bytes text.new ≡ string_bytes text.old ++ commands_html commands.now) }
 {
     push_markup(text, "<pre>")?;

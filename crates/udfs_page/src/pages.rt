@@ -20,6 +20,7 @@ ghost use Rattle.udfs_overview.specs.declared.verdicts.Verdict.{Verdict};
 
 use crate::disc_arcs::{Mark, arcs};
 use crate::heads::{push_head_back, push_head_front, push_heading, push_titled};
+use crate::lost_sections::put_lost;
 use crate::markups::push_markup;
 use crate::naming::Called;
 use crate::next_steps::push_next;
@@ -156,12 +157,13 @@ fn put_page<B: ReportStore, W: Sink>(
     let marks = arcs(alloc, survey.table, survey.last, &survey.reread)?;
     push_front(alloc, text, given, called, survey, &counts, &marks, answer)?;
     put_about_files(alloc, text, sink, survey)?;
+    put_lost(alloc, text, sink, given, survey, answer)?;
     push_markup(text, "</body>\n</html>\n")?;
     Ok(())
 }
 
 /// Writes the page of the report that a survey represents, where these arguments were given and the page is called so: a whole HTML file, with what is found of the volume, whether the guarantee holds by this answer, the disc as a picture, what to do
-/// next, what was not read, the torn files of which most is lost, and all files inside their folders. No name can begin or end an element in it. It is written in pieces: the
+/// next, what was not read, the torn files of which most is lost, all files inside their folders, and the lost folders and files that the answer has. No name can begin or end an element in it. It is written in pieces: the
 /// blocks and holes of one node are held at a time, and no more text of the nodes than a piece and that of one of them.
 ///
 /// # Errors

@@ -25,7 +25,7 @@ use udfs_space::StoreView;
 use udfs_walk::{Node, Path, Standing, full_standing_by, tail_by};
 
 /// How whole a node is, as the style knows it.
-fn push_class(text: &mut String, standing: &Standing) -> Result<(), OutOfMemory>
+pub(crate) fn push_class(text: &mut String, standing: &Standing) -> Result<(), OutOfMemory>
     ensures { OnOk result (string_bytes text.new ≡ string_bytes text.old ++ markup (class_of standing.now)) }
 {
     match standing {
@@ -142,7 +142,7 @@ fn push_tail(text: &mut String, tail: bool) -> Result<(), OutOfMemory>
 }
 
 /// What the page says of a node beside its name.
-fn push_note(
+pub(crate) fn push_note(
     text: &mut String,
     tail: bool,
     standing: &Standing,
@@ -216,7 +216,7 @@ fn push_folder(
 }
 
 /// What the line of a node begins with.
-fn push_leaf_front(text: &mut String, standing: &Standing) -> Result<(), OutOfMemory>
+pub(crate) fn push_leaf_front(text: &mut String, standing: &Standing) -> Result<(), OutOfMemory>
     ensures { OnOk result (string_bytes text.new ≡ string_bytes text.old ++ leaf_front standing.now) }
 {
     push_markup(text, "<div class=")?;
@@ -308,7 +308,7 @@ fn put_full_node<B: BlockStore, W: Sink>(
 }
 
 /// Nodes that are given without their blocks and holes. Those of one node are held at a time, and no more text than one piece and that of one node.
-fn put_nodes<B: BlockStore, W: Sink>(
+pub(crate) fn put_nodes<B: BlockStore, W: Sink>(
     alloc: Global,
     text: &mut String,
     sink: &mut W,

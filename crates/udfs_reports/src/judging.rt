@@ -4,7 +4,7 @@ ghost use Rattle.std.specs.Prelude.{◌≡◌, ◌≤◌, IfOk, IfErr, IsErrOf};
 ghost use Rattle.udfs_lattice.specs.Tables.{Table, state_of};
 ghost use Rattle.udfs_lawfulness.specs.Lawfulness.{IsDecided};
 ghost use Rattle.udfs_overview.specs.LostTallies.{IsTallyBy};
-ghost use Rattle.udfs_overview.specs.Searched.{searched};
+ghost use Rattle.udfs_overview.specs.Searched.{looked_in, searched};
 ghost use Rattle.udfs_overview.specs.Verdicts.{IsVerdict};
 ghost use Rattle.udfs_salvage.specs.Headline.{HeadlineBy};
 ghost use Rattle.udfs_salvage.specs.Stores.{IfTold};
@@ -38,12 +38,18 @@ fn verdict_of<B: ReportStore>(
     requires from { 513 ≤ last }
     requires to { last ≤ 4194303 }
     ensures decided { IfOk result (λ verdict. B.tells → IsDecided profile (B.states survey.now.table.now) last verdict.lawfulness) }
-    ensures tallied { IfOk result (λ verdict. B.tells → IsTallyBy (searched survey.now.profile (B.states survey.now.table.now) survey.now.last (survey_by B.states survey.now)) verdict.lost) }
+    ensures place { IfOk result (λ verdict. B.tells → looked_in (B.states survey.now.table.now) (survey_by B.states survey.now) verdict.found
+        ≡ searched survey.now.profile (B.states survey.now.table.now) survey.now.last (survey_by B.states survey.now)) }
+    ensures tallied { IfOk result (λ verdict. B.tells → IsTallyBy (searched survey.now.profile (B.states survey.now.table.now) survey.now.last (survey_by B.states survey.now)) verdict.found.trees.items verdict.lost) }
     ensures fails { IsErrOf result GaveUp.Unread → B.fails }
 {
     let lawfulness = lawfulness_by(alloc, survey.table, last, profile)?;
-    let lost = tally_lost(alloc, survey)?;
-    Ok(Verdict { lawfulness, lost })
+    let (lost, found) = tally_lost(alloc, survey)?;
+    Ok(Verdict {
+        lawfulness,
+        lost,
+        found,
+    })
 }
 
 /// What a store says of its volume by the rules of a profile, where `last` is its last block, whether that is lawful, and what is lost of it. Every known block of the partitions is

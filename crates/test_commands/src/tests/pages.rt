@@ -46,6 +46,47 @@ file-has p.html <div><bdi>&lt;\\u002Ftitle&gt;</bdi>   UDF 1.50, type 1   601 bl
 file-has p.html <tr><td><bdi>/&lt;b&gt;&amp;&quot;&#39;\\u202E</bdi><td>41.0 %<td>2.0 kB<td>5.0 kB\n
 file-has p.html <div class=t><bdi>&lt;b&gt;&amp;&quot;&#39;\\u202E</bdi><small>
 
+= what_is_lost_is_shown
+# The folder at 10 has the files A and one of a name that would begin an element, and its parent is the root. All link counts are 1. The root's body is not read,
+# then also a block of A, then the folder's body. Last the file set is not read, and the root is a lost folder.
+directory 1 D=10
+directory 10 E=1 A=3 html=4
+write 283 18 \x08\0
+write 273 48 \x01
+write 282 48 \x01
+write 275 48 \x01
+write 276 48 \x01
+let FRONT <h2>Lost folders and files</h2>\n<p>No name that was read leads to these, so each is called by its block; what is inside a folder keeps its name. Some may be left over from what was deleted, and be old. This writes what is whole of them as well:</p>\n<pre>udfsalvage extract --last 600 --lost lost --to files disc.tab\n</pre>\n<p>The command <code>list --lost</code> also shows names that were found behind an unread block of a folder: evidence, not proof.</p>\n
+let ROOT <summary><bdi>lost:10/</bdi><small>folder</small><small>in <bdi>/</bdi></small></summary>\n
+let A <div class=w><bdi>A</bdi><small>5.0 kB</small></div>\n
+let B <div class=w><bdi>&lt;b&gt;&amp;&quot;&#39;\\u202E</bdi><small>2 B</small></div>\n
+let END </details>\n</body>\n</html>\n
+
+but 274
+$ page --last 600 --out p.html disc.tab
+status 1
+file-ends p.html «FRONT»<details class=w>«ROOT»«A»«B»«END»
+
+but 274 278
+$ page --last 600 --out p.html disc.tab
+status 1
+file-ends p.html «FRONT»<details class=w>«ROOT»<div class=t><bdi>A</bdi><small>5.0 kB, torn: 2.0 kB lost, bytes 2048&ndash;4095</small></div>\n«B»«END»
+
+but 274 283
+$ page --last 600 --out p.html disc.tab
+status 1
+file-ends p.html </summary>\n</details>\n<details class=w><summary>Files without a folder</summary>\n<div class=w><bdi>lost:3</bdi><small>5.0 kB</small></div>\n<div class=w><bdi>lost:4</bdi><small>2 B</small></div>\n«END»
+
+but 272
+$ page --last 600 --out p.html disc.tab
+status 1
+file-ends p.html «FRONT»<details class=w><summary><bdi>lost:1/</bdi><small>folder</small></summary>\n<details class=w><summary><bdi>D</bdi><small>folder</small></summary>\n«A»«B»</details>\n«END»
+
+but
+$ page --last 600 --out p.html disc.tab
+status 0
+file-counts p.html 0 <h2>Lost
+
 = what_is_not_whole_is_told
 # Two torn directories, whose bodies are not known, and files that were not read or have a fault.
 directory 1 p=20 q=22 r=3 t=1 u=40

@@ -186,7 +186,11 @@ const CALLED: Called<'static> = Called {
 pub(crate) fn judged(alloc: Global, survey: &Survey<'_>) -> Result<Verdict, Fail> {
     let lawfulness = lawfulness(alloc, survey.table, LAST, Profile::Strict)?;
     match tally_lost(alloc, survey) {
-        Ok(lost) => Ok(Verdict { lawfulness, lost }),
+        Ok((lost, found)) => Ok(Verdict {
+            lawfulness,
+            lost,
+            found,
+        }),
         Err(_) => Err(Fail::from(AllocError)),
     }
 }

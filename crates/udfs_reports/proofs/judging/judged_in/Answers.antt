@@ -1,9 +1,9 @@
-use Rattle.std.proofs.Common.{◌≡◌, ◌∙◌, ap, false, inl, refl, rules, subst}
+use Rattle.std.proofs.Common.{◌≡◌, ◌∙◌, ap, false, inl, refl, rules, subst, sym}
 use Rattle.udfs_lattice.specs.Volumes.{Blocks}
 use Rattle.udfs_lawfulness.specs.Lawfulness.{IsDecided}
 use Rattle.udfs_overview.specs.Disagreements.{has_room}
 use Rattle.udfs_overview.specs.LostTallies.{IsTallyBy}
-use Rattle.udfs_overview.specs.Searched.{searched}
+use Rattle.udfs_overview.specs.Searched.{looked_in, searched}
 use Rattle.udfs_salvage.specs.Surveys.{survey_by}
 use Rattle.udfs_salvage.specs.declared.errors.SalvageError.TheVariants.{LastRange}
 use Rattle.udfs_reports.proofs.InRange.{out_of_range}
@@ -24,7 +24,8 @@ returns-in-Ok-verdict_of-clause-decided g c told t holds =
     let same = ap g.B.BlockStore.states of.0 ∙ states_same (g.B.BlockStore.states c.args.blocks.now) t (g.met.B.ReportStore.held c.args.blocks.now t holds) in
     record {
       decided = subst (λ (bs : Blocks). IsDecided c.args.profile bs c.args.last answer.lawfulness) same (c.in-Ok-verdict_of.ensures.decided told);
-      tallied = subst (λ o. IsTallyBy o answer.lost) (λ i. searched (of.2 i) (same i) (of.1 i) (survey_by g.B.BlockStore.states s)) (c.in-Ok-verdict_of.ensures.tallied told);
+      place = ap (λ bs. looked_in bs (survey_by g.B.BlockStore.states s) answer.found) (sym same) ∙ c.in-Ok-verdict_of.ensures.place told ∙ (λ i. searched (of.2 i) (same i) (of.1 i) (survey_by g.B.BlockStore.states s));
+      tallied = subst (λ o. IsTallyBy o answer.found.trees.items answer.lost) (λ i. searched (of.2 i) (same i) (of.1 i) (survey_by g.B.BlockStore.states s)) (c.in-Ok-verdict_of.ensures.tallied told);
     }
 
 pub returns-in-Err-OutOfMemory-clause-refused : goal.returns-in-Err-OutOfMemory-clause-refused

@@ -1,0 +1,8 @@
+use Rattle.udfs_page.specs.LostSections.{root_html}
+use Rattle.udfs_page.proofs.Texts.{eight}
+use Rattle.udfs_page.proofs.lost_sections.push_root.Goals as goal
+
+pub returns : goal.returns
+unfolding root_html
+returns c =
+    eight c.push_markup-4.result _ _ _ _ _ _ _ _ _ _ _ _ _ _ _ _ _ c.in_ok-push_markup.ensures c.in_ok-push_class.ensures c.in_ok-push_markup-2.ensures c.in_ok-push_lost_word.ensures c.in_ok-push_markup-3.ensures c.in_ok-push_note.ensures c.in_ok-push_in.ensures c.push_markup-4.ensures
