@@ -1,4 +1,4 @@
-use Rattle.std.proofs.Common.{◌∙◌, ap, inl, inr, refl}
+use Rattle.std.proofs.Common.{◌∙◌, ap, inl, inr}
 use Rattle.udfs_space.specs.Views.{view_by}
 use Rattle.udfs_overview.specs.LostTallies.{lost_tally}
 use Rattle.udfs_overview.proofs.LostTallying.{too_many_is, untold}
@@ -16,6 +16,6 @@ returns-in_ok-tally-in-Err-clause-tallied g c told =
     let x = c.in_ok-tally-in-Err.ensures.value in
     inr (record {
       unfound = untold v c.args.entries.now c.in-Err.why x.0 (c.in-Err.ensures.refused told);
-      none = refl;
+      none = c.new.ensures.items;
       is = too_many_is v c.args.entries.now tally c.in_ok-deleted.deleted x.1 (c.in_ok-deleted.ensures.value told);
     })
