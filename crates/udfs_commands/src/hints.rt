@@ -383,11 +383,23 @@ fn of_no_node(alloc: Global, only: &[&str], number: usize) -> Result<Option<Stri
             Shown(path)
         )?)),
         Some(path) => Ok(Some(format!(in alloc;
-            "{} is not one of the paths that list --paths prints",
-            Shown(path)
+            "{} is not one of the paths that list --paths prints{}",
+            Shown(path),
+            why_no_path(path)
         )?)),
         None => Ok(None),
     }
+}
+
+/// What may be wrong with a path that no node has: it is a pattern, or has a tab in place of its escape.
+fn why_no_path(path: &str) -> &'static str {
+    if path.contains('*') || path.contains('?') {
+        return ": patterns are not taken; name a folder for all that is in it";
+    }
+    if path.contains('\t') {
+        return ": write a tab as it does, \\u0009";
+    }
+    ""
 }
 
 /// What is said of a list that could not be read: its path, where there is but one, or where it can not be opened.

@@ -16,17 +16,39 @@ const ENDS: [&str; 4] = [
     ".unfinished~~~",
 ];
 
-/// Makes a remark on each new file beside the one at this path.
-fn remark_beside<F: Files>(alloc: Global, path: &str, files: &F) -> Result<(), AllocError> {
+/// Whether a path leads to this one, which has no links.
+fn leads_to<F: Files>(
+    alloc: Global,
+    path: &str,
+    real: &str,
+    files: &F,
+) -> Result<bool, AllocError> {
+    match files.resolve(alloc, path, Aim::Reading)? {
+        Ok(target) => Ok(target.path.as_str() == real),
+        Err(_) => Ok(false),
+    }
+}
+
+/// Makes a remark on each new file beside the output, which was given as `out` and has the path `real`.
+fn remark_beside<F: Files>(
+    alloc: Global,
+    out: &str,
+    real: &str,
+    files: &F,
+) -> Result<(), AllocError> {
     for end in &ENDS {
-        let left = format!(in alloc; "{path}{end}")?;
-        if is_file(alloc, left.as_str(), files)? {
-            let text = format!(in alloc;
-                "{} was left by a run that was killed: remove it, unless that run goes on",
-                Shown(left.as_str())
-            )?;
-            files.remark(text.as_str());
+        let left = format!(in alloc; "{real}{end}")?;
+        if !is_file(alloc, left.as_str(), files)? {
+            continue;
         }
+        let given = format!(in alloc; "{out}{end}")?;
+        let is_given = leads_to(alloc, given.as_str(), left.as_str(), files)?;
+        let name = if is_given { given } else { left };
+        let text = format!(in alloc;
+            "{} was left by a run that was killed: remove it, unless that run goes on",
+            Shown(name.as_str())
+        )?;
+        files.remark(text.as_str());
     }
     Ok(())
 }
@@ -39,6 +61,6 @@ pub fn remark_on_left<F: Files>(alloc: Global, request: &Request<'_>, files: &F)
     if let Ok(Ok(target)) = files.resolve(alloc, out, Aim::Reading)
         && target.kind == Kind::Regular
     {
-        let _ = remark_beside(alloc, target.path.as_str(), files);
+        let _ = remark_beside(alloc, out, target.path.as_str(), files);
     }
 }
