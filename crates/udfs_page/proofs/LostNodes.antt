@@ -8,6 +8,7 @@ use Rattle.udfs_volume.specs.LayoutParts.{parts_now}
 use Rattle.udfs_volume.specs.declared.faults.VolumeFault.{VolumeFault}
 use Rattle.udfs_space.specs.Places.{View, view}
 use Rattle.udfs_walk.specs.Bare.{full_entry, full_node}
+use Rattle.udfs_walk.specs.NodeBodies.{has_tail}
 use Rattle.udfs_walk.specs.NodeFields.{NodeFields}
 use Rattle.udfs_walk.specs.declared.answers.Unnamed.{Unnamed}
 use Rattle.udfs_lost.specs.LostFiles.{lost_files}
@@ -21,13 +22,18 @@ use Rattle.udfs_overview.specs.LostLists.{place_of}
 use Rattle.udfs_overview.specs.Searched.{Searched, rootless_now, searched_by}
 use Rattle.udfs_overview.specs.declared.lost_found.Rootless.{Rootless}
 use Rattle.udfs_overview.proofs.LostPieces.{files_full, folder_full}
-use Rattle.udfs_page.specs.LostSections.{lost_files_html, lost_from, lost_in, lost_tree_html, rooted_html}
+use Rattle.udfs_page.specs.LostSections.{lost_files_html, lost_from, lost_in, lost_tree_html, root_end, root_html, rooted_html}
+use Rattle.udfs_page.specs.Trees.{nodes_html}
 
 -- a lost tree has its nodes, the folder first
-pub rooted : (v : View) (two : Bool) (ns : List NodeFields) (t : LostTree) (nodes : List NodeFields) → t.nodes.items ≡ nodes
-    → rooted_html v two (place_of v ns t.folder) t.folder (map (full_node v) nodes) ≡ lost_tree_html v two ns t
-unfolding lost_tree_html
-rooted v two ns t nodes are = ap (λ l. rooted_html v two (place_of v ns t.folder) t.folder (map (full_node v) l)) (sym are)
+pub rooted : (v : View) (two : Bool) (ns : List NodeFields) (t : LostTree) (n : NodeFields) (inside : List NodeFields) → t.nodes.items ≡ n ∷ inside
+    → root_html (has_tail v n.icb) two (place_of v ns t.folder) t.folder (full_node v n) ++ nodes_html v (map (full_node v) inside) ++ root_end (map (full_node v) inside) ≡ lost_tree_html v two ns t
+unfolding lost_tree_html rooted_html
+rooted v two ns t n inside are = ap (λ l. rooted_html v two (place_of v ns t.folder) t.folder (map (full_node v) l)) (sym are)
+
+pub unrooted : (v : View) (two : Bool) (ns : List NodeFields) (t : LostTree) → t.nodes.items ≡ [] → [] ≡ lost_tree_html v two ns t
+unfolding lost_tree_html rooted_html
+unrooted v two ns t none = ap (λ l. rooted_html v two (place_of v ns t.folder) t.folder (map (full_node v) l)) (sym none)
 
 -- its place is that among the nodes with their blocks and holes
 tree_seen : (v : View) (two : Bool) (ns : List NodeFields) (t : LostTree) → lost_tree_html v two ns t ≡ lost_tree_html v two (map (full_node v) ns) t

@@ -27,10 +27,14 @@ use Rattle.udfs_page.specs.Trees.{class_of, leaf_front, nodes_html, note_html}
 
 -- ---- a lost tree
 
+-- the folder in which a lost folder is
+abbrev pub place_html : List (List ℕ) → List ℕ
+place_html path = markup (codes "<small>in ") ++ shown_name (shown_path path) ++ markup (codes "</small>")
+
 -- where a lost folder is, if that is a node
 abbrev pub in_html : Option (List (List ℕ)) → List ℕ
 in_html None = []
-in_html (Some path) = markup (codes "<small>in ") ++ shown_name (shown_path path) ++ markup (codes "</small>")
+in_html (Some path) = place_html path
 
 -- the lost folder begins, which has no name but its block, and whose body is read by a tail or not
 unfoldable pub root_html : Bool → Bool → Option (List (List ℕ)) → Icb → NodeFields → List ℕ

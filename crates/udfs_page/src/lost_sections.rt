@@ -14,7 +14,7 @@ ghost use Rattle.udfs_lost.specs.LostFiles.{lost_files};
 ghost use Rattle.udfs_overview.specs.LostLists.{place_of};
 ghost use Rattle.udfs_overview.specs.Repeating.{given_now};
 ghost use Rattle.udfs_overview.specs.Searched.{looked_in, rootless_now};
-ghost use Rattle.udfs_page.specs.LostSections.{file_html, in_html, lost_command, lost_file_html, lost_files_html, lost_from, lost_front, lost_html, lost_in, lost_tree_html, root_end, root_html, some_files_html};
+ghost use Rattle.udfs_page.specs.LostSections.{file_html, in_html, lost_command, lost_file_html, lost_files_html, lost_from, lost_front, lost_html, lost_in, lost_tree_html, place_html, root_end, root_html, some_files_html};
 ghost use Rattle.udfs_page.specs.NextSteps.{commands_html};
 ghost use Rattle.udfs_page.specs.Trees.{nodes_html};
 
@@ -89,17 +89,22 @@ fn push_lost_front(
     )
 }
 
+/// The folder in which a lost folder is.
+fn push_place(alloc: Global, text: &mut String, path: &Path) -> Result<(), OutOfMemory>
+    ensures { OnOk result (string_bytes text.new ≡ string_bytes text.old ++ place_html path.now) }
+{
+    push_markup(text, "<small>in ")?;
+    push_path(alloc, text, path)?;
+    push_markup(text, "</small>")
+}
+
 /// Where a lost folder is, if that is a node.
 fn push_in(alloc: Global, text: &mut String, place: Option<&Path>) -> Result<(), OutOfMemory>
     ensures { OnOk result (string_bytes text.new ≡ string_bytes text.old ++ in_html (option_map (λ path. path.now) place.entry)) }
 {
     match place {
         None => Ok(()),
-        Some(path) => {
-            push_markup(text, "<small>in ")?;
-            push_path(alloc, text, path)?;
-            push_markup(text, "</small>")
-        }
+        Some(path) => push_place(alloc, text, path),
     }
 }
 
@@ -462,7 +467,24 @@ fn put_found<B: BlockStore, W: Sink>(
     }
 }
 
-/// Lost folders and lost files, with the command that writes what is whole of them, if there are any.
+/// Lost folders and lost files, with the command that writes what is whole of them.
+fn put_section<B: BlockStore, W: Sink>(
+    alloc: Global,
+    text: &mut String,
+    sink: &mut W,
+    given: &Given<'_>,
+    survey: &Survey<'_, B>,
+    lost: &Lost,
+) -> Result<(), PrintError>
+    ensures printed { B.tells → PassesOnBy (W.stream sink.old) (W.stream sink.new) (string_bytes text.old) (string_bytes text.new)
+        (lost_front (given_now given.now) survey.now.profile survey.now.last ++ lost_from (looked_in (B.states survey.now.table.now) (survey_by B.states survey.now) lost.now) (survey_by B.states survey.now).nodes lost.now.trees.items) result }
+    ensures fails { IsErrOf result PrintError.Unread → B.fails }
+{
+    push_lost_front(alloc, text, given, survey.profile, survey.last)?;
+    put_found(alloc, text, sink, survey, lost)
+}
+
+/// The same, if there are any.
 pub(crate) fn put_lost<B: BlockStore, W: Sink>(
     alloc: Global,
     text: &mut String,
@@ -478,6 +500,5 @@ pub(crate) fn put_lost<B: BlockStore, W: Sink>(
     if answer.lost.folders == 0 && answer.lost.files == 0 {
         return Ok(());
     }
-    push_lost_front(alloc, text, given, survey.profile, survey.last)?;
-    put_found(alloc, text, sink, survey, &answer.found)
+    put_section(alloc, text, sink, given, survey, &answer.found)
 }

@@ -51,7 +51,7 @@ returns-in_err-put_about_files-clause-printed g c told t holds =
     let end = markup (codes "</body>\n</html>\n") in
     let lost = lost_of (given_now c.args.given.now) s.profile M s.last r c.args.answer.now in
     rw (p.1, p.2) (subst (λ x. Stopped (W.stream c.args.sink.now) (W.stream c.put_about_files.new.sink) (string_bytes c.args.text.now ++ x) (leaves_as c.in_err-put_about_files.field-0.0)) page
-    (pushed_stopped _ (W.stream c.put_about_files.new.sink) _ _ _ _ _ c.in_ok-push_front.ensures (stopped_before _ _ _ _ (lost ++ end) _ (c.in_err-put_about_files.ensures.printed told))))
+    (stopped_before _ _ _ _ end _ (stopped_before _ _ _ _ lost _ (pushed_stopped _ (W.stream c.put_about_files.new.sink) _ _ _ _ _ c.in_ok-push_front.ensures (c.in_err-put_about_files.ensures.printed told)))))
 
 pub returns-in_err-put_lost-clause-printed : goal.returns-in_err-put_lost-clause-printed
 returns-in_err-put_lost-clause-printed g c told t holds =
@@ -67,8 +67,7 @@ returns-in_err-put_lost-clause-printed g c told t holds =
     let end = markup (codes "</body>\n</html>\n") in
     let lost = lost_of (given_now c.args.given.now) s.profile M s.last r c.args.answer.now in
     rw (p.1, p.2) (subst (λ x. Stopped (W.stream c.args.sink.now) (W.stream c.put_lost.new.sink) (string_bytes c.args.text.now ++ x) (leaves_as c.in_err-put_lost.field-0.0)) page
-    (pushed_stopped _ (W.stream c.put_lost.new.sink) _ _ _ _ _ c.in_ok-push_front.ensures
-    (stopped_then (lost ++ end) (c.in_ok-put_about_files.ensures.printed told) (stopped_before _ _ _ _ end _ (c.in_err-put_lost.ensures.printed told)))))
+    (stopped_before _ _ _ _ end _ (stopped_then lost (pushed_passed _ (W.stream c.put_about_files.new.sink) _ _ _ _ _ c.in_ok-push_front.ensures (c.in_ok-put_about_files.ensures.printed told)) (c.in_err-put_lost.ensures.printed told))))
 
 pub returns-in_err-push_markup-clause-printed : goal.returns-in_err-push_markup-clause-printed
 returns-in_err-push_markup-clause-printed g c told t holds =
@@ -84,8 +83,7 @@ returns-in_err-push_markup-clause-printed g c told t holds =
     let end = markup (codes "</body>\n</html>\n") in
     let lost = lost_of (given_now c.args.given.now) s.profile M s.last r c.args.answer.now in
     rw (p.1, p.2) (subst (λ x. Stopped (W.stream c.args.sink.now) (W.stream c.put_lost.new.sink) (string_bytes c.args.text.now ++ x) OutOfMemory) page
-    (pushed_stopped _ (W.stream c.put_lost.new.sink) _ _ _ _ _ c.in_ok-push_front.ensures
-    (stopped_then (lost ++ end) (c.in_ok-put_about_files.ensures.printed told) (passed_refused end (c.in_ok-put_lost.ensures.printed told)))))
+    (passed_refused end (passed_then (pushed_passed _ (W.stream c.put_about_files.new.sink) _ _ _ _ _ c.in_ok-push_front.ensures (c.in_ok-put_about_files.ensures.printed told)) (c.in_ok-put_lost.ensures.printed told))))
 
 pub returns-clause-printed : goal.returns-clause-printed
 returns-clause-printed g c told t holds =
@@ -99,5 +97,4 @@ returns-clause-printed g c told t holds =
     (states_same M t (g.met.B.ReportStore.held s.table.now t holds)) (c.in_ok-counts.ensures.counted told t holds) drawn in
     let end = markup (codes "</body>\n</html>\n") in
     subst (Passed (W.stream c.args.sink.now) (W.stream c.put_lost.new.sink) (string_bytes c.args.text.now) (string_bytes c.push_markup.new.text)) page
-    (pushed_passed _ (W.stream c.put_lost.new.sink) _ _ _ _ _ c.in_ok-push_front.ensures
-    (passed_then (c.in_ok-put_about_files.ensures.printed told) (passed_pushed end (c.in_ok-put_lost.ensures.printed told) c.in_ok-push_markup.ensures)))
+    (passed_pushed end (passed_then (pushed_passed _ (W.stream c.put_about_files.new.sink) _ _ _ _ _ c.in_ok-push_front.ensures (c.in_ok-put_about_files.ensures.printed told)) (c.in_ok-put_lost.ensures.printed told)) c.in_ok-push_markup.ensures)

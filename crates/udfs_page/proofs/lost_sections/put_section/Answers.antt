@@ -1,6 +1,6 @@
 use Rattle.std.specs.String.{string_bytes}
 use Rattle.udfs_page.proofs.Passing.{pushed_then_by}
-use Rattle.udfs_page.proofs.lost_sections.put_lost.Goals as goal
+use Rattle.udfs_page.proofs.lost_sections.put_section.Goals as goal
 
 pub returns-clause-printed : goal.returns-clause-printed
 returns-clause-printed g c told =
