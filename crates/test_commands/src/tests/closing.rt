@@ -134,7 +134,7 @@ file t.tab.unfinished text x
 
 $ merge -v --out t.tab a.rd b.rd
 silent
-remarked 2 inputs: 2 known (1 new), 0 in conflict (0 new)\n./t.tab.unfinished was left by a run that was killed: remove it, unless that run goes on\n
+remarked 2 inputs: 2 known (1 new), 0 in conflict (0 new)\nt.tab.unfinished was left by a run that was killed: remove it, unless that run goes on\n
 
 = an_input_that_contradicts_itself
 # A block of which an input has two contents is not known to it, whichever comes first; one of which it has the same content twice is.
