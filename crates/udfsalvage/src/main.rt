@@ -42,7 +42,14 @@ fn main(rt: HostRuntime) -> ExitCode {
     let hints = is_apart(&Host::new(&rt));
     let mut files = Machine::new(Host::new(&rt), &rt, &screen, room);
     let status = match words_of(&rt, alloc) {
-        Ok(words) => run(alloc, words.as_slice(), hints, &mut files, &mut out, &mut err),
+        Ok(words) => run(
+            alloc,
+            words.as_slice(),
+            hints,
+            &mut files,
+            &mut out,
+            &mut err,
+        ),
         Err(error) => {
             let wants_memory = error.kind() == io::ErrorKind::OutOfMemory;
             refuse_words(wants_memory, &mut err)
