@@ -8,18 +8,13 @@ use udfs_common::shown::Shown;
 use udfs_files::{Aim, Kind};
 use udfs_words::request::Request;
 
-/// The suffixes that the name of a new file has while it is written.
-const ENDS: [&str; 4] = [
-    ".unfinished",
-    ".unfinished~",
-    ".unfinished~~",
-    ".unfinished~~~",
-];
+/// How many names are looked at.
+const MOST: usize = 16;
 
 /// Makes a remark on each new file beside the one at this path.
 fn remark_beside<F: Files>(alloc: Global, path: &str, files: &F) -> Result<(), AllocError> {
-    for end in &ENDS {
-        let left = format!(in alloc; "{path}{end}")?;
+    let mut left = format!(in alloc; "{path}.unfinished")?;
+    for _ in 0..MOST {
         if is_file(alloc, left.as_str(), files)? {
             let text = format!(in alloc;
                 "{} was left by a run that was killed: remove it, unless that run goes on",
@@ -27,6 +22,7 @@ fn remark_beside<F: Files>(alloc: Global, path: &str, files: &F) -> Result<(), A
             )?;
             files.remark(text.as_str());
         }
+        left.push('~')?;
     }
     Ok(())
 }
