@@ -1,9 +1,11 @@
 //! What a line of the list says of a lost folder, of what is in it, and of a lost file. Each function appends to a text; if memory
 //! runs out, a part may be appended.
 
-ghost use Rattle.std.specs.Prelude.{◌≡◌, ◌++◌, OnOk, IfOk, Some, option_map};
+ghost use Rattle.std.specs.Prelude.{◌≡◌, ◌++◌, OnErr, OnOk, IfOk, IsErrOf, Some, option_map};
 ghost use Rattle.std.specs.String.{string_bytes};
-ghost use Rattle.udfs_space.specs.Views.{view_now};
+ghost use Rattle.udfs_lattice.specs.Volumes.{Blocks};
+ghost use Rattle.udfs_space.specs.Places.{view};
+ghost use Rattle.udfs_space.specs.Views.{view_by};
 ghost use Rattle.udfs_walk.specs.Bare.{full_entry, full_node};
 ghost use Rattle.udfs_walk.specs.Targets.{is_icb};
 ghost use Rattle.udfs_walk.specs.UnnamedEntries.{names};
@@ -18,11 +20,12 @@ use std::alloc::Global;
 use std::fmt::Write;
 use udfs_file::Kind;
 use udfs_file::file_sets::address_fault;
-use udfs_lost::parent;
+use udfs_lattice::{BlockStore, GaveUp, ReadFault};
+use udfs_lost::parent_by;
 use udfs_osta::{OutOfMemory, Stamp};
-use udfs_space::View;
+use udfs_space::{Space, StoreView};
 use udfs_tag::{LbAddr, LongAd};
-use udfs_walk::{Node, Path, Standing, Unnamed, full_standing, tail_at};
+use udfs_walk::{Node, Path, Standing, Unnamed, full_standing_by, tail_by};
 
 /// What a lost folder or a lost file is called.
 pub(crate) fn push_lost_word(
@@ -85,29 +88,29 @@ fn is_icb(a: LbAddr, b: LbAddr) -> bool
 }
 
 /// Whether the address of a node is good, and leads there.
-fn names(view: View<'_>, address: LbAddr, node: &Node) -> bool
-    ensures { result ≡ names (view_now view.entry) address node.now }
+fn names(space: &Space, address: LbAddr, node: &Node) -> bool
+    ensures { (blocks : Blocks) → result ≡ names (view blocks space.now) address node.now }
 {
-    match address_fault(view.space, node.icb) {
+    match address_fault(space, node.icb) {
         Some(_) => false,
         None => is_icb(address, node.icb.address()),
     }
 }
 
 /// Whether a node is the directory at an address.
-fn is_folder_at(view: View<'_>, address: LbAddr, node: &Node) -> bool
-    ensures { result ≡ is_folder_at (view_now view.entry) address node.now }
+fn is_folder_at(space: &Space, address: LbAddr, node: &Node) -> bool
+    ensures { (blocks : Blocks) → result ≡ is_folder_at (view blocks space.now) address node.now }
 {
-    is_directory(node.kind) && names(view, address, node)
+    is_directory(node.kind) && names(space, address, node)
 }
 
 /// The path of the first node that is the directory at an address.
-fn folder_at<'a>(view: View<'_>, nodes: &'a [Node], address: LongAd) -> Option<&'a Path>
-    ensures { option_map (λ path. path.now) result ≡ folder_at (view_now view.entry) nodes.now (Some address) }
+fn folder_at<'a>(space: &Space, nodes: &'a [Node], address: LongAd) -> Option<&'a Path>
+    ensures { (blocks : Blocks) → option_map (λ path. path.now) result ≡ folder_at (view blocks space.now) nodes.now (Some address) }
 {
     let mut rest = nodes;
     while let Some((first, others)) = rest.split_first() {
-        if is_folder_at(view, address.address(), first) {
+        if is_folder_at(space, address.address(), first) {
             return Some(&first.path);
         }
         rest = others;
@@ -116,12 +119,17 @@ fn folder_at<'a>(view: View<'_>, nodes: &'a [Node], address: LongAd) -> Option<&
 }
 
 /// The path of the directory in which a lost folder is, as it says itself.
-fn place_of<'a>(view: View<'_>, nodes: &'a [Node], folder: LbAddr) -> Option<&'a Path>
-    ensures { option_map (λ path. path.now) result ≡ place_of (view_now view.entry) nodes.now folder }
+fn place_of<'a, B: BlockStore>(
+    view: StoreView<'_, B>,
+    nodes: &'a [Node],
+    folder: LbAddr,
+) -> Result<Option<&'a Path>, ReadFault>
+    ensures value { IfOk result (λ place. B.tells → option_map (λ path. path.now) place ≡ place_of (view_by B.states view.entry) nodes.now folder) }
+    ensures fails { OnErr result B.fails }
 {
-    match parent(view, folder) {
-        Some(address) => folder_at(view, nodes, address),
-        None => None,
+    match parent_by(view, folder)? {
+        Some(address) => Ok(folder_at(view.space, nodes, address)),
+        None => Ok(None),
     }
 }
 
@@ -155,20 +163,21 @@ fn push_in_member(text: &mut String, place: Option<&Path>) -> Result<(), OutOfMe
 }
 
 /// The column of a lost folder's place, or the member of an object.
-pub(crate) fn place_column(
+pub(crate) fn place_column<B: BlockStore>(
     alloc: Global,
     form: ListForm,
-    view: View<'_>,
+    view: StoreView<'_, B>,
     nodes: &[Node],
     folder: LbAddr,
-) -> Result<String, OutOfMemory>
-    ensures { IfOk result (λ text. string_bytes text ≡ place_column form (place_of (view_now view.entry) nodes.now folder)) }
+) -> Result<String, GaveUp>
+    ensures value { IfOk result (λ text. B.tells → string_bytes text ≡ place_column form (place_of (view_by B.states view.entry) nodes.now folder)) }
+    ensures fails { IsErrOf result GaveUp.Unread → B.fails }
 {
     let mut text = String::new(alloc);
     if form.paths {
         return Ok(text);
     }
-    let place = place_of(view, nodes, folder);
+    let place = place_of(view, nodes, folder)?;
     if form.json {
         push_in_member(&mut text, place)?;
     } else {
@@ -271,50 +280,54 @@ pub(crate) fn push_lost_line(
 
 /// The line of a node of a lost tree, which is given without its blocks and holes, if it is asked for.
 #[tactic(auto, unfolding(crate::specs::LostLists::node_line))]
-pub(crate) fn push_node_line(
+pub(crate) fn push_node_line<B: BlockStore>(
     alloc: Global,
     text: &mut String,
     form: ListForm,
-    view: View<'_>,
+    view: StoreView<'_, B>,
     word: &str,
     place: &str,
     node: &Node,
-) -> Result<(), OutOfMemory>
-    ensures { OnOk result (string_bytes text.new ≡ string_bytes text.old ++ node_line form (view_now view.entry) word.now place.now (full_node (view_now view.entry) node.now)) }
+) -> Result<(), GaveUp>
+    ensures line { OnOk result (B.tells → string_bytes text.new ≡ string_bytes text.old ++ node_line form (view_by B.states view.entry) word.now place.now (full_node (view_by B.states view.entry) node.now)) }
+    ensures fails { IsErrOf result GaveUp.Unread → B.fails }
 {
-    let full = full_standing(alloc, view, node.icb, &node.standing)?;
+    let full = full_standing_by(alloc, view, node.icb, &node.standing)?;
     if form.torn && is_whole(&full) {
         return Ok(());
     }
-    let tail = tail_at(alloc, view, node.icb)?;
+    let tail = tail_by(alloc, view, node.icb)?;
     let mut path = String::new(alloc);
     push_lost_path(&mut path, word, &node.path)?;
     let place = own_place(&node.path, place);
     push_lost_line(
         text, form, tail, &full, node.kind, node.size, node.stamp, path, place,
-    )
+    )?;
+    Ok(())
 }
 
 /// The line of a lost file, which is given without its blocks and holes, if it is asked for.
 #[tactic(auto, unfolding(crate::specs::LostLists::file_line))]
-pub(crate) fn push_file_line(
+pub(crate) fn push_file_line<B: BlockStore>(
     alloc: Global,
     text: &mut String,
     form: ListForm,
-    view: View<'_>,
+    view: StoreView<'_, B>,
     two: bool,
     file: &Unnamed,
-) -> Result<(), OutOfMemory>
-    ensures { OnOk result (string_bytes text.new ≡ string_bytes text.old ++ file_line form (view_now view.entry) two (full_entry (view_now view.entry) file.now)) }
+) -> Result<(), GaveUp>
+    ensures line { OnOk result (B.tells → string_bytes text.new ≡ string_bytes text.old ++ file_line form (view_by B.states view.entry) two (full_entry (view_by B.states view.entry) file.now)) }
+    ensures fails { IsErrOf result GaveUp.Unread → B.fails }
 {
-    let full = full_standing(alloc, view, file.icb(), &file.standing)?;
+    let full = full_standing_by(alloc, view, file.icb(), &file.standing)?;
     if form.torn && is_whole(&full) {
         return Ok(());
     }
-    let tail = tail_at(alloc, view, file.icb())?;
+    let tail = tail_by(alloc, view, file.icb())?;
     let mut path = String::new(alloc);
     push_lost_word(&mut path, two, file.address())?;
     let size = Some(file.size);
     let stamp = Some(file.stamp);
-    push_lost_line(text, form, tail, &full, file.kind, size, stamp, path, "")
+    push_lost_line(text, form, tail, &full, file.kind, size, stamp, path, "")?;
+    Ok(())
 }
