@@ -1,8 +1,6 @@
 //! Names that are found behind a hole of a torn directory, of entries that no name leads to otherwise.
 
 ghost use Rattle.std.specs.Prelude.{◌≡◌, IfOk, IsErrOf, List, filter_map, map, option_map, take};
-ghost use Rattle.udfs_lattice.specs.Volumes.{Blocks};
-ghost use Rattle.udfs_space.specs.Places.{view};
 ghost use Rattle.udfs_space.specs.Views.{view_by, view_now};
 ghost use Rattle.udfs_file.specs.FoundNames.{entries_in};
 ghost use Rattle.udfs_lost.specs.FoundNames.{Found, found_names, found_of, is_torn, is_torn_folder, torn_folders};
@@ -16,7 +14,7 @@ use udfs_file::file_sets::address_fault;
 use udfs_file::{DirEntry, FoundNames};
 use udfs_lattice::{BlockStore, GaveUp};
 use udfs_osta::{Name, OutOfMemory};
-use udfs_space::{Space, StoreView, View};
+use udfs_space::{StoreView, View};
 use udfs_walk::{Node, Standing, Unnamed, body_by};
 
 /// The most names that are told of one directory.
@@ -73,10 +71,14 @@ pub fn torn_folders<'a>(alloc: Global, nodes: &'a [Node]) -> Result<Vec<&'a Node
 }
 
 /// The entry that an entry of a directory names, if its address is good and leads to one of these.
-fn lost_at<'a>(space: &Space, lost: &Unplaced<'a>, entry: &DirEntry) -> Option<&'a Unnamed>
-    ensures { (blocks : Blocks) → option_map (λ u. record { name = entry.now.name; lost = u.now }) result ≡ found_of (view blocks space.now) lost.now entry.now }
+fn lost_at<'a, B: BlockStore>(
+    view: StoreView<'_, B>,
+    lost: &Unplaced<'a>,
+    entry: &DirEntry,
+) -> Option<&'a Unnamed>
+    ensures { option_map (λ u. record { name = entry.now.name; lost = u.now }) result ≡ found_of (view_by B.states view.entry) lost.now entry.now }
 {
-    match address_fault(space, entry.icb) {
+    match address_fault(view.space, entry.icb) {
         Some(_) => None,
         None => lost.at(entry.icb.address()),
     }
@@ -95,7 +97,7 @@ fn names_in<'a, B: BlockStore>(
     let mut names = names;
     let mut found = Vec::new(alloc);
     'names: while let Some(entry) = names.next_by(alloc)? {
-        if let Some(lost) = lost_at(view.space, lost, &entry) {
+        if let Some(lost) = lost_at(view, lost, &entry) {
             if found.len() == MOST_NAMES {
                 return Ok(found);
             }
