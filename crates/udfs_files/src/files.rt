@@ -179,6 +179,7 @@ pub trait Files {
         ensures same { IfOk result (λ found. IfOk found (λ target. tells → IsFileOf (identity self.now (real self.now path.now)) (in_place self.now path.now) target.identity)) }
         ensures other { IfOk result (λ found. IfOk found (λ target. target.kind ≡ Kind.Other → in_place self.now path.now)) }
         ensures absent { IfOk result (λ found. IfOk found (λ target. target.kind ≡ Kind.Absent → tells → holds self.now (real self.now path.now) ≡ Some None)) }
+        ensures regular { IfOk result (λ found. IfOk found (λ target. target.kind ≡ Kind.Regular → tells → holds self.now (real self.now path.now) ≢ Some None)) }
         ensures fails { IfOk result (λ found. OnErr found (shut self.now path.now)) };
 
     /// Makes a file to be written, at a path that nothing has. Until it is handed to `sync`, a crash may leave anything there.
