@@ -3,6 +3,7 @@
 ghost use Rattle.std.specs.Prelude.{◌≡◌, ◌≢◌, ◌+◌, ◌%◌, ◌^◌, ℕ, ◌≤◌, ◌<◌, List, Option, length, IfOk, IfSome, OnOk, OnErr, Some, None, [], string_bytes};
 ghost use Rattle.std.specs.Io.KnownBytes.{WriteAppends};
 ghost use Rattle.udfs_files.specs.Disk.{Disk, Gone, Same, SameBut, Moved, Goes, folder_of};
+ghost use Rattle.udfs_files.specs.Failing.{CountsAt};
 ghost use Rattle.udfs_files.specs.Identities.{IsFileOf};
 ghost use Rattle.udfs_files.specs.Telling.{ToldOrSilent};
 ghost use Rattle.udfs_files.specs.declared.files.Identity.{Identity};
@@ -132,6 +133,11 @@ pub trait Files {
     /// How many of the calls that change files failed, and how often a file was given up because what was to be in it could not be read again, modulo 2 ^ 64.
     ghost faults: { Self → ℕ };
 
+    /// How many of the calls that change files failed in this run, by the path that they were made for: that of the folder, with the slash at its end, where the
+    /// names in it could not be brought to the disk, and the new one where a file could not be moved. A write counts for the path of its output, where that is
+    /// discarded.
+    ghost failures: { Self → List ℕ → ℕ };
+
     /// Opens a file to be read from its beginning, which changes none. Links are followed.
     ///
     /// # Errors
@@ -190,6 +196,7 @@ pub trait Files {
     fn make_new(&mut self, path: &str) -> Result<Self::Output, DeviceFault>
         ensures number { IfOk result (λ output. tells → Self.Output.number output ≢ None) }
         ensures at { IfOk result (λ output. is_at self.new path.now (Self.Output.number output)) }
+        ensures fresh { IfOk result (λ output. (Self.Output.stream output).faults ≡ 0) }
         ensures empty { IfOk result (λ output. tells → (Self.Output.stream output).contents ≡ Some []) }
         ensures absent { OnOk result (tells → holds self.old path.now ≡ Some None) }
         ensures link { OnOk result (is_no_link self.new path.now) }
@@ -199,6 +206,7 @@ pub trait Files {
         ensures kept { (q : List ℕ) (c : Option (List ℕ)) → q ≢ path.now → kept self.new q c → kept self.old q c }
         ensures real { real self.new ≡ real self.old }
         ensures count { CountsFault (faults self.old) (faults self.new) result }
+        ensures counts { CountsAt path.now (failures self.old) (failures self.new) result }
         ensures crash { Goes moment may_leave left_since self.old self.new (SameBut path.now) }
         // What is there stays, whatever crashes.
         ensures stays { tells → holds self.old path.now ≢ Some None → Goes moment may_leave left_since self.old self.new Same };
@@ -211,6 +219,7 @@ pub trait Files {
     /// `DeviceFault`, exactly where the count of faults goes up by one. No path holds anything else then.
     fn make(&mut self, path: &str) -> Result<Self::Output, DeviceFault>
         ensures at { IfOk result (λ output. is_at self.new path.now (Self.Output.number output)) }
+        ensures fresh { IfOk result (λ output. (Self.Output.stream output).faults ≡ 0) }
         ensures empty { IfOk result (λ output. tells → (Self.Output.stream output).contents ≡ Some []) }
         ensures written { OnOk result (holds self.new path.now ≡ None) }
         ensures failed { OnErr result ((q : List ℕ) → holds self.new q ≡ holds self.old q) }
@@ -218,6 +227,7 @@ pub trait Files {
         ensures kept { (q : List ℕ) (c : Option (List ℕ)) → q ≢ path.now → kept self.new q c → kept self.old q c }
         ensures real { real self.new ≡ real self.old }
         ensures count { CountsFault (faults self.old) (faults self.new) result }
+        ensures counts { CountsAt path.now (failures self.old) (failures self.new) result }
         ensures crash { Goes moment may_leave left_since self.old self.new (SameBut path.now) };
 
     /// The bytes that were written to the file of this path are on the disk, and it is closed. Its name may not be there yet. What was written to what is
@@ -236,6 +246,7 @@ pub trait Files {
         ensures links { (q : List ℕ) → is_no_link self.old q → is_no_link self.new q }
         ensures real { real self.new ≡ real self.old }
         ensures count { CountsFault (faults self.old) (faults self.new) result }
+        ensures counts { CountsAt path.now (failures self.old) (failures self.new) result }
         ensures crash { Goes moment may_leave left_since self.old self.new (SameBut path.now) };
 
     /// Moves a file over another path of its folder. A crash may leave what was there until the folder is synced, and never less than one of the two.
@@ -254,6 +265,7 @@ pub trait Files {
         ensures links { OnErr result ((q : List ℕ) → is_no_link self.old q → is_no_link self.new q) }
         ensures real { real self.new ≡ real self.old }
         ensures count { CountsFault (faults self.old) (faults self.new) result }
+        ensures counts { CountsAt to.now (failures self.old) (failures self.new) result }
         ensures crash { Goes moment may_leave left_since self.old self.new (Moved from.now to.now (kept self.old from.now)) };
 
     /// All names in the folder that has this path are on the disk.
@@ -267,6 +279,7 @@ pub trait Files {
         ensures kept { (q : List ℕ) (c : Option (List ℕ)) → kept self.new q c → kept self.old q c }
         ensures real { real self.new ≡ real self.old }
         ensures count { CountsFault (faults self.old) (faults self.new) result }
+        ensures counts { CountsAt (folder_of path.now) (failures self.old) (failures self.new) result }
         ensures crash { Goes moment may_leave left_since self.old self.new Same };
 
     /// Removes a file, and follows no link. A crash may leave it until the folder is synced, whole.
@@ -282,6 +295,7 @@ pub trait Files {
         // Where a link is removed, paths lead elsewhere.
         ensures real { is_no_link self.old path.now → real self.new ≡ real self.old }
         ensures count { CountsFault (faults self.old) (faults self.new) result }
+        ensures counts { CountsAt path.now (failures self.old) (failures self.new) result }
         ensures crash { Goes moment may_leave left_since self.old self.new (SameBut path.now) }
         ensures either { Goes moment may_leave left_since self.old self.new (Gone path.now) };
 
@@ -316,11 +330,26 @@ pub trait Files {
         ensures kept { (q : List ℕ) (c : Option (List ℕ)) → kept self.new q c → kept self.old q c }
         ensures real { real self.new ≡ real self.old }
         ensures count { CountsFault (faults self.old) (faults self.new) result }
+        ensures counts { CountsAt path.now (failures self.old) (failures self.new) result }
+        ensures crash { Goes moment may_leave left_since self.old self.new Same };
+
+    /// Closes an output whose file is given up. Where a write to it failed, that counts as a call for its path; nothing else changes.
+    fn discard(&mut self, path: &str, output: Self::Output)
+        requires at { is_at self.old path.now (Self.Output.number output) }
+        ensures failed { (Self.Output.stream output).faults ≢ 0 → failures self.new path.now ≡ failures self.old path.now + 1 }
+        ensures sound { (Self.Output.stream output).faults ≡ 0 → failures self.new path.now ≡ failures self.old path.now }
+        ensures others { (q : List ℕ) → q ≢ path.now → failures self.new q ≡ failures self.old q }
+        ensures count { faults self.new ≡ faults self.old }
+        ensures holds { holds self.new ≡ holds self.old }
+        ensures kept { (q : List ℕ) (c : Option (List ℕ)) → kept self.new q c → kept self.old q c }
+        ensures links { (q : List ℕ) → is_no_link self.old q → is_no_link self.new q }
+        ensures real { real self.new ≡ real self.old }
         ensures crash { Goes moment may_leave left_since self.old self.new Same };
 
     /// Counts a fault of none of these calls: a file that was begun was given up, because what was to be in it could not be read again. Nothing else changes.
     fn count_fault(&mut self)
         ensures count { faults self.new ≡ (faults self.old + 1) % 2 ^ 64 }
+        ensures counts { failures self.new ≡ failures self.old }
         ensures holds { holds self.new ≡ holds self.old }
         ensures kept { (q : List ℕ) (c : Option (List ℕ)) → kept self.new q c → kept self.old q c }
         ensures real { real self.new ≡ real self.old }

@@ -2,6 +2,7 @@
 //! Files that a crash may take at any moment, and one call that replaces a file whole or not at all.
 #![tactic(auto)]
 
+mod failures;
 mod files;
 mod filling;
 mod folders;
@@ -17,7 +18,7 @@ mod watch;
 
 pub use files::{Aim, Files, Handle, Identity, Kind, Target};
 pub(crate) use filling::ContentJob;
-pub use filling::{Content, Job, fill, fill_by};
+pub use filling::{Content, GivenUp, Job, fill, fill_by};
 pub use machine::Machine;
 pub use opened::{MachineImage, MachineInput, MachineStored};
 pub use output::MachineFile;

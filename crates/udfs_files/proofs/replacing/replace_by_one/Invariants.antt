@@ -1,6 +1,7 @@
 -- So far no path holds anything else, and a crash leaves anything at those of new files alone.
 use Rattle.std.proofs.Common.{◌≡◌, ◌⊎◌, ◌<◌, ℕ, List}
 use Rattle.udfs_files.specs.Disk.{Goes, SameButOwn, Fails, SinkFails}
+use Rattle.udfs_files.specs.Failing.{Grow, SomeFailed}
 use Rattle.udfs_files.proofs.replacing.replace_by_one.Given as goal
 
 abbrev pub invariant-loop-name : goal.invariant-loop-name
@@ -11,4 +12,6 @@ invariant-loop-name g l =
       goes : Goes F.moment F.may_leave F.left_since l.initial.files l.files (SameButOwn l.path);
       real : F.real l.files ≡ F.real l.initial.files;
       cause : 0 < l.name-index → Fails F.faults ⊎ SinkFails g.F.Output.Sink.stream;
+      failed : 0 < l.name-index → SomeFailed (F.failures l.initial.files) (F.failures l.files);
+      grow : Grow (F.failures l.initial.files) (F.failures l.files);
     }
