@@ -2,6 +2,7 @@
 
 ghost use Rattle.std.specs.Prelude.{◌≡◌, ◌≢◌, ◌⊎◌, ℕ, List, [], Some, IfOk, IfErr, OnOk, OnErr, IsErrOf};
 ghost use Rattle.udfs_files.specs.Disk.{Disk, After, IsOwn, Replaced, Fails, SinkFails};
+ghost use Rattle.udfs_files.specs.Failing.{Grow, SomeFailed};
 ghost use Rattle.udfs_common.specs.Jobs.{AreOnly, IsDone};
 ghost use Rattle.udfs_common.specs.Keeping.{FailedOut, IsKept, RefusedOut};
 ghost use Rattle.udfs_common.specs.Refusing.{IsUnput};
@@ -9,7 +10,7 @@ ghost use Rattle.udfs_common.specs.Refusing.{IsUnput};
 use crate::files::Files;
 use crate::refusal::Refusal;
 use std::alloc::{AllocError, Global};
-use udfs_files::{Aim, Job, JobError, Kind, ReplaceError, Stage, fill_by, replace_by_job};
+use udfs_files::{Aim, GivenUp, Job, JobError, Kind, ReplaceError, Stage, fill_by, replace_by_job};
 use udfs_reading::DeviceFault;
 
 /// Puts a file that a job writes at the path, whole or not at all, or has the job write to what is there and is no file.
@@ -38,6 +39,10 @@ pub fn put_job<F: Files, J: Job>(
     // No other path changes, but for those of new files that are to go in its place.
     ensures elsewhere { F.tells → (F.in_place files.old out.now → ⊥) → (q : List ℕ) → q ≢ F.real files.old out.now → (¬ IsOwn (F.real files.old out.now) q) → F.holds files.new q ≡ F.holds files.old q }
     ensures cause { IfErr result (λ refusal. (refusal ≡ Refusal.Output) ⊎ (refusal ≡ Refusal.Unkept) → F.shut files.old out.now ⊎ Fails F.faults ⊎ SinkFails F.Output.stream) }
+    // It does not give up by itself: a call failed meanwhile, or the job failed for a reason of its own.
+    ensures failed { IfErr result (λ refusal. (refusal ≡ Refusal.Output) ⊎ (refusal ≡ Refusal.Unkept) → F.shut files.old out.now ⊎ SomeFailed (F.failures files.old) (F.failures files.new)) }
+    ensures blamed { IfOk result (λ done. IfErr done (λ refusal. J.blames_sink job.now refusal → SomeFailed (F.failures files.old) (F.failures files.new))) }
+    ensures grow { Grow (F.failures files.old) (F.failures files.new) }
     // After an error nothing has changed; or a call failed, and the path, unless a device or a pipe, holds what it held or the new file, whole.
     ensures left { OnErr result ((bytes : List ℕ) → (F.tells → AreOnly (λ b. J.wrote job.now (Some []) (Some b)) bytes) →
         RefusedOut F.tells F.holds F.real F.in_place (F.shut files.old out.now ⊎ Fails F.faults ⊎ SinkFails F.Output.stream) out.now files.old files.new (λ Put. Put bytes)) }
@@ -71,6 +76,7 @@ pub fn put_job<F: Files, J: Job>(
 }
 
 /// Has a job write to what is no file: a device or a pipe.
+#[tactic(auto, using(udfs_files::proofs::Failing::failed_before, udfs_files::proofs::Failing::failed_call, udfs_files::proofs::Failing::failed_later, udfs_files::proofs::Failing::grow_done, udfs_files::proofs::Failing::grow_failed, udfs_files::proofs::Failing::grow_on))]
 fn do_in_place<F: Files, J: Job>(
     files: &mut F,
     path: &str,
@@ -80,13 +86,17 @@ fn do_in_place<F: Files, J: Job>(
     ensures refused { IfErr result (λ refusal. refusal ≡ Refusal.Output) }
     ensures cause { OnErr result (Fails F.faults ⊎ SinkFails F.Output.stream) }
     ensures given_up { IfOk result (λ done. OnErr done (Fails F.faults)) }
+    ensures failed { OnErr result (SomeFailed (F.failures files.old) (F.failures files.new)) }
+    ensures blamed { IfOk result (λ done. IfErr done (λ refusal. J.blames_sink job.now refusal → SomeFailed (F.failures files.old) (F.failures files.new))) }
+    ensures grow { Grow (F.failures files.old) (F.failures files.new) }
 {
     let Ok(output) = files.make(path) else {
         return Err(Refusal::Output);
     };
     let output = match fill_by(output, job) {
         Ok(output) => output,
-        Err(refusal) => {
+        Err(GivenUp { handle, refusal }) => {
+            files.discard(path, handle);
             files.count_fault();
             return Ok(Err(refusal));
         }

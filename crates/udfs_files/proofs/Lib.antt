@@ -1,4 +1,4 @@
-mod Failing
+pub mod Failing
 pub mod Going
 pub mod Leading
 pub mod Logs

@@ -1,5 +1,6 @@
 use Rattle.std.proofs.Common.{◌≡◌, ◌⊎◌, ℕ, List, [], Some, inl, inr, rules, subst}
 use Rattle.udfs_files.specs.Disk.{After, Fails, IsOwn, Replaced, SinkFails}
+use Rattle.udfs_files.specs.Failing.{SomeFailed}
 use Rattle.udfs_files.specs.Jobs.{JobBlames}
 use Rattle.udfs_files.specs.declared.replacing.JobError.{JobError}
 use Rattle.udfs_common.specs.Keeping.{IsKept}
@@ -22,6 +23,9 @@ returns-in-Ok g c =
       elsewhere = λ tells place. else_at (λ (q : List ℕ). F.holds c.replace_by_job.new.files q ≡ F.holds c.args.files.now q) (leads tells) c.in-Ok.ensures.elsewhere;
       cause = search rules;
       left = search rules;
+      failed = search rules;
+      blamed = search rules;
+      grow = search rules;
       told = search rules;
       why = search rules;
     }
@@ -45,6 +49,9 @@ returns-in-Err-Files-NotKept g c =
       elsewhere = λ tells place. else_at (λ (q : List ℕ). F.holds c.replace_by_job.new.files q ≡ F.holds c.args.files.now q) (leads tells) c.in-Err-Files-NotKept.ensures.elsewhere;
       cause = search rules;
       left = λ bytes only. inr (record { failed = search rules; stands = λ tells place. inr (held tells bytes (only tells)); elsewhere = λ tells place. else_at (λ (q : List ℕ). F.holds c.replace_by_job.new.files q ≡ F.holds c.args.files.now q) (leads tells) c.in-Err-Files-NotKept.ensures.elsewhere });
+      failed = search rules;
+      blamed = search rules;
+      grow = search rules;
       told = search rules;
       why = inr (inr (search rules), search rules);
     }
@@ -59,6 +66,8 @@ returns-in-Err-Files g c =
     λ tells. subst (λ (q : List ℕ). F.holds c.replace_by_job.new.files q ≡ F.holds c.args.files.now q) (leads tells) (c.in-Err-Files.ensures.refused (search rules)) in
     let blamed = subst (λ (e : JobError _). JobBlames (g.J.Job.blames_sink c.args.job.now) (Fails F.faults ⊎ SinkFails g.F.Output.Sink.stream) e) c.in-Err-Files.field-0-is c.in-Err-Files.ensures.cause in
     let failed : F.shut c.args.files.now c.args.out.now ⊎ Fails F.faults ⊎ SinkFails g.F.Output.Sink.stream = inr (blamed (search rules)) in
+    let since = subst (λ (e : JobError _). JobBlames (g.J.Job.blames_sink c.args.job.now) (SomeFailed (F.failures c.args.files.now) (F.failures c.replace_by_job.new.files)) e) c.in-Err-Files.field-0-is c.in-Err-Files.ensures.failed in
+    let some : SomeFailed (F.failures c.args.files.now) (F.failures c.replace_by_job.new.files) = since (search rules) in
     record {
       written = search rules;
       any_moment = λ bytes only tells place disk since. subst (λ (p : List ℕ). After (F.may_leave c.args.files.now) (Replaced p bytes) disk) (leads tells) (put_each F.moment F.may_leave F.left_since path bytes Is g.met.F.Files.only_now _ c.replace_by_job.new.files (only tells) (c.in-Err-Files.ensures.any_moment tells) disk (since));
@@ -69,6 +78,9 @@ returns-in-Err-Files g c =
       elsewhere = λ tells place. else_at (λ (q : List ℕ). F.holds c.replace_by_job.new.files q ≡ F.holds c.args.files.now q) (leads tells) c.in-Err-Files.ensures.elsewhere;
       cause = λ is. failed;
       left = λ bytes only. inr (record { failed = failed; stands = λ tells place. inl (kept tells); elsewhere = λ tells place. else_at (λ (q : List ℕ). F.holds c.replace_by_job.new.files q ≡ F.holds c.args.files.now q) (leads tells) c.in-Err-Files.ensures.elsewhere });
+      failed = λ is. inr some;
+      blamed = search rules;
+      grow = search rules;
       told = search rules;
       why = inr (inl (search rules), failed);
     }
@@ -94,6 +106,9 @@ returns-in-Err-Refused g c =
       elsewhere = λ tells place. others tells;
       cause = search rules;
       left = search rules;
+      failed = search rules;
+      blamed = search rules;
+      grow = search rules;
       told = search rules;
       why = search rules;
     }
@@ -116,6 +131,9 @@ returns g c =
       elsewhere = λ tells place. else_at (λ (q : List ℕ). F.holds c.replace_by_job.new.files q ≡ F.holds c.args.files.now q) (leads tells) c.in-Err-RefusedLeft.ensures.elsewhere;
       cause = search rules;
       left = search rules;
+      failed = search rules;
+      blamed = search rules;
+      grow = search rules;
       told = search rules;
       why = search rules;
     }
