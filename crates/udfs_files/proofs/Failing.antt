@@ -3,7 +3,7 @@ use Rattle.std.proofs.Common.{refl, ap, sym, subst, ◌∙◌, arith, inl, inr}
 use Rattle.std.proofs.lemmas.Bool.{cases_Bool, cond-true, cond-false}
 use Rattle.std.proofs.lemmas.Slice.Eq.{bytes_eq-Decides}
 use Rattle.std.specs.Prelude.{◌≡◌, ◌≢◌, ℕ, ◌+◌, ◌≤◌, List, [], ◌∷◌, Result, Ok, Err, bytes_eq, suc, true, false}
-use Rattle.udfs_files.specs.Failing.{CountsAt, Grow, SomeFailed, count_of}
+use Rattle.udfs_files.specs.Failing.{CountsAt, FailedAt, Grow, SomeFailed, count_of}
 use Rattle.udfs_files.specs.Jobs.{JobBlames}
 use Rattle.udfs_files.specs.declared.replacing.JobError.{JobError}
 use Rattle.udfs_files.specs.declared.replacing.JobError.TheVariants.{Files, Refused, RefusedLeft}
@@ -78,3 +78,16 @@ grow_done old new same q = let is = same q in omega (arith, is)
 pub grow_call : {X E : Type 0} (path : List ℕ) (old new : List ℕ → ℕ) (result : Result X E) → CountsAt path old new result → Grow old new
 grow_call path old new (Ok x) counts = grow_done old new counts
 grow_call path old new (Err e) counts = grow_failed path old new counts
+
+-- ---- of one path
+
+module _ (path : List ℕ) (a b c : List ℕ → ℕ) where
+  pub failed_at_before : FailedAt path a b → Grow b c → FailedAt path a c
+  failed_at_before some grow = let one = some in let two = grow path in omega (arith, one, two)
+
+  pub failed_at_later : Grow a b → FailedAt path b c → FailedAt path a c
+  failed_at_later grow some = let one = grow path in let two = some in omega (arith, one, two)
+
+-- a call for this path that failed
+pub failed_at : (path : List ℕ) (old new : List ℕ → ℕ) → (new path ≡ old path + 1) × ((q : List ℕ) → q ≢ path → new q ≡ old q) → FailedAt path old new
+failed_at path old new counts = let one = counts.0 in omega (arith, one)
