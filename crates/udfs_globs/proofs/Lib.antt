@@ -1,0 +1,3 @@
+mod Naming
+mod Reaching
+pub mod Counting

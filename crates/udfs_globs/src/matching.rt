@@ -1,0 +1,136 @@
+//! Whether a path is one of those that a word stands for.
+
+ghost use Rattle.std.specs.Prelude.{◌≡◌, ◌==◌, ◌||◌, IfOk, codes, map};
+ghost use Rattle.std.specs.Str.{bytes_eq};
+ghost use Rattle.udfs_globs.specs.Globs.{FitsOnlyAsManyNames, char_step, fits, fits_name, fits_path, is_glob, name_step};
+ghost use Rattle.udfs_globs.specs.Rows.{next_row};
+
+use crate::names::names_of;
+use crate::rows::{first_row, is_at_end, passed, spread};
+use std::alloc::{AllocError, Global};
+
+/// Which of these characters are that of a pattern: `?` is any.
+fn char_hits(alloc: Global, pattern: char, name: &[char]) -> Result<Vec<bool>, AllocError>
+    ensures { IfOk result (λ hits. hits.items ≡ map (λ c. pattern == 63 || c == pattern) name.now) }
+{
+    let mut hits = Vec::new(alloc);
+    for c in name {
+        hits.push(pattern == '?' || *c == pattern)?;
+    }
+    Ok(hits)
+}
+
+/// The places in a name that are reached by one more character of a pattern.
+fn char_row(
+    alloc: Global,
+    pattern: char,
+    name: &[char],
+    row: &[bool],
+) -> Result<Vec<bool>, AllocError>
+    ensures { IfOk result (λ next. next.items ≡ next_row (char_step pattern) row.now name.now) }
+{
+    if pattern == '*' {
+        return spread(alloc, row);
+    }
+    let hits = char_hits(alloc, pattern, name)?;
+    passed(alloc, row, &hits)
+}
+
+/// Whether a name is one that a pattern stands for.
+fn fits_name(alloc: Global, pattern: &[char], name: &[char]) -> Result<bool, AllocError>
+    ensures { IfOk result (λ yes. yes ≡ fits_name pattern.now name.now) }
+{
+    let mut row = first_row(alloc, name.len())?;
+    let mut rest = pattern;
+    while let Some((first, others)) = rest.split_first() {
+        row = char_row(alloc, *first, name, &row)?;
+        rest = others;
+    }
+    Ok(is_at_end(&row))
+}
+
+/// Which of these names are those that a pattern stands for.
+fn name_hits(
+    alloc: Global,
+    pattern: &[char],
+    names: &[Vec<char>],
+) -> Result<Vec<bool>, AllocError>
+    ensures { IfOk result (λ hits. hits.items ≡ map (fits_name pattern.now) (map (λ name. name.items) names.now)) }
+{
+    let mut hits = Vec::new(alloc);
+    for name in names {
+        hits.push(fits_name(alloc, pattern, name)?)?;
+    }
+    Ok(hits)
+}
+
+/// Whether a name of a pattern stands for any number of names.
+fn is_any_number(pattern: &[char]) -> bool
+    ensures { result ≡ bytes_eq pattern.now (codes "**") }
+{
+    matches!(pattern, ['*', '*'])
+}
+
+/// The places between names that are reached by one more name of a pattern.
+fn name_row(
+    alloc: Global,
+    pattern: &[char],
+    names: &[Vec<char>],
+    row: &[bool],
+) -> Result<Vec<bool>, AllocError>
+    ensures { IfOk result (λ next. next.items ≡ next_row (name_step pattern.now) row.now (map (λ name. name.items) names.now)) }
+{
+    if is_any_number(pattern) {
+        return spread(alloc, row);
+    }
+    let hits = name_hits(alloc, pattern, names)?;
+    passed(alloc, row, &hits)
+}
+
+/// Whether names are those that a pattern's names stand for.
+fn fits_names(
+    alloc: Global,
+    pattern: &[Vec<char>],
+    names: &[Vec<char>],
+) -> Result<bool, AllocError>
+    ensures { IfOk result (λ yes. yes ≡ fits (map name_step (map (λ name. name.items) pattern.now)) (map (λ name. name.items) names.now)) }
+{
+    let mut row = first_row(alloc, names.len())?;
+    let mut rest = pattern;
+    while let Some((first, others)) = rest.split_first() {
+        row = name_row(alloc, first, names, &row)?;
+        rest = others;
+    }
+    Ok(is_at_end(&row))
+}
+
+/// Whether a path is one of those that a word stands for: `*` is any part of a name, also none of it, `?` any one character, and a name that is only `**` any
+/// number of names, also none. Each other character is itself. Only `**` passes a `/`. It takes time in the product of the lengths.
+///
+/// # Errors
+///
+/// If memory runs out.
+pub fn fits_path(alloc: Global, word: &str, path: &str) -> Result<bool, AllocError>
+    ensures { IfOk result (λ yes. yes ≡ fits_path word.now path.now) }
+{
+    let pattern = names_of(alloc, word)?;
+    let names = names_of(alloc, path)?;
+    fits_names(alloc, &pattern, &names)
+}
+
+/// Whether a word may stand for several paths: a `*` or a `?` is in it.
+pub fn is_glob(word: &str) -> bool
+    ensures { result ≡ is_glob word.now }
+{
+    for byte in word.as_bytes() {
+        if *byte == b'*' || *byte == b'?' {
+            return true;
+        }
+    }
+    false
+}
+
+/// A law: without a `**` a word stands for paths of as many names alone, so nothing else in it passes a `/`.
+pub fn passes_no_slash()
+    ensures { FitsOnlyAsManyNames }
+{}
