@@ -1,3 +1,4 @@
 mod Naming
 mod Reaching
 pub mod Counting
+mod Fronts

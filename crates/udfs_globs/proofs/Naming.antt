@@ -18,12 +18,13 @@ pub joined_none : (text : List ℕ) → joined [] (names_in text) ≡ names_in t
 joined_none [] = refl
 joined_none (c ∷ text) = by (c == 47) (names_in text)
   where
-  with_one : (names : List (List ℕ)) → joined [] (before c names) ≡ before c names
-  with_one [] = refl
-  with_one (n ∷ names) = refl
-  by : (b : Bool) (names : List (List ℕ)) → joined [] (if b then [] ∷ names else before c names) ≡ (if b then [] ∷ names else before c names)
-  by true names = refl
-  by false names = with_one names
+    with_one : (names : List (List ℕ)) → joined [] (before c names) ≡ before c names
+    with_one [] = refl
+    with_one (n ∷ names) = refl
+
+    by : (b : Bool) (names : List (List ℕ)) → joined [] (if b then [] ∷ names else before c names) ≡ (if b then [] ∷ names else before c names)
+    by true names = refl
+    by false names = with_one names
 
 append_none : {A : Type 0} (xs : List A) → xs ++ [] ≡ xs
 append_none [] = refl

@@ -2,9 +2,10 @@
 --     fits steps things        the things are what the steps stand for, in order
 --     fits_name pattern name   the name is one that the pattern stands for
 --     fits_path word path      the path is one that the word stands for
+--     AsksFor word path        it is one of those, or in a folder that is
 --     is_glob word             the word may stand for several
 --     FitsOnlyAsManyNames      without a `**` a word stands for paths of as many names alone: nothing else in it passes a `/`
-use Rattle.std.specs.Prelude.{◌≡◌, ℕ, ◌==◌, ◌&&◌, ◌||◌, Bool, true, false, not, List, [], ◌∷◌, codes, length, map, if◌then◌else◌}
+use Rattle.std.specs.Prelude.{◌≡◌, ℕ, ◌==◌, ◌&&◌, ◌||◌, Bool, true, false, not, List, [], ◌∷◌, codes, length, map, take, if◌then◌else◌}
 use Rattle.std.specs.List.{list_all, list_any}
 use Rattle.std.specs.Str.{bytes_eq, chars}
 
@@ -51,6 +52,10 @@ names_in (c ∷ text) = if c == 47 then [] ∷ names_in text else before c (name
 -- the names of the path are what those of the word stand for
 abbrev pub fits_path : List ℕ → List ℕ → Bool
 fits_path word path = fits (map name_step (names_in (chars word))) (names_in (chars path))
+
+-- the first names of the path, or all of them, are what those of the word stand for
+abbrev pub AsksFor : List ℕ → List ℕ → Type 0
+AsksFor word path = (k : ℕ) × (fits (map name_step (names_in (chars word))) (take k (names_in (chars path))) ≡ true)
 
 -- a `*` or a `?` is in it
 abbrev pub is_glob : List ℕ → Bool

@@ -6,4 +6,4 @@ mod matching;
 mod names;
 mod rows;
 
-pub use matching::{fits_path, is_glob, passes_no_slash};
+pub use matching::{asks_for, fits_path, is_glob, passes_no_slash};

@@ -1,12 +1,12 @@
 //! Whether a path is one of those that a word stands for.
 
-ghost use Rattle.std.specs.Prelude.{◌≡◌, ◌==◌, ◌||◌, IfOk, codes, map};
+ghost use Rattle.std.specs.Prelude.{◌≡◌, ◌↔◌, ◌==◌, ◌||◌, ℕ, suc, IfOk, codes, false, length, map, take, true};
 ghost use Rattle.std.specs.Str.{bytes_eq};
-ghost use Rattle.udfs_globs.specs.Globs.{FitsOnlyAsManyNames, char_step, fits, fits_name, fits_path, is_glob, name_step};
-ghost use Rattle.udfs_globs.specs.Rows.{next_row};
+ghost use Rattle.udfs_globs.specs.Globs.{AsksFor, FitsOnlyAsManyNames, char_step, fits, fits_name, fits_path, is_glob, name_step};
+ghost use Rattle.udfs_globs.specs.Rows.{last_from, next_row};
 
 use crate::names::names_of;
-use crate::rows::{first_row, is_at_end, passed, spread};
+use crate::rows::{first_row, is_at_end, is_somewhere, passed, spread};
 use std::alloc::{AllocError, Global};
 
 /// Which of these characters are that of a pattern: `?` is any.
@@ -50,11 +50,7 @@ fn fits_name(alloc: Global, pattern: &[char], name: &[char]) -> Result<bool, All
 }
 
 /// Which of these names are those that a pattern stands for.
-fn name_hits(
-    alloc: Global,
-    pattern: &[char],
-    names: &[Vec<char>],
-) -> Result<Vec<bool>, AllocError>
+fn name_hits(alloc: Global, pattern: &[char], names: &[Vec<char>]) -> Result<Vec<bool>, AllocError>
     ensures { IfOk result (λ hits. hits.items ≡ map (fits_name pattern.now) (map (λ name. name.items) names.now)) }
 {
     let mut hits = Vec::new(alloc);
@@ -87,13 +83,15 @@ fn name_row(
     passed(alloc, row, &hits)
 }
 
-/// Whether names are those that a pattern's names stand for.
-fn fits_names(
+/// The places between names that a pattern's names reach: a front of the names is what they stand for exactly where the place at its end is reached.
+fn name_places(
     alloc: Global,
     pattern: &[Vec<char>],
     names: &[Vec<char>],
-) -> Result<bool, AllocError>
-    ensures { IfOk result (λ yes. yes ≡ fits (map name_step (map (λ name. name.items) pattern.now)) (map (λ name. name.items) names.now)) }
+) -> Result<Vec<bool>, AllocError>
+    ensures places { IfOk result (λ row. length row.items ≡ suc (length (map (λ name. name.items) names.now))) }
+    ensures fronts { IfOk result (λ row. (k : ℕ) → fits (map name_step (map (λ name. name.items) pattern.now)) (take k (map (λ name. name.items) names.now)) ≡ last_from false (take (suc k) row.items)) }
+    ensures all { IfOk result (λ row. fits (map name_step (map (λ name. name.items) pattern.now)) (map (λ name. name.items) names.now) ≡ last_from false row.items) }
 {
     let mut row = first_row(alloc, names.len())?;
     let mut rest = pattern;
@@ -101,7 +99,7 @@ fn fits_names(
         row = name_row(alloc, first, names, &row)?;
         rest = others;
     }
-    Ok(is_at_end(&row))
+    Ok(row)
 }
 
 /// Whether a path is one of those that a word stands for: `*` is any part of a name, also none of it, `?` any one character, and a name that is only `**` any
@@ -115,7 +113,22 @@ pub fn fits_path(alloc: Global, word: &str, path: &str) -> Result<bool, AllocErr
 {
     let pattern = names_of(alloc, word)?;
     let names = names_of(alloc, path)?;
-    fits_names(alloc, &pattern, &names)
+    let row = name_places(alloc, &pattern, &names)?;
+    Ok(is_at_end(&row))
+}
+
+/// Whether a path is one of those that a word stands for, or in a folder that is. It takes time in the product of the lengths.
+///
+/// # Errors
+///
+/// If memory runs out.
+pub fn asks_for(alloc: Global, word: &str, path: &str) -> Result<bool, AllocError>
+    ensures { IfOk result (λ yes. (yes ≡ true) ↔ AsksFor word.now path.now) }
+{
+    let pattern = names_of(alloc, word)?;
+    let names = names_of(alloc, path)?;
+    let row = name_places(alloc, &pattern, &names)?;
+    Ok(is_somewhere(&row))
 }
 
 /// Whether a word may stand for several paths: a `*` or a `?` is in it.

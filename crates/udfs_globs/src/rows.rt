@@ -1,6 +1,7 @@
 //! How far into a list the first steps of a pattern reach: a truth for each place between two things, before the first and behind the last.
 
 ghost use Rattle.std.specs.Prelude.{◌≡◌, ◌∷◌, ◌+◌, IfOk, false, true, length};
+ghost use Rattle.std.specs.List.{list_any};
 ghost use Rattle.udfs_globs.specs.Rows.{both, last_from, spread_from, unreached};
 
 use std::alloc::{AllocError, Global};
@@ -49,6 +50,18 @@ pub(crate) fn spread(alloc: Global, row: &[bool]) -> Result<Vec<bool>, AllocErro
         rest = others;
     }
     Ok(next)
+}
+
+/// Whether a place is reached.
+pub(crate) fn is_somewhere(row: &[bool]) -> bool
+    ensures { result ≡ list_any (λ b. b) row.now }
+{
+    for reached in row {
+        if *reached {
+            return true;
+        }
+    }
+    false
 }
 
 /// Whether the last place is reached.

@@ -19,7 +19,7 @@ loop-first-preserved c =
       fits = c.loop-first.invariant.fits
           ∙ ap (λ rest. some_fits c.loop-first.row.items (map char_step rest) c.args.name.now) c.in-Some.ensures.cases.0
           ∙ sym (ap (λ now. some_fits now (map char_step c.in-Some.others.now) c.args.name.now) row
-              ∙ one_step step c.loop-first.row.items (map char_step c.in-Some.others.now) c.args.name.now c.loop-first.invariant.places);
+          ∙ one_step step c.loop-first.row.items (map char_step c.in-Some.others.now) c.args.name.now c.loop-first.invariant.places);
     }
 
 pub returns : goal.returns

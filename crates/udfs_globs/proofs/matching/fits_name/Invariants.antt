@@ -7,7 +7,7 @@ use Rattle.udfs_globs.proofs.matching.fits_name.Given as goal
 abbrev pub invariant-loop-first : goal.invariant-loop-first
 invariant-loop-first l = record {
   places : length l.row.items ≡ suc (length l.name);
-  fits : fits (map char_step l.pattern) l.name ≡ some_fits l.row.items (map char_step l.rest) l.name
+  fits : fits (map char_step l.pattern) l.name ≡ some_fits l.row.items (map char_step l.rest) l.name;
 }
 
 abbrev pub decreases-loop-first : goal.decreases-loop-first
