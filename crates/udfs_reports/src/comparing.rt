@@ -15,7 +15,7 @@ ghost use Rattle.udfs_reports.specs.Rereading.{AreAsked, AreMapped};
 
 use std::alloc::{AllocError, Global};
 use udfs_common::refusal::Refusal;
-use udfs_groups::grouped;
+use udfs_witnesses::grouped;
 use udfs_lattice::{BlockTable, Fact};
 use udfs_remarks::looking::rereads_in;
 use udfs_salvage::{Listing, Volume};

@@ -2,7 +2,7 @@
 use Rattle.std.proofs.Common.{◌≡◌, ◌≤◌, ◌<◌, ◌-◌, ℕ, true}
 use Rattle.udfs_lattice.specs.States.{is_known}
 use Rattle.udfs_lattice.specs.Tables.{state_of}
-use Rattle.udfs_groups.proofs.edges.last_unread.Given as goal
+use Rattle.udfs_witnesses.proofs.edges.last_unread.Given as goal
 
 abbrev pub invariant-loop-n : goal.invariant-loop-n
 invariant-loop-n l = record {
