@@ -25,7 +25,7 @@ use udfs_common::stored_volumes::{StoredDisc, indexed_volume, unread_volume};
 use udfs_files::Stage;
 use udfs_index::{Cursor, Index, Stored, Unread};
 use udfs_lattice::{BlockStore, GaveUp};
-use udfs_pairs::AnyStored;
+use udfs_index::AnyStored;
 use udfs_reading::{Sink, Taker, WriteFault};
 use udfs_remarks::IndexBlocks;
 use udfs_remarks::no_reports::refused_report;
