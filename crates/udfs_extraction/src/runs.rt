@@ -23,7 +23,7 @@ use std::alloc::{AllocError, Global};
 use udfs_common::files::Files;
 use udfs_reading::Sink;
 use udfs_salvage::{Fill, Listing};
-use udfs_times::Times;
+use udfs_files::Times;
 
 /// How many nodes a run has at most.
 const NODES: usize = 256;
