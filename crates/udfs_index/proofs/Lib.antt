@@ -9,7 +9,7 @@ pub mod CopyLemmas
 pub mod PackLemmas
 pub mod EntryLemmas
 pub mod StoreLemmas
-mod PlacedLemmas
+mod PairPlacedLemmas
 mod RecordLemmas
 mod SpreadLemmas
 mod FrontLemmas
