@@ -12,9 +12,9 @@ returns-in-Err-Salvage-clause-refused g c told t holds =
     let refused = rw c.in-Err-Salvage.field-0-is at (c.in-Err-Salvage.ensures.refused told t holds) in
     inl (rw same refused)
 
-pub returns-in-Err-judge_paths-clause-refused : goal.returns-in-Err-judge_paths-clause-refused
-returns-in-Err-judge_paths-clause-refused g c told t holds =
-    ⊎_elim (λ memory. inl (inl memory)) (λ names. inr (record { report = listing_by g.B.BlockStore.states c.in-Ok.whole; is_report = (c.in-Ok.ensures.headline told t holds).report_is; names = names })) c.in-Err-judge_paths.ensures.refused
+pub returns-in-Err-clause-refused : goal.returns-in-Err-clause-refused
+returns-in-Err-clause-refused g c told t holds =
+    ⊎_elim (λ memory. inl (inl memory)) (λ names. inr (record { report = listing_by g.B.BlockStore.states c.in-Ok.whole; is_report = (c.in-Ok.ensures.headline told t holds).report_is; names = names })) c.in-Err.ensures.refused
 
 pub returns-in-Ok-keep_in_line-clause-listing : goal.returns-in-Ok-keep_in_line-clause-listing
 returns-in-Ok-keep_in_line-clause-listing g c told t holds =
@@ -36,4 +36,4 @@ pub returns-in-Ok-keep_in_line-clause-rising : goal.returns-in-Ok-keep_in_line-c
 returns-in-Ok-keep_in_line-clause-rising g c told = c.in-Ok-keep_in_line.ensures.rising (c.in-Ok.ensures.rising told)
 
 pub returns-in-Err-keep_in_line-clause-refused : goal.returns-in-Err-keep_in_line-clause-refused
-returns-in-Err-keep_in_line-clause-refused g c told t holds = inl (inl (c.refused_report.ensures ∙ ap salvage_refusal_of c.in-Err-keep_in_line.ensures.refused))
+returns-in-Err-keep_in_line-clause-refused g c told t holds = inl (inl (c.refused_report-in-Err-keep_in_line.ensures ∙ ap salvage_refusal_of c.in-Err-keep_in_line.ensures.refused))

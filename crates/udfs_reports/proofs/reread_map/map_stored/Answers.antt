@@ -1,8 +1,7 @@
 use Rattle.std.proofs.Common.{inl, inr, refl}
 use Rattle.udfs_common.proofs.PutsLemmas.{says_wider, unbegun_as}
 use Rattle.udfs_common.proofs.StoredLemmas.{any_told}
-use Rattle.udfs_common.specs.Puts.{PutFails}
-use Rattle.udfs_reports.specs.Rereading.{IsMapOf, IsRefusedDomain}
+use Rattle.udfs_reports.specs.Rereading.{IsMapOf}
 use Rattle.udfs_reports.proofs.ToldVolumes.{if_err_by, of_taken}
 use Rattle.udfs_reports.proofs.reread_map.map_stored.Goals as goal
 
@@ -23,9 +22,8 @@ returns-in-Err-clause-why g c = inl (refl, refl, inr c.in-Err.ensures.refused)
 
 pub returns-in-Ok-map_of-clause-why : goal.returns-in-Ok-map_of-clause-why
 returns-in-Ok-map_of-clause-why g c =
-    let r = c.args.request.now in
     if_err_by c.in-Ok-map_of.told
-    (λ refusal why. inr (of_taken _ _ _ (λ last. IsRefusedDomain (PutFails _ c.args.path.now c.args.files.now) r last _ _ refusal) (any_told g.F.Stored.Stored.content) c.in-Ok.ensures.index (λ told t fits took. why told t (c.new-blocks.ensures t told fits took)))) c.in-Ok-map_of.ensures.why
+    (λ refusal why. inr (of_taken _ _ _ _ (any_told g.F.Stored.Stored.content) c.in-Ok.ensures.index (λ told t fits took. why told t (c.new-blocks.ensures t told fits took)))) c.in-Ok-map_of.ensures.why
 
 pub unread_volume-requires : goal.unread_volume-requires
 unread_volume-requires g c = rw c.in-Err-map_of.ensures.unread.0 c.requires
