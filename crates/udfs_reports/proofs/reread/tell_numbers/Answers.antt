@@ -11,8 +11,8 @@ returns-in-Err-OutOfMemory-clause-refused g c told t holds = inl (refl, inl (inl
 
 pub returns-in-Ok-write_numbers-clause-printed : goal.returns-in-Ok-write_numbers-clause-printed
 returns-in-Ok-write_numbers-clause-printed g c told t holds =
-    told_of _ _ _ _ (listing_by g.B.BlockStore.states c.in-Ok-Ok.listing) _ _ _ _ ((rw c.in-Ok-Ok.field-0-is at c.in-Ok-Ok.ensures.listing) told t holds) (c.deref.ensures.value ∙ c.in-Ok-reread_blocks_by.ensures.value told) c.in-Ok-write_numbers.ensures c.all_whole.ensures
+    told_of _ _ _ _ (listing_by g.B.BlockStore.states c.in-Ok-Ok.listing) _ _ _ _ ((rw c.in-Ok-Ok.field-0-is at c.in-Ok-Ok.ensures.listing) told t holds) (c.deref.ensures.value ∙ c.in-Ok.ensures.value told) c.in-Ok-write_numbers.ensures c.all_whole.ensures
 
 pub returns-clause-refused : goal.returns-clause-refused
 returns-clause-refused g c told t holds =
-    begun_of _ _ _ _ (listing_by g.B.BlockStore.states c.in-Ok-Ok.listing) _ _ _ ((rw c.in-Ok-Ok.field-0-is at c.in-Ok-Ok.ensures.listing) told t holds) (c.deref.ensures.value ∙ c.in-Ok-reread_blocks_by.ensures.value told) c.in-Err-write_numbers.ensures
+    begun_of _ _ _ _ (listing_by g.B.BlockStore.states c.in-Ok-Ok.listing) _ _ _ ((rw c.in-Ok-Ok.field-0-is at c.in-Ok-Ok.ensures.listing) told t holds) (c.deref.ensures.value ∙ c.in-Ok.ensures.value told) c.in-Err-write_numbers.ensures
