@@ -35,7 +35,24 @@ pub enum JobError<X> {
 }
 
 /// The suffixes after a path and `.unfinished` in the names that are tried for a new file.
-const MORE: [&str; 4] = ["", "~", "~~", "~~~"];
+const MORE: [&str; 16] = [
+    "",
+    "~",
+    "~~",
+    "~~~",
+    "~~~~",
+    "~~~~~",
+    "~~~~~~",
+    "~~~~~~~",
+    "~~~~~~~~",
+    "~~~~~~~~~",
+    "~~~~~~~~~~",
+    "~~~~~~~~~~~",
+    "~~~~~~~~~~~~",
+    "~~~~~~~~~~~~~",
+    "~~~~~~~~~~~~~~",
+    "~~~~~~~~~~~~~~~",
+];
 
 /// A path for a new file that is to go in the place of this one.
 fn own_name(alloc: Global, path: &str, more: &str) -> Result<String, AllocError>
@@ -231,7 +248,7 @@ fn content_error(error: JobError<WriteFault>) -> ReplaceError
 
 /// Puts a file with this content at the path, over an old one, whole or not at all. The content is written to a new file in
 /// the same folder, which is synced and moved over the old one, and then the folder is synced. The name of the new file is the
-/// path followed by `.unfinished`; where no new file can be made there, up to three `~` are appended in turn. It has the
+/// path followed by `.unfinished`; where no new file can be made there, up to fifteen `~` are appended in turn. It has the
 /// permissions of the old file, where the system can. Both files exist for a moment, so there has to be room for both.
 ///
 /// # Errors
