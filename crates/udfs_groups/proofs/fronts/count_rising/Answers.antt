@@ -1,5 +1,4 @@
-use Rattle.std.proofs.Common.{◌≡◌, ◌≤◌, ◌<◌, ◌+◌, arith, subst, sym, take}
-use Rattle.udfs_volume.specs.Seen.{IsRising}
+use Rattle.std.proofs.Common.{◌+◌, arith, subst, sym, take}
 use Rattle.udfs_groups.proofs.Rising.{never_falls, risen_more}
 use Rattle.udfs_groups.specs.Adding.{IsNext}
 use Rattle.udfs_groups.proofs.fronts.count_rising.Goals as goal
