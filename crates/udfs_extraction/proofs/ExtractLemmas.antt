@@ -16,7 +16,7 @@ use Rattle.udfs_extraction.specs.Refused.{IsUnsearched, ListStops, LostStops, Ma
 -- all was made; `told` is the report of the volume in which what is lost was looked for
 pub made : {F I M S W O : Type 0} (reach : Reach F I M S W) (stream : O → Stream) (r : ExtractRequest) (place : Option (List ℕ)) (old one two three new : F) (before between beyond after : O) (last : ℕ) (table of : Table) (report told : Report) (nodes_good lost_good trees_good both good : Bool) → table ≡ of
     → told ≡ lost_report r.volume.profile table last report
-    → MakesNodes reach r place old one two (stream before) (stream between) table report nodes_good → MakesLost reach stream r.lost two three between beyond table report lost_good
+    → MakesNodes reach r place old one two (stream before) (stream between) (state_of table) report nodes_good → MakesLost reach stream r.lost two three between beyond table report lost_good
     → MakesTrees reach stream r three new beyond after table told trees_good → both ≡ (lost_good && trees_good) → good ≡ (nodes_good && both)
     → Makes reach stream r place old new before after last of report good
 made reach stream r place old one two three new before between beyond after last table of report told nodes_good lost_good trees_good both good same place_is nodes lost trees both_are says = subst (λ (t : Table). Makes reach stream r place old new before after last t report good) same (record {
@@ -42,12 +42,12 @@ unsearched r last table of report told refusal same place_is why = subst (λ (t 
 
 -- the nodes or their manifest were not put
 pub listing_stops : {F I M S W O : Type 0} (reach : Reach F I M S W) (stream : O → Stream) (r : ExtractRequest) (place : Option (List ℕ)) (old new : F) (before after : O) (last : ℕ) (table of : Table) (report : Report) (refusal : Refusal) → table ≡ of
-    → ListStops reach r place old new (stream before) (stream after) table report refusal → MakingStops reach stream r place old new before after last of report refusal
-listing_stops reach stream r place old new before after last table of report refusal same stops = inl (subst (λ (t : Table). ListStops reach r place old new (stream before) (stream after) t report refusal) same stops)
+    → ListStops reach r place old new (stream before) (stream after) (state_of table) report refusal → MakingStops reach stream r place old new before after last of report refusal
+listing_stops reach stream r place old new before after last table of report refusal same stops = inl (subst (λ (t : Table). ListStops reach r place old new (stream before) (stream after) (state_of t) report refusal) same stops)
 
 -- the lost files were not
 pub adding_stops : {F I M S W O : Type 0} (reach : Reach F I M S W) (stream : O → Stream) (r : ExtractRequest) (place : Option (List ℕ)) (old one two new : F) (before between after : O) (last : ℕ) (table of : Table) (report : Report) (good : Bool) (refusal : Refusal) → table ≡ of
-    → MakesNodes reach r place old one two (stream before) (stream between) table report good → MatchOption r.lost ⊥ (λ folder. LostStops reach.files reach.output folder.now new (stream between) (stream after) table report refusal)
+    → MakesNodes reach r place old one two (stream before) (stream between) (state_of table) report good → MatchOption r.lost ⊥ (λ folder. LostStops reach.files reach.output folder.now new (stream between) (stream after) table report refusal)
     → MakingStops reach stream r place old new before after last of report refusal
 adding_stops reach stream r place old one two new before between after last table of report good refusal same nodes lost = subst (λ (t : Table). MakingStops reach stream r place old new before after last t report refusal) same (inr (inl (by r.lost lost)))
   where
@@ -58,7 +58,7 @@ adding_stops reach stream r place old one two new before between after last tabl
 
 -- the lost folders were not
 pub beyond_stops : {F I M S W O : Type 0} (reach : Reach F I M S W) (stream : O → Stream) (r : ExtractRequest) (place : Option (List ℕ)) (old one two three new : F) (before between beyond after : O) (last : ℕ) (table of : Table) (report told : Report) (nodes_good lost_good : Bool) (refusal : Refusal) → table ≡ of → told ≡ lost_report r.volume.profile table last report
-    → MakesNodes reach r place old one two (stream before) (stream between) table report nodes_good → MakesLost reach stream r.lost two three between beyond table report lost_good
+    → MakesNodes reach r place old one two (stream before) (stream between) (state_of table) report nodes_good → MakesLost reach stream r.lost two three between beyond table report lost_good
     → MatchOption r.trees ⊥ (λ folder. TreesStop reach.files reach.output r.deleted r.short_names folder.now new (stream beyond) (stream after) table told refusal)
     → MakingStops reach stream r place old new before after last of report refusal
 beyond_stops reach stream r place old one two three new before between beyond after last table of report told nodes_good lost_good refusal same place_is nodes lost trees = subst (λ (t : Table). MakingStops reach stream r place old new before after last t report refusal) same (inr (inr (by r.trees trees)))

@@ -19,3 +19,5 @@ mod ListedLemmas
 mod NoNode
 mod RefusedLemmas
 pub mod ManifestJob
+mod StoredLemmas
+mod ToldVolumes

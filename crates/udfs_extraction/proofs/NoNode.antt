@@ -1,7 +1,8 @@
 -- The error for a path that is no node's comes before anything is made.
 use Rattle.std.proofs.Common.{◌≡◌, ◌⊎◌, ◌∙◌, ℕ, Bool, false, Bor, List, None, Option, Some, alloc_error, inl, inr, sym}
 use Rattle.std.specs.Prelude.{MatchOption}
-use Rattle.udfs_lattice.specs.Tables.{Table}
+use Rattle.udfs_lattice.specs.Tables.{Table, state_of}
+use Rattle.udfs_lattice.specs.Volumes.{Blocks}
 use Rattle.udfs_reading.specs.Device.{Stream}
 use Rattle.udfs_volume.specs.Answers.{Answer, found, holes, faulty}
 use Rattle.udfs_walk.specs.NodeFields.{NodeFields}
@@ -21,7 +22,7 @@ behind : (heard : Bool) (put all : ℕ) (refusal : Refusal) (i : ℕ) → refusa
 behind heard put all refusal i is (inl memory) = let bad : NoNode i ≡ Memory alloc_error = sym is ∙ memory in cc
 behind heard put all refusal i is (inr output) = let bad : NoNode i ≡ Output = sym is ∙ output.0 in cc
 
-unput : (Failed : Type 0) (refusal : Refusal) (i : ℕ) → refusal ≡ NoNode i → IsUnput Failed refusal → ⊥
+pub unput : (Failed : Type 0) (refusal : Refusal) (i : ℕ) → refusal ≡ NoNode i → IsUnput Failed refusal → ⊥
 unput Failed refusal i is (inl memory) = let bad : NoNode i ≡ Memory alloc_error = sym is ∙ memory in cc
 unput Failed refusal i is (inr (inl output, failed)) = let bad : NoNode i ≡ Output = sym is ∙ output in cc
 unput Failed refusal i is (inr (inr unkept, failed)) = let bad : NoNode i ≡ Unkept = sym is ∙ unkept in cc
@@ -34,10 +35,10 @@ nodes (found f) v Failed only lined P ns before after old new refusal i is (inr 
 nodes (holes listed) v Failed only lined P ns before after old new refusal i is line = line.untouched
 nodes (faulty fault) v Failed only lined P ns before after old new refusal i is line = line.untouched
 
-manifest : {F I M S W : Type 0} (reach : Reach F I M S W) (r : ExtractRequest) (place : Option (List ℕ)) (old new : F) (before after : Stream) (table : Table) (report : Report) (refusal : Refusal) (i : ℕ) → refusal ≡ NoNode i
-    → MatchOption place ⊥ (λ there. Unlisted reach r there old new before after table report refusal) → ⊥
-manifest reach r None old new before after table report refusal i is never = never
-manifest reach r (Some there) old new before after table report refusal i is unlisted = unput _ refusal i is unlisted.unput
+manifest : {F I M S W : Type 0} (reach : Reach F I M S W) (r : ExtractRequest) (place : Option (List ℕ)) (old new : F) (before after : Stream) (blocks : Blocks) (report : Report) (refusal : Refusal) (i : ℕ) → refusal ≡ NoNode i
+    → MatchOption place ⊥ (λ there. Unlisted reach r there old new before after blocks report refusal) → ⊥
+manifest reach r None old new before after blocks report refusal i is never = never
+manifest reach r (Some there) old new before after blocks report refusal i is unlisted = unput _ refusal i is unlisted.unput
 
 lost : {F I M S W O : Type 0} (reach : Reach F I M S W) (stream : O → Stream) (r : ExtractRequest) (place : Option (List ℕ)) (folder : Option (Bor (List ℕ))) (old new : F) (before after : O) (table : Table) (report : Report) (refusal : Refusal) (i : ℕ) → refusal ≡ NoNode i
     → MatchOption folder ⊥ (λ path. StopsAdding reach stream r place path.now old new before after table report refusal) → ⊥
@@ -66,6 +67,11 @@ pub no_node : {F I M S W O : Type 0} (reach : Reach F I M S W) (stream : O → S
 no_node reach stream r place old new before after last table refusal i is (inl (same, kept, untold)) = same
 no_node reach stream r place old new before after last table refusal i is (inr (report, is_report, inl (same, kept, unfound))) = same
 no_node reach stream r place old new before after last table refusal i is (inr (report, is_report, inr (inl (inl (stops, spares))))) = nodes report.volume report.volume _ _ _ _ report.nodes old new _ _ refusal i is stops
-no_node reach stream r place old new before after last table refusal i is (inr (report, is_report, inr (inl (inr unlisted)))) = absurd (manifest reach r place old new _ _ table report refusal i is unlisted)
+no_node reach stream r place old new before after last table refusal i is (inr (report, is_report, inr (inl (inr unlisted)))) = absurd (manifest reach r place old new _ _ (state_of table) report refusal i is unlisted)
 no_node reach stream r place old new before after last table refusal i is (inr (report, is_report, inr (inr (inl stops)))) = absurd (lost reach stream r place r.lost old new before after table report refusal i is stops)
 no_node reach stream r place old new before after last table refusal i is (inr (report, is_report, inr (inr (inr stops)))) = absurd (trees reach stream r place r.trees old new before after last table report refusal i is stops)
+
+-- nor where a manifest was not put
+pub unput_at : (Failed : Type 0) (Stays : List ℕ → Type 0) (place : Option (List ℕ)) (refusal : Refusal) (i : ℕ) → refusal ≡ NoNode i → MatchOption place ⊥ (λ there. IsUnput Failed refusal × Stays there) → ⊥
+unput_at Failed Stays None refusal i is never = never
+unput_at Failed Stays (Some there) refusal i is why = unput Failed refusal i is why.0

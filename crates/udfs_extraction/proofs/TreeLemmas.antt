@@ -5,7 +5,8 @@ use Rattle.std.specs.List.{list_all}
 use Rattle.std.proofs.lemmas.List.{append-nil}
 use Rattle.udfs_files.specs.Disk.{Disk, Fails, SinkFails}
 use Rattle.udfs_files.specs.declared.files.Files.{Ghosts}
-use Rattle.udfs_lattice.specs.Tables.{Table}
+use Rattle.udfs_lattice.specs.Tables.{Table, state_of}
+use Rattle.udfs_lattice.specs.Volumes.{Blocks}
 use Rattle.udfs_reading.specs.Device.{Stream}
 use Rattle.udfs_volume.specs.Answers.{Answer}
 use Rattle.udfs_walk.specs.NodeFields.{NodeFields}
@@ -82,10 +83,10 @@ module _ {F I M S W : Type 0} (known : Ghosts F I M S W) where
   }
 
   -- what was put stays put
-  pub tree_still : (fails : Type 0) (table : Table) (report : Report) (fill : Fill) (short : Bool) (within folder : List ℕ) (mid new : F) → ((t : ℕ) (c : Disk) → t ≤ known.moment mid → known.may_leave mid c → known.left_since mid t c) → SparesLost known within mid new
-      → (k : ℕ) (n : NodeFields) (fate : Fate) → IsPut known.tells fails table report fill short folder (known.holds mid) (known.moment mid) (known.left_since mid) k n fate
-      → IsPut known.tells fails table report fill short folder (known.holds new) (known.moment new) (known.left_since new) k n fate
-  tree_still fails table report fill short within folder mid new counts_now step k n fate put = record {
+  pub tree_still : (fails : Type 0) (blocks : Blocks) (report : Report) (fill : Fill) (short : Bool) (within folder : List ℕ) (mid new : F) → ((t : ℕ) (c : Disk) → t ≤ known.moment mid → known.may_leave mid c → known.left_since mid t c) → SparesLost known within mid new
+      → (k : ℕ) (n : NodeFields) (fate : Fate) → IsPut known.tells fails blocks report fill short folder (known.holds mid) (known.moment mid) (known.left_since mid) k n fate
+      → IsPut known.tells fails blocks report fill short folder (known.holds new) (known.moment new) (known.left_since new) k n fate
+  tree_still fails blocks report fill short within folder mid new counts_now step k n fate put = record {
     done = put.done;
     written = λ is told f root from. let w = put.written is told f root from in (w.0, w.1, safe_lost known within _ _ mid new counts_now told step w.2);
     failed = put.failed;
@@ -97,7 +98,7 @@ module _ {F I M S W : Type 0} (known : Ghosts F I M S W) (output : W → Stream)
       → (tree : LostTree) (done : TreePut) → IsTreePut known output mid table volume short folder names tree done → IsTreePut known output new table volume short folder names tree done
   trees_still table volume short folder names mid new counts_now step tree done put = (
     put.0,
-    each_map _ _ (λ k n fate was. tree_still known (Fails known.faults ⊎ SinkFails output) table (tree_report table volume tree) Refuse short folder (seat_path folder (has_two volume) tree.folder done.seat) mid new counts_now step k n fate was) 0 _ done.fates put.1,
+    each_map _ _ (λ k n fate was. tree_still known (Fails known.faults ⊎ SinkFails output) (state_of table) (tree_report table volume tree) Refuse short folder (seat_path folder (has_two volume) tree.folder done.seat) mid new counts_now step k n fate was) 0 _ done.fates put.1,
   )
 
 -- ---- tree after tree

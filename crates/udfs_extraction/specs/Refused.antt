@@ -10,12 +10,15 @@
 --     TreesStop            the same of lost folders
 --     MakingStops          what a report has was not put and reported, or only in part: the nodes, their manifest, the lost files, or the lost folders
 --     MakingRefused        a table has no report, or memory ran out before, or what is lost was not found, and nothing was made or reported; or this is said of its report
+--     NodesCut, MakingCut  a block could not be read again, and what was put and reported by then
+--     VolumeStops          nothing was made of a volume's disc, or not all, and why
 --     IsUnbegun            memory ran out, or a place was rejected, or the inputs were not joined
 --     ExtractRefused       the same of the volume: which of these it was
 use Rattle.std.specs.Prelude.{◌≡◌, ◌≢◌, ◌⊎◌, ◌<◌, ◌+◌, ℕ, Bool, true, false, List, [], Option, Some, MatchOption, alloc_error, drop, length, slice_get}
 use Rattle.udfs_files.specs.Disk.{Fails, SinkFails}
 use Rattle.udfs_files.specs.declared.files.Files.{Ghosts}
 use Rattle.udfs_lattice.specs.Tables.{Table, state_of}
+use Rattle.udfs_lattice.specs.Volumes.{Blocks}
 use Rattle.udfs_reading.specs.Device.{Stream}
 use Rattle.udfs_reading.specs.Writing.{Failed as WriteFailed}
 use Rattle.udfs_volume.specs.Answers.{Answer}
@@ -33,12 +36,12 @@ use Rattle.udfs_words.specs.declared.request.ExtractRequest.{ExtractRequest}
 use Rattle.udfs_common.specs.Guarding.{MayNotBeSeen}
 use Rattle.udfs_common.specs.Reach.{Reach}
 use Rattle.udfs_common.specs.Refusing.{IsUnput}
-use Rattle.udfs_common.specs.Volumes.{IsNoVolume, OfVolume}
+use Rattle.udfs_common.specs.Volumes.{IsNoVolume, IsVolumeUnread, OfToldVolume}
 use Rattle.udfs_common.specs.declared.refusal.Refusal.{Refusal}
 use Rattle.udfs_common.specs.declared.refusal.Refusal.TheVariants.{Folder, LostFolder, LostSpared, Memory, NoNode, Output, Spared, TooManyPaths, Unkept}
 use Rattle.udfs_remarks.specs.NoReports.{IsUntold}
 use Rattle.udfs_extraction.specs.BarePaths.{bare}
-use Rattle.udfs_extraction.specs.ByRequest.{IsNodePut, IsPlace, MakesLost, MakesNodes, fill_of}
+use Rattle.udfs_extraction.specs.ByRequest.{IsNodePut, IsPlace, Makes, MakesLost, MakesNodes, fill_of}
 use Rattle.udfs_salvage.specs.Choosing.{is_node}
 use Rattle.udfs_extraction.specs.Extracting.{IsDone, IsPutAt, Puts, PutsBy, PutsOf, SparesNodes, TellsLines, node_line}
 use Rattle.udfs_extraction.specs.LostFiles.{EachLost, IsLostPutAt, lost_lines}
@@ -103,24 +106,29 @@ module _ {F I M S W : Type 0} (files : Ghosts F I M S W) (output : W → Stream)
       StopsTrees (Fails files.faults) (IsTreePut files output new table report.volume short folder names) (tree_lines table report.volume short) trees between after refusal
 
   -- extracting the nodes ended with this error
-  abbrev pub NodesStop : List (List ℕ) → List ℕ → Fill → Bool → F → F → Stream → Stream → Table → Report → Refusal → Type 0
-  NodesStop only folder fill short old new before after table report refusal =
-      StopsPutting (Fails files.faults) only short (λ told. IsPutAt files output new table told fill short folder) old new report before after refusal
+  abbrev pub NodesStop : List (List ℕ) → List ℕ → Fill → Bool → F → F → Stream → Stream → Blocks → Report → Refusal → Type 0
+  NodesStop only folder fill short old new before after blocks report refusal =
+      StopsPutting (Fails files.faults) only short (λ told. IsPutAt files output new blocks told fill short folder) old new report before after refusal
+
+  -- a block could not be read again: nodes from the first after the root on have their fates, and their lines as far as the output took them
+  abbrev pub NodesCut : List (List ℕ) → List ℕ → Fill → Bool → F → Stream → Stream → Blocks → Report → Type 0
+  NodesCut only folder fill short new before after blocks report =
+      PutsBy report.volume ((heard : Bool) × (fates : List Fate) × Puts (node_line [] short report) (IsDone only (IsPutAt files output new blocks report fill short folder)) report.nodes before after heard fates) ⊥
 
 -- ---- by the request
 
 -- at some moment all was put and reported, but then the manifest was not put, and what was at its place is there; or it is not kept for sure
-pub record Unlisted {F I M S W : Type 0} (reach : Reach F I M S W) (r : ExtractRequest) (there : List ℕ) (old new : F) (before after : Stream) (table : Table) (report : Report) (refusal : Refusal) : Type 0 where
+pub record Unlisted {F I M S W : Type 0} (reach : Reach F I M S W) (r : ExtractRequest) (there : List ℕ) (old new : F) (before after : Stream) (blocks : Blocks) (report : Report) (refusal : Refusal) : Type 0 where
   pub one : F
   pub good : Bool
-  pub puts : PutsOf (texts r.only.items) r.short_names (IsNodePut reach r one table) old one report before after good
+  pub puts : PutsOf (texts r.only.items) r.short_names (IsNodePut reach r one blocks) old one report before after good
   pub unput : IsUnput (Fails reach.files.faults ⊎ SinkFails reach.output) refusal
   pub stays : refusal ≢ Unkept → reach.files.holds new there ≡ reach.files.holds one there
 
 -- extracting the nodes ended with this error, and nothing outside of their folder changed; or putting their manifest did
-abbrev pub ListStops : {F I M S W : Type 0} → Reach F I M S W → ExtractRequest → Option (List ℕ) → F → F → Stream → Stream → Table → Report → Refusal → Type 0
-ListStops reach r place old new before after table report refusal = (NodesStop reach.files reach.output (texts r.only.items) r.folder.now (fill_of r.fill) r.short_names old new before after table report refusal × SparesNodes reach.files r.folder.now old new) ⊎
-    MatchOption place ⊥ (λ there. Unlisted reach r there old new before after table report refusal)
+abbrev pub ListStops : {F I M S W : Type 0} → Reach F I M S W → ExtractRequest → Option (List ℕ) → F → F → Stream → Stream → Blocks → Report → Refusal → Type 0
+ListStops reach r place old new before after blocks report refusal = (NodesStop reach.files reach.output (texts r.only.items) r.folder.now (fill_of r.fill) r.short_names old new before after blocks report refusal × SparesNodes reach.files r.folder.now old new) ⊎
+    MatchOption place ⊥ (λ there. Unlisted reach r there old new before after blocks report refusal)
 
 -- at some moment the nodes were put and reported, and their manifest put, and then putting the lost files ended with this error
 pub record StopsAdding {F I M S W O : Type 0} (reach : Reach F I M S W) (stream : O → Stream) (r : ExtractRequest) (place : Option (List ℕ)) (folder : List ℕ) (old new : F) (before after : O) (table : Table) (report : Report) (refusal : Refusal) : Type 0 where
@@ -128,7 +136,7 @@ pub record StopsAdding {F I M S W O : Type 0} (reach : Reach F I M S W) (stream 
   pub two : F
   pub between : O
   pub good : Bool
-  pub nodes : MakesNodes reach r place old one two (stream before) (stream between) table report good
+  pub nodes : MakesNodes reach r place old one two (stream before) (stream between) (state_of table) report good
   pub lost : LostStops reach.files reach.output folder new (stream between) (stream after) table report refusal
 
 -- at some moment all of that was put and reported, and then putting the lost folders ended with this error
@@ -140,13 +148,13 @@ pub record StopsBeyond {F I M S W O : Type 0} (reach : Reach F I M S W) (stream 
   pub beyond : O
   pub nodes_good : Bool
   pub lost_good : Bool
-  pub nodes : MakesNodes reach r place old one two (stream before) (stream between) table report nodes_good
+  pub nodes : MakesNodes reach r place old one two (stream before) (stream between) (state_of table) report nodes_good
   pub lost : MakesLost reach stream r.lost two three between beyond table report lost_good
   pub trees : TreesStop reach.files reach.output r.deleted r.short_names folder new (stream beyond) (stream after) table (lost_report r.volume.profile table last report) refusal
 
 -- the nodes, their manifest, the lost files, or the lost folders were not put and reported, or only in part
 abbrev pub MakingStops : {F I M S W O : Type 0} → Reach F I M S W → (O → Stream) → ExtractRequest → Option (List ℕ) → F → F → O → O → ℕ → Table → Report → Refusal → Type 0
-MakingStops reach stream r place old new before after last table report refusal = ListStops reach r place old new (stream before) (stream after) table report refusal ⊎
+MakingStops reach stream r place old new before after last table report refusal = ListStops reach r place old new (stream before) (stream after) (state_of table) report refusal ⊎
     MatchOption r.lost ⊥ (λ folder. StopsAdding reach stream r place folder.now old new before after table report refusal) ⊎
     MatchOption r.trees ⊥ (λ folder. StopsBeyond reach stream r place folder.now old new before after last table report refusal)
 
@@ -175,11 +183,26 @@ module _ {F I M S W : Type 0} (reach : Reach F I M S W) (old : F) (r : ExtractRe
       ((refusal ≡ Output) × MayNotBeSeen (reach.files.shut old) (Fails reach.read_faults) (texts r.volume.inputs.files.items) (texts r.volume.inputs.parts.items) path.now) ⊎
       ((refusal ≡ Folder) × reach.files.shut old (bare r.folder.now)))
 
-  -- memory ran out, or the manifest's place was rejected, or the place of a folder for what is lost is taken, or no last block is known, or the inputs were not joined
+  -- memory ran out, or the manifest's place was rejected, or the place of a folder for what is lost is taken, or no last block is known, or the inputs were not joined, or not read again
   abbrev pub IsUnbegun : Refusal → Type 0
-  IsUnbegun refusal = (refusal ≡ Memory alloc_error) ⊎ IsPlaceRefused refusal ⊎ MatchOption r.lost ⊥ (λ path. refusal ≡ LostSpared) ⊎ MatchOption r.trees ⊥ (λ path. refusal ≡ LostSpared) ⊎ IsNoVolume reach old r.volume refusal
+  IsUnbegun refusal = (refusal ≡ Memory alloc_error) ⊎ IsPlaceRefused refusal ⊎ MatchOption r.lost ⊥ (λ path. refusal ≡ LostSpared) ⊎ MatchOption r.trees ⊥ (λ path. refusal ≡ LostSpared) ⊎ IsNoVolume reach old r.volume refusal ⊎ IsVolumeUnread reach old r.volume refusal
+
+-- A block could not be read again, or an input has changed. Nothing was made or reported then, or nodes were, up to some one, and nothing outside of their folder changed; or all was.
+abbrev pub MakingCut : {F I M S W O : Type 0} → Reach F I M S W → (O → Stream) → ExtractRequest → Option (List ℕ) → F → F → O → O → ℕ → Table → Type 0
+MakingCut reach stream r place old new before after last table = ((new ≡ old) × (after ≡ before)) ⊎ ((report : Report) × IsReportBy r.volume.profile (state_of table) last report ×
+    ((NodesCut reach.files reach.output (texts r.only.items) r.folder.now (fill_of r.fill) r.short_names new (stream before) (stream after) (state_of table) report × SparesNodes reach.files r.folder.now old new) ⊎
+    ((good : Bool) × Makes reach stream r place old new before after last table report good)))
+
+-- what was made of the volume's disc by then; where an input could not be read again it is named
+abbrev pub DiscStops : {F I M S W O : Type 0} → Reach F I M S W → (O → Stream) → ExtractRequest → Option (List ℕ) → F → F → O → O → Refusal → Type 0
+DiscStops reach stream r place old new before after refusal = OfToldVolume reach old r.volume (λ last table. MakingRefused reach stream r place old new before after last table refusal) ⊎
+    (IsVolumeUnread reach old r.volume refusal × OfToldVolume reach old r.volume (MakingCut reach stream r place old new before after))
+
+-- the volume's disc is not known, and nothing was made or reported; or what was made of it by then
+abbrev pub VolumeStops : {F I M S W O : Type 0} → Reach F I M S W → (O → Stream) → ExtractRequest → Option (List ℕ) → F → F → O → O → Refusal → Type 0
+VolumeStops reach stream r place old new before after refusal = ((new ≡ old) × (after ≡ before) × (IsNoVolume reach old r.volume refusal ⊎ IsVolumeUnread reach old r.volume refusal)) ⊎ DiscStops reach stream r place old new before after refusal
 
 -- nothing was made or reported, and why; or the volume's disc is known, and what was made of it
 abbrev pub ExtractRefused : {F I M S W O : Type 0} → Reach F I M S W → (O → Stream) → ExtractRequest → F → F → O → O → Refusal → Type 0
 ExtractRefused reach stream r old new before after refusal = ((new ≡ old) × (after ≡ before) × IsUnbegun reach old r refusal) ⊎
-    ((place : Option (List ℕ)) × IsPlace reach old r place × OfVolume reach old r.volume (λ last table. MakingRefused reach stream r place old new before after last table refusal))
+    ((place : Option (List ℕ)) × IsPlace reach old r place × DiscStops reach stream r place old new before after refusal)

@@ -3,14 +3,16 @@
 ghost use Rattle.std.specs.Prelude.{◌≡◌, ◌⊎◌, ℕ, IfOk, IfErr, option_map, string_bytes};
 ghost use Rattle.udfs_lattice.specs.Tables.{state_of};
 ghost use Rattle.udfs_salvage.specs.Reports.{IsReportBy, Report};
+ghost use Rattle.udfs_common.specs.Volumes.{OfToldVolume};
 ghost use Rattle.udfs_extraction.specs.ByRequest.{IsExtracted, Makes};
-ghost use Rattle.udfs_extraction.specs.Refused.{ExtractRefused, MakingRefused};
+ghost use Rattle.udfs_extraction.specs.Refused.{ExtractRefused, MakingRefused, VolumeStops};
 ghost use Rattle.udfs_extraction.specs.Sparing.{LeavesExtract, SparesMaking};
 
 use crate::lost_places::{find_trees, put_lost, standing_in};
 use crate::manifest_put::list_report;
 use crate::nodes::is_all_good;
 use crate::out_places::find_places;
+use crate::stored_extract::{extract_stored, stored_for};
 use crate::times::{times_for, told_good};
 use crate::unnamed::{add_lost, lost_entries};
 use std::alloc::{AllocError, Global};
@@ -78,16 +80,66 @@ fn extract_disc<F: Files, O: Sink>(
     }
 }
 
+/// Makes what a request asks for of its volume, and holds all blocks that are known.
+fn extract_held<F: Files, O: Sink>(
+    alloc: Global,
+    request: &ExtractRequest<'_>,
+    place: &Option<String>,
+    times: &Times,
+    files: &mut F,
+    out: &mut O,
+) -> Result<bool, Refusal>
+    ensures made { IfOk result (λ good. OfToldVolume ⟦<F as Known>⟧.reach files.old request.now.volume (λ last table. (report : Report) × IsReportBy request.now.volume.profile (state_of table) last report ×
+        Makes ⟦<F as Known>⟧.reach O.stream request.now (option_map string_bytes place.now) files.old files.new out.old out.new last table report good)) }
+    ensures why { IfErr result (VolumeStops ⟦<F as Known>⟧.reach O.stream request.now (option_map string_bytes place.now) files.old files.new out.old out.new) }
+    ensures no_node { IfErr result (λ refusal. (i : ℕ) → refusal ≡ Refusal.NoNode i → files.new ≡ files.old) }
+    ensures spares { (files.new ≡ files.old) ⊎ SparesMaking ⟦<F as Known>⟧.reach request.now (option_map string_bytes place.now) files.old files.new }
+{
+    let disc = match joined_volume(alloc, &request.volume, files) {
+        Ok(disc) => disc,
+        Err(refusal) => return Err(refusal),
+    };
+    match extract_disc(alloc, &disc, request, place, times, files, out) {
+        Ok(good) => Ok(good),
+        Err(refusal) => Err(refusal),
+    }
+}
+
+/// Makes what a request asks for of its volume, by its inputs as they can be read: where nothing that is lost is asked for, and all of them are regular files, no
+/// block is held.
+fn extract_volume<F: Files, O: Sink>(
+    alloc: Global,
+    request: &ExtractRequest<'_>,
+    place: &Option<String>,
+    times: &Times,
+    files: &mut F,
+    out: &mut O,
+) -> Result<bool, Refusal>
+    ensures made { IfOk result (λ good. OfToldVolume ⟦<F as Known>⟧.reach files.old request.now.volume (λ last table. (report : Report) × IsReportBy request.now.volume.profile (state_of table) last report ×
+        Makes ⟦<F as Known>⟧.reach O.stream request.now (option_map string_bytes place.now) files.old files.new out.old out.new last table report good)) }
+    ensures why { IfErr result (VolumeStops ⟦<F as Known>⟧.reach O.stream request.now (option_map string_bytes place.now) files.old files.new out.old out.new) }
+    ensures no_node { IfErr result (λ refusal. (i : ℕ) → refusal ≡ Refusal.NoNode i → files.new ≡ files.old) }
+    ensures spares { (files.new ≡ files.old) ⊎ SparesMaking ⟦<F as Known>⟧.reach request.now (option_map string_bytes place.now) files.old files.new }
+{
+    match stored_for(alloc, request, files) {
+        Ok(Some(disc)) => extract_stored(alloc, &disc, request, place, times, files, out),
+        Ok(None) => extract_held(alloc, request, place, times, files, out),
+        Err(refusal) => Err(refusal),
+    }
+}
+
 /// Does what is asked for, one stage after another: the places of the manifest and of the folders for what is lost are judged, the inputs are joined, the files of the
 /// volume are written into a new folder, and then the manifest, the lost files and the lost folders, where they are asked for. It returns whether all nodes that are asked for
-/// are whole, nothing failed and, where times are asked for, each could be set. All inputs are opened in order before one is read. Where the volume does not open, but its
-/// layout and the places of its blocks are found, lost folders and lost files are looked for by these alone, and the root is a lost folder too.
+/// are whole, nothing failed and, where times are asked for, each could be set. All inputs are opened in order before one is read. Where all of them are regular files, and
+/// neither lost files nor lost folders are asked for, no block is held: each is read where it is, once for the walk and once for the file that has it. Where the volume does
+/// not open, but its layout and the places of its blocks are found, lost folders and lost files are looked for by these alone, and the root is a lost folder too.
 ///
 /// # Errors
 ///
 /// Those of [`find_places`], and then those of [`joined_volume`]; where the table has no report, why. Nothing is made then, nor where a path that is asked for is
 /// no node's (`NoNode`). `Folder` and `LostFolder` where a folder could not be made, `Output` where the output or the manifest failed, `Unkept` where a crash may
-/// bring an old manifest back, and `Memory` if memory runs out: what was reported by then is made. `TooManyPaths` also where the lost folders have more than 65,536
+/// bring an old manifest back, and `Memory` if memory runs out: what was reported by then is made. `Reread` where an input could not be read a second time: what was
+/// reported by then is made, and no manifest is put; or where an input has changed: all is made then. `TooManyPaths` also where the lost folders have more than 65,536
 /// nodes, or one of them lists more than 65,535 entries: nothing is made then.
 pub fn extract<F: Files, O: Sink>(
     alloc: Global,
@@ -111,11 +163,7 @@ pub fn extract<F: Files, O: Sink>(
         Ok(place) => place,
         Err(refusal) => return Err(refusal),
     };
-    let disc = match joined_volume(alloc, &request.volume, files) {
-        Ok(disc) => disc,
-        Err(refusal) => return Err(refusal),
-    };
-    match extract_disc(alloc, &disc, request, &place, &times, files, out) {
+    match extract_volume(alloc, request, &place, &times, files, out) {
         Ok(good) => Ok(told_good(good, request.times, &times)),
         Err(refusal) => Err(refusal),
     }

@@ -6,11 +6,12 @@ use std::fmt::Write;
 use udfs_common::files::Files;
 use udfs_common::shown::Said;
 use udfs_file::{Kind, NodeFault};
+use udfs_lattice::{BlockStore, GaveUp};
 use udfs_osta::OutOfMemory;
 use udfs_overview::{lost_of, push_shown_path, push_size};
 use udfs_salvage::{Listing, Volume};
 use udfs_volume::Profile;
-use udfs_walk::{Node, Standing, full_standing};
+use udfs_walk::{Node, Standing, full_standing_by};
 
 /// What a person is told that a file or a folder is.
 #[derive(Clone, Copy, PartialEq, Eq)]
@@ -109,10 +110,10 @@ fn sort_of(node: &Node, fate: Fate) -> Option<Sort> {
 }
 
 /// Appends how much of a torn file is missing, and where.
-fn push_missing(
+fn push_missing<B: BlockStore>(
     alloc: Global,
     text: &mut String,
-    listing: &Listing<'_>,
+    listing: &Listing<'_, B>,
     node: &Node,
     what: &str,
 ) -> Result<(), OutOfMemory> {
@@ -120,8 +121,12 @@ fn push_missing(
     let Volume::Open(opened) = &listing.volume else {
         return Ok(());
     };
-    let view = opened.view(listing.table);
-    let full = full_standing(alloc, view, node.icb, &node.standing)?;
+    let view = opened.view_by(listing.table);
+    let full = match full_standing_by(alloc, view, node.icb, &node.standing) {
+        Ok(full) => full,
+        Err(GaveUp::OutOfMemory) => return Err(AllocError),
+        Err(GaveUp::Unread) => return text.push_str(": an input could not be read again"),
+    };
     let Standing::Torn(torn) = &full else {
         return Ok(());
     };
@@ -154,10 +159,10 @@ fn push_fault(text: &mut String, profile: Profile, fault: NodeFault) -> Result<(
 }
 
 /// Appends why a node was not written, or not all of it.
-fn push_reason<F: Files>(
+fn push_reason<B: BlockStore, F: Files>(
     alloc: Global,
     text: &mut String,
-    listing: &Listing<'_>,
+    listing: &Listing<'_, B>,
     node: &Node,
     sort: Sort,
     files: &F,
@@ -185,9 +190,9 @@ fn push_reason<F: Files>(
 }
 
 /// The line of a node that was not written, or not all of it.
-fn line_of<F: Files>(
+fn line_of<B: BlockStore, F: Files>(
     alloc: Global,
-    listing: &Listing<'_>,
+    listing: &Listing<'_, B>,
     word: &str,
     node: &Node,
     sort: Sort,
@@ -202,9 +207,9 @@ fn line_of<F: Files>(
 
 /// Shows as a remark why a node was not written, or not all of it, where that is so, and counts it. Of a torn folder that was made it shows that names may be
 /// missing in it. `word` stands before its path.
-pub fn remark_on_fate<F: Files>(
+pub fn remark_on_fate<B: BlockStore, F: Files>(
     alloc: Global,
-    listing: &Listing<'_>,
+    listing: &Listing<'_, B>,
     word: &str,
     node: &Node,
     fate: Fate,

@@ -25,6 +25,7 @@ mod runs;
 mod seats;
 mod short_names;
 mod spare;
+mod stored_extract;
 mod telling;
 mod times;
 mod unnamed;

@@ -1,6 +1,6 @@
 //! Lost folders, which are written to a folder of their own with what is in them, and lost files, each in the place of such a folder.
 
-ghost use Rattle.std.specs.Prelude.{◌≡◌, ◌<◌, ◌⊎◌, ⊤, Bool, true, false, List, Some, IfErr, IfOk, MatchOption, OnErr, alloc_error, length, slice_get, string_bytes};
+ghost use Rattle.std.specs.Prelude.{◌≡◌, ◌<◌, ◌⊎◌, ⊤, Bool, true, false, List, Some, IfErr, IfOk, IsErrOf, MatchOption, OnErr, alloc_error, length, slice_get, string_bytes};
 ghost use Rattle.udfs_lattice.specs.Tables.{state_of};
 ghost use Rattle.udfs_walk.specs.NodeFields.{NodeFields};
 ghost use Rattle.udfs_salvage.specs.Found.{volume_now};
@@ -26,6 +26,7 @@ use std::alloc::{AllocError, Global};
 use udfs_common::files::Files;
 use udfs_common::known::Known;
 use udfs_common::refusal::Refusal;
+use udfs_lattice::GaveUp;
 use udfs_lost::LostTree;
 use udfs_reading::Sink;
 use udfs_salvage::{Fill, Listing, has_two_partitions};
@@ -52,12 +53,13 @@ fn put_first<F: Files, O: Sink>(
     times: &Times,
     files: &mut F,
     out: &mut O,
-) -> Result<First, AllocError>
+) -> Result<First, GaveUp>
     requires { 0 < length listing.now.nodes.items }
     ensures put { IfOk result (λ first. (n : NodeFields) → slice_get (listing_now listing.now).nodes 0 ≡ Some n →
-        IsPutAt F.Files F.Output.stream files.new listing.now.table.now (listing_now listing.now) Fill.Refuse short folder.now 0 n first.fate ×
+        IsPutAt F.Files F.Output.stream files.new (state_of listing.now.table.now) (listing_now listing.now) Fill.Refuse short folder.now 0 n first.fate ×
         TellsLines first.heard (O.stream out.old) (O.stream out.new) (node_line word.now short (listing_now listing.now) first.fate n)) }
     ensures memory { OnErr result (out.new ≡ out.old) }
+    ensures only { IsErrOf result GaveUp.Unread → ⊥ }
     ensures spares { SparesNodes F.Files folder.now files.old files.new }
 {
     let spare = Spare::new();
@@ -87,7 +89,7 @@ fn put_tree<F: Files, O: Sink>(
     files: &mut F,
     out: &mut O,
 ) -> Result<bool, Refusal>
-    ensures put { (heard : Bool) × (fates : List Fate) × Each (IsPutAt F.Files F.Output.stream files.new listing.now.table.now (listing_now listing.now) Fill.Refuse short folder.now) 0 (listing_now listing.now).nodes fates ×
+    ensures put { (heard : Bool) × (fates : List Fate) × Each (IsPutAt F.Files F.Output.stream files.new (state_of listing.now.table.now) (listing_now listing.now) Fill.Refuse short folder.now) 0 (listing_now listing.now).nodes fates ×
         TellsLines heard (O.stream out.old) (O.stream out.new) (fate_lines (node_line word.now short (listing_now listing.now)) (listing_now listing.now).nodes fates) ×
         IfOk result (λ good. (length fates ≡ length listing.now.nodes.items) × (heard ≡ true) × (good ≡ all_good fates)) ×
         IfErr result (λ refusal. (refusal ≡ Refusal.Memory alloc_error) ⊎ ((refusal ≡ Refusal.Output) × (heard ≡ false))) }
@@ -98,7 +100,8 @@ fn put_tree<F: Files, O: Sink>(
     }
     let first = match put_first(alloc, listing, word, short, folder, times, files, out) {
         Ok(first) => first,
-        Err(AllocError) => return Err(Refusal::Memory(AllocError)),
+        Err(GaveUp::OutOfMemory) => return Err(Refusal::Memory(AllocError)),
+        Err(GaveUp::Unread) => unreachable!(),
     };
     if !first.heard {
         return Err(Refusal::Output);
@@ -117,7 +120,8 @@ fn put_tree<F: Files, O: Sink>(
         out,
     ) {
         Ok(told) => told,
-        Err(AllocError) => return Err(Refusal::Memory(AllocError)),
+        Err(GaveUp::OutOfMemory) => return Err(Refusal::Memory(AllocError)),
+        Err(GaveUp::Unread) => unreachable!(),
     };
     if !told.heard {
         return Err(Refusal::Output);

@@ -133,6 +133,33 @@ $ page --last 600 --out p.html disc.tab
 refused udfsalvage: input 1: fault 8 Io at record 0\n
 files 1
 
+= a_device_that_fails_in_the_middle_of_an_extraction
+# The anchor is read to open the volume, and again for what is remarked. Nothing is made of a volume that does not open.
+at 256
+then no-folder out
+then files 1
+
+some 0 2104
+inputs-fail «n»
+$ extract --last 600 --to out disc.tab
+refused udfsalvage: input 1: fault 8 Io at record 0\n
+
+inputs-fail 4152
+$ extract --last 600 --to out disc.tab
+done 1 volume holes 32 48\n
+
+= the_same_files_of_files_and_devices
+# What is in `dev/` is a device: then the blocks are held.
+file dev/none.rd reading
+but
+then done 0 written /A\nwritten /B\n
+then has out/A text «2048*a»«2048*b»«904*c»
+then has out/B text Hi
+
+$ extract --last 600 --to out disc.tab
+
+$ extract --last 600 --to out disc.tab dev/none.rd
+
 = the_same_report_of_files_and_devices
 # What is in `dev/` is a device: then the blocks are held.
 at 32 33 34 256 272 273 274 275 276 277 279

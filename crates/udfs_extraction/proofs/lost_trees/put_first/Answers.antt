@@ -70,7 +70,7 @@ returns-clause-put g c n at =
     let after = c.name_file-fate.new.files in
     let held = c.in_ok-done.ensures.put n c.args.short c.args.folder.now at here in
     let end = named.end in
-    let put = end_done (codes "/" ∷ []) F.tells (Fails F.faults ⊎ SinkFails out) l.table.now report Refuse c.args.short c.args.folder.now _ _ 0 n end.0 before fate end.1 (λ not. inl (end.2 not))
+    let put = end_done (codes "/" ∷ []) F.tells (Fails F.faults ⊎ SinkFails out) (state_of l.table.now) report Refuse c.args.short c.args.folder.now _ _ 0 n end.0 before fate end.1 (λ not. inl (end.2 not))
     (λ is_named written told bytes there.
     safe F.moment F.may_leave F.left_since after (F.holds after) _ bytes (g.met.F.Files.only_now after)
     (subst (λ p. IsKept (F.holds after) (F.may_leave after) p bytes) here (named.kept (end.1.same is_named ∙ written) told bytes (subst (λ p. F.holds c.put_node.new.files p ≡ Some (Some bytes)) (sym here) there))))

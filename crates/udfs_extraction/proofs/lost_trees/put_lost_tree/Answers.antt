@@ -1,4 +1,5 @@
 use Rattle.std.proofs.Common.{◌≡◌, ◌∙◌, [], None, ap, inl, refl, rules, subst, true}
+use Rattle.udfs_lattice.specs.Tables.{state_of}
 use Rattle.udfs_salvage.specs.Found.{volume_now}
 use Rattle.udfs_salvage.specs.Listings.{listing_now}
 use Rattle.udfs_salvage.specs.Texts.{has_two}
@@ -32,7 +33,7 @@ returns-in-Ok-put_tree-clause-put g c =
     let put = c.in-Ok-put_tree.ensures.put in (
       put.0,
       record { seat = at; fates = put.1 },
-      (found.1, subst (λ p. Each (IsPutAt F g.F.Output.Sink.stream c.put_tree.new.files l.table.now (listing_now l) Refuse c.args.short p) 0 (listing_now l).nodes put.1) path put.2),
+      (found.1, subst (λ p. Each (IsPutAt F g.F.Output.Sink.stream c.put_tree.new.files (state_of l.table.now) (listing_now l) Refuse c.args.short p) 0 (listing_now l).nodes put.1) path put.2),
       subst (λ w. TellsLines put.0 (S.stream c.args.out.now) (S.stream c.put_tree.new.out) (fate_lines (node_line w c.args.short (listing_now l)) (listing_now l).nodes put.1)) word put.3,
       put.4,
       put.5,
@@ -64,7 +65,7 @@ returns-clause-put g c =
     let put = c.in-Err-put_tree.ensures.put in (
       put.0,
       record { seat = at; fates = put.1 },
-      (found.1, subst (λ p. Each (IsPutAt F g.F.Output.Sink.stream c.put_tree.new.files l.table.now (listing_now l) Refuse c.args.short p) 0 (listing_now l).nodes put.1) path put.2),
+      (found.1, subst (λ p. Each (IsPutAt F g.F.Output.Sink.stream c.put_tree.new.files (state_of l.table.now) (listing_now l) Refuse c.args.short p) 0 (listing_now l).nodes put.1) path put.2),
       subst (λ w. TellsLines put.0 (S.stream c.args.out.now) (S.stream c.put_tree.new.out) (fate_lines (node_line w c.args.short (listing_now l)) (listing_now l).nodes put.1)) word put.3,
       put.4,
       put.5,

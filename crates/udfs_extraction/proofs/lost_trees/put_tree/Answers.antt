@@ -39,7 +39,7 @@ returns-then-not-first-clause-put g c =
     let fate = c.in-Ok.first.fate in
     let unheard : c.in-Ok.first.heard ≡ false = search rules in
     let lines = subst (λ t. TellsLines c.in-Ok.first.heard (S.stream c.args.out.now) (S.stream c.put_first.new.out) t) (sym (append-nil (lined fate n)) ∙ lines_first lined nodes n fate [] one.1) first.1 in
-    let P : ℕ → NodeFields → Fate → Type 0 = IsPut F.tells (Fails F.faults ⊎ SinkFails g.F.Output.Sink.stream) l.table.now report Refuse c.args.short c.args.folder.now (F.holds c.put_first.new.files) (F.moment c.put_first.new.files) (F.left_since c.put_first.new.files) in
+    let P : ℕ → NodeFields → Fate → Type 0 = IsPut F.tells (Fails F.faults ⊎ SinkFails g.F.Output.Sink.stream) (state_of l.table.now) report Refuse c.args.short c.args.folder.now (F.holds c.put_first.new.files) (F.moment c.put_first.new.files) (F.left_since c.put_first.new.files) in
     (c.in-Ok.first.heard, fate ∷ [], each_first P nodes n fate [] one.1 first.0 tt, lines, tt, inr (refl, unheard))
 
 pub returns-in-Err-put_nodes-clause-put : goal.returns-in-Err-put_nodes-clause-put
@@ -55,8 +55,8 @@ returns-in-Err-put_nodes-clause-put g c =
     let n = one.0 in
     let first = c.in-Ok.ensures.put n one.1 in
     let fate = c.in-Ok.first.fate in
-    let P : ℕ → NodeFields → Fate → Type 0 = IsPut F.tells (Fails F.faults ⊎ SinkFails g.F.Output.Sink.stream) l.table.now report Refuse c.args.short c.args.folder.now (F.holds c.put_nodes.new.files) (F.moment c.put_nodes.new.files) (F.left_since c.put_nodes.new.files) in
-    let still : P 0 n fate = put_still F.moment F.may_leave F.left_since F.tells (Fails F.faults ⊎ SinkFails g.F.Output.Sink.stream) l.table.now report Refuse c.args.short c.args.folder.now
+    let P : ℕ → NodeFields → Fate → Type 0 = IsPut F.tells (Fails F.faults ⊎ SinkFails g.F.Output.Sink.stream) (state_of l.table.now) report Refuse c.args.short c.args.folder.now (F.holds c.put_nodes.new.files) (F.moment c.put_nodes.new.files) (F.left_since c.put_nodes.new.files) in
+    let still : P 0 n fate = put_still F.moment F.may_leave F.left_since F.tells (Fails F.faults ⊎ SinkFails g.F.Output.Sink.stream) (state_of l.table.now) report Refuse c.args.short c.args.folder.now
     c.put_first.new.files c.put_nodes.new.files (F.holds c.put_first.new.files) (F.holds c.put_nodes.new.files) (g.met.F.Files.counts_now c.put_first.new.files) c.put_nodes.ensures.stays c.put_nodes.ensures.crash 0 n fate first.0 in
     let put = c.put_nodes.ensures.put in
     let took : c.in-Ok.first.heard ≡ true = search rules in
@@ -84,8 +84,8 @@ returns-then-not-told-clause-put g c =
     let n = one.0 in
     let first = c.in-Ok.ensures.put n one.1 in
     let fate = c.in-Ok.first.fate in
-    let P : ℕ → NodeFields → Fate → Type 0 = IsPut F.tells (Fails F.faults ⊎ SinkFails g.F.Output.Sink.stream) l.table.now report Refuse c.args.short c.args.folder.now (F.holds c.put_nodes.new.files) (F.moment c.put_nodes.new.files) (F.left_since c.put_nodes.new.files) in
-    let still : P 0 n fate = put_still F.moment F.may_leave F.left_since F.tells (Fails F.faults ⊎ SinkFails g.F.Output.Sink.stream) l.table.now report Refuse c.args.short c.args.folder.now
+    let P : ℕ → NodeFields → Fate → Type 0 = IsPut F.tells (Fails F.faults ⊎ SinkFails g.F.Output.Sink.stream) (state_of l.table.now) report Refuse c.args.short c.args.folder.now (F.holds c.put_nodes.new.files) (F.moment c.put_nodes.new.files) (F.left_since c.put_nodes.new.files) in
+    let still : P 0 n fate = put_still F.moment F.may_leave F.left_since F.tells (Fails F.faults ⊎ SinkFails g.F.Output.Sink.stream) (state_of l.table.now) report Refuse c.args.short c.args.folder.now
     c.put_first.new.files c.put_nodes.new.files (F.holds c.put_first.new.files) (F.holds c.put_nodes.new.files) (g.met.F.Files.counts_now c.put_first.new.files) c.put_nodes.ensures.stays c.put_nodes.ensures.crash 0 n fate first.0 in
     let put = c.in-Ok-put_nodes.ensures.put in
     let took : c.in-Ok.first.heard ≡ true = search rules in
@@ -114,8 +114,8 @@ returns-clause-put g c =
     let n = one.0 in
     let first = c.in-Ok.ensures.put n one.1 in
     let fate = c.in-Ok.first.fate in
-    let P : ℕ → NodeFields → Fate → Type 0 = IsPut F.tells (Fails F.faults ⊎ SinkFails g.F.Output.Sink.stream) l.table.now report Refuse c.args.short c.args.folder.now (F.holds c.put_nodes.new.files) (F.moment c.put_nodes.new.files) (F.left_since c.put_nodes.new.files) in
-    let still : P 0 n fate = put_still F.moment F.may_leave F.left_since F.tells (Fails F.faults ⊎ SinkFails g.F.Output.Sink.stream) l.table.now report Refuse c.args.short c.args.folder.now
+    let P : ℕ → NodeFields → Fate → Type 0 = IsPut F.tells (Fails F.faults ⊎ SinkFails g.F.Output.Sink.stream) (state_of l.table.now) report Refuse c.args.short c.args.folder.now (F.holds c.put_nodes.new.files) (F.moment c.put_nodes.new.files) (F.left_since c.put_nodes.new.files) in
+    let still : P 0 n fate = put_still F.moment F.may_leave F.left_since F.tells (Fails F.faults ⊎ SinkFails g.F.Output.Sink.stream) (state_of l.table.now) report Refuse c.args.short c.args.folder.now
     c.put_first.new.files c.put_nodes.new.files (F.holds c.put_first.new.files) (F.holds c.put_nodes.new.files) (g.met.F.Files.counts_now c.put_first.new.files) c.put_nodes.ensures.stays c.put_nodes.ensures.crash 0 n fate first.0 in
     let put = c.in-Ok-put_nodes.ensures.put in
     let took : c.in-Ok.first.heard ≡ true = search rules in

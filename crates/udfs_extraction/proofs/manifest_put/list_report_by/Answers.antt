@@ -1,0 +1,37 @@
+use Rattle.std.proofs.Common.{inl, inr, string_bytes}
+use Rattle.udfs_extraction.proofs.ManifestLemmas.{listed, some_place, spares_listed, spares_unlisted, unlisted}
+use Rattle.udfs_extraction.proofs.NoNode.{unput_at}
+use Rattle.udfs_extraction.proofs.ToldVolumes.{if_err_at, if_ok_at}
+use Rattle.udfs_extraction.proofs.manifest_put.list_report_by.Goals as goal
+
+pub returns-in-Err-clause-spares : goal.returns-in-Err-clause-spares
+returns-in-Err-clause-spares g c = spares_unlisted _ _ _ _ _ c.make_nodes.ensures.spares
+
+pub returns-in-Ok-Err-clause-spares : goal.returns-in-Ok-Err-clause-spares
+returns-in-Ok-Err-clause-spares g c = spares_unlisted _ _ _ _ _ c.make_nodes.ensures.spares
+
+pub returns-in-Ok-Err-clause-why : goal.returns-in-Ok-Err-clause-why
+returns-in-Ok-Err-clause-why g c known = inl (if_err_at _ _ _ c.in-Ok-Err.field-0-is c.in-Ok-Err.ensures.why known, c.make_nodes.ensures.spares)
+
+pub returns-in-Ok-Err-clause-no_node : goal.returns-in-Ok-Err-clause-no_node
+returns-in-Ok-Err-clause-no_node g c = if_err_at _ _ _ c.in-Ok-Err.field-0-is c.in-Ok-Err.ensures.no_node
+
+pub returns-in-Ok-add_manifest-clause-made : goal.returns-in-Ok-add_manifest-clause-made
+returns-in-Ok-add_manifest-clause-made g c known = (
+  c.make_nodes.new.files,
+  listed _ _ _ _ _ _ _ _ _ _ _ _ c.is_some-digest.result (some_place string_bytes c.args.place.now _ c.is_some-digest.ensures) (if_ok_at _ _ _ c.in-Ok-Ok.field-0-is c.in-Ok-Ok.ensures.put known) c.in-Ok-add_manifest.ensures.put c.make_nodes.ensures.elsewhere,
+)
+
+pub returns-in-Ok-add_manifest-clause-spares : goal.returns-in-Ok-add_manifest-clause-spares
+returns-in-Ok-add_manifest-clause-spares g c =
+    spares_listed _ _ _ _ _ _ _ _ _ _ _ _ c.is_some-digest.result (some_place string_bytes c.args.place.now _ c.is_some-digest.ensures) (λ told. if_ok_at _ _ _ c.in-Ok-Ok.field-0-is c.in-Ok-Ok.ensures.put (c.requires told)) c.add_manifest.ensures.may c.make_nodes.ensures.spares
+
+pub returns-clause-spares : goal.returns-clause-spares
+returns-clause-spares g c =
+    spares_listed _ _ _ _ _ _ _ _ _ _ _ _ c.is_some-digest.result (some_place string_bytes c.args.place.now _ c.is_some-digest.ensures) (λ told. if_ok_at _ _ _ c.in-Ok-Ok.field-0-is c.in-Ok-Ok.ensures.put (c.requires told)) c.add_manifest.ensures.may c.make_nodes.ensures.spares
+
+pub returns-clause-why : goal.returns-clause-why
+returns-clause-why g c known = inr (unlisted _ _ _ _ _ _ _ _ _ _ _ _ c.is_some-digest.result _ (if_ok_at _ _ _ c.in-Ok-Ok.field-0-is c.in-Ok-Ok.ensures.put known) c.in-Err-add_manifest.ensures.why)
+
+pub returns-clause-no_node : goal.returns-clause-no_node
+returns-clause-no_node g c i is = absurd (unput_at _ _ _ _ i is c.in-Err-add_manifest.ensures.why)
