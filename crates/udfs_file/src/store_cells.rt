@@ -4,7 +4,7 @@ ghost use Rattle.std.specs.Prelude.{◌≡◌, ℕ, ◌≤◌, ◌<◌, ◌+◌,
 ghost use Rattle.udfs_space.specs.Views.{view_by};
 ghost use Rattle.udfs_file.specs.Fronts.{directory_by, sized_by, step_by};
 ghost use Rattle.udfs_file.specs.Pieces.{FitsPiece, IsPieceOf, IsFrontTaken, Starts};
-ghost use Rattle.udfs_file.specs.Steps.{StepsTo, IsNext, StepIs, left_behind};
+ghost use Rattle.udfs_file.specs.Steps.{HasFirstBytes, StepsTo, IsNext, StepIs, left_behind};
 ghost use Rattle.udfs_file.specs.StoreCells.{FitsFront, IsHeadOf, IsSizedHead, IsSizedStep, IsStoreSettled, store_left, store_room};
 ghost use Rattle.udfs_file.specs.Stretches.{LieInBlocks, cells_of};
 
@@ -188,6 +188,7 @@ where
     requires lies { LieInBlocks cells.now.stretches.now }
     requires least { 38 ≤ size }
     ensures value { IfOk result (λ step. B.tells → StepIs step (sized_by profile (store_left B.states cells.now) size)) }
+    ensures bytes { IfOk result (λ step. B.tells → HasFirstBytes (store_left B.states cells.now) step) }
     ensures size { IfOk result (IsSizedStep (length (store_left B.states cells.now))) }
     ensures fails { OnErr result B.fails }
 {
@@ -237,6 +238,7 @@ where
     'a: 'r,
     requires { LieInBlocks cells.now.stretches.now }
     ensures value { IfOk result (λ told. B.tells → StepIs told (step_by profile (store_left B.states cells.now))) }
+    ensures bytes { IfOk result (λ told. B.tells → HasFirstBytes (store_left B.states cells.now) told) }
     ensures size { IfOk result (IsSizedStep (length (store_left B.states cells.now))) }
     ensures fails { OnErr result B.fails }
 {
@@ -371,5 +373,36 @@ impl<'a, B: BlockStore> StoreCursor<'a, B> {
             self.cells = self.cells.behind(view.len());
         }
         Ok(step)
+    }
+
+    /// The next descriptor by these rules, or what ends the directory there, without moving.
+    pub(crate) fn ahead<'r>(
+        &self,
+        profile: Profile,
+        spare: &'r mut [u8; 2048],
+        other: &'r mut [u8; 2048],
+    ) -> Result<Step<'r>, ReadFault>
+    where
+        'a: 'r,
+        ensures value { IfOk result (λ told. B.tells → StepIs told (step_by profile self.now)) }
+        ensures bytes { IfOk result (λ told. B.tells → HasFirstBytes self.now told) }
+        ensures size { IfOk result (IsSizedStep (length self.now)) }
+        ensures fails { OnErr result B.fails }
+    {
+        ahead(profile, &self.cells, spare, other)
+    }
+
+    /// Whether a byte is left.
+    pub(crate) fn has_left(&self) -> bool
+        ensures { result ≡ nat_le 1 (length self.now) }
+    {
+        self.cells.holds(1)
+    }
+
+    /// Moves past so many bytes, or to the end where fewer are left.
+    pub(crate) fn pass(&mut self, count: usize)
+        ensures { self.new ≡ drop count self.old }
+    {
+        self.cells = self.cells.behind(count);
     }
 }

@@ -1,7 +1,7 @@
 //! Names that are found behind a hole of a torn directory, of entries that no name leads to otherwise.
 
-ghost use Rattle.std.specs.Prelude.{◌≡◌, IfOk, List, filter_map, map, option_map, take};
-ghost use Rattle.udfs_space.specs.Views.{view_now};
+ghost use Rattle.std.specs.Prelude.{◌≡◌, IfOk, IsErrOf, List, filter_map, map, option_map, take};
+ghost use Rattle.udfs_space.specs.Views.{view_by, view_now};
 ghost use Rattle.udfs_file.specs.FoundNames.{entries_in};
 ghost use Rattle.udfs_lost.specs.FoundNames.{Found, found_names, found_of, is_torn, is_torn_folder, torn_folders};
 
@@ -12,9 +12,10 @@ use std::alloc::{AllocError, Global};
 use std::marker::Model;
 use udfs_file::file_sets::address_fault;
 use udfs_file::{DirEntry, FoundNames};
+use udfs_lattice::{BlockStore, GaveUp};
 use udfs_osta::{Name, OutOfMemory};
-use udfs_space::View;
-use udfs_walk::{Node, Standing, Unnamed, body_at};
+use udfs_space::{StoreView, View};
+use udfs_walk::{Node, Standing, Unnamed, body_by};
 
 /// The most names that are told of one directory.
 const MOST_NAMES: usize = 65_536;
@@ -70,8 +71,12 @@ pub fn torn_folders<'a>(alloc: Global, nodes: &'a [Node]) -> Result<Vec<&'a Node
 }
 
 /// The entry that an entry of a directory names, if its address is good and leads to one of these.
-fn lost_at<'a>(view: View<'_>, lost: &Unplaced<'a>, entry: &DirEntry) -> Option<&'a Unnamed>
-    ensures { option_map (λ u. record { name = entry.now.name; lost = u.now }) result ≡ found_of (view_now view.entry) lost.now entry.now }
+fn lost_at<'a, B: BlockStore>(
+    view: StoreView<'_, B>,
+    lost: &Unplaced<'a>,
+    entry: &DirEntry,
+) -> Option<&'a Unnamed>
+    ensures { option_map (λ u. record { name = entry.now.name; lost = u.now }) result ≡ found_of (view_by B.states view.entry) lost.now entry.now }
 {
     match address_fault(view.space, entry.icb) {
         Some(_) => None,
@@ -80,17 +85,18 @@ fn lost_at<'a>(view: View<'_>, lost: &Unplaced<'a>, entry: &DirEntry) -> Option<
 }
 
 /// Those names that name one of these entries, at most as many as are told.
-fn names_in<'a>(
+fn names_in<'a, B: BlockStore>(
     alloc: Global,
-    view: View<'_>,
+    view: StoreView<'_, B>,
     lost: &Unplaced<'a>,
-    names: FoundNames<'_>,
-) -> Result<Vec<FoundName<'a>>, AllocError>
-    ensures { IfOk result (λ found. found.items ≡ take 65536 (filter_map (found_of (view_now view.entry) lost.now) (entries_in names.entry))) }
+    names: FoundNames<'_, B>,
+) -> Result<Vec<FoundName<'a>>, GaveUp>
+    ensures value { IfOk result (λ found. B.tells → found.items ≡ take 65536 (filter_map (found_of (view_by B.states view.entry) lost.now) (entries_in names.entry))) }
+    ensures fails { IsErrOf result GaveUp.Unread → B.fails }
 {
     let mut names = names;
     let mut found = Vec::new(alloc);
-    'names: while let Some(entry) = names.next(alloc)? {
+    'names: while let Some(entry) = names.next_by(alloc)? {
         if let Some(lost) = lost_at(view, lost, &entry) {
             if found.len() == MOST_NAMES {
                 return Ok(found);
@@ -118,10 +124,35 @@ pub fn found_names<'a>(
 ) -> Result<Vec<FoundName<'a>>, OutOfMemory>
     ensures { IfOk result (λ found. found.items ≡ found_names (view_now view.entry) lost.now folder.now.icb) }
 {
-    match body_at(alloc, view, folder.icb)? {
+    let stored = StoreView {
+        blocks: view.table,
+        space: view.space,
+    };
+    match found_names_by(alloc, stored, lost, folder) {
+        Ok(found) => Ok(found),
+        Err(GaveUp::OutOfMemory) => Err(AllocError),
+        Err(GaveUp::Unread) => unreachable!(),
+    }
+}
+
+/// The same as [`found_names`], by any store of blocks.
+///
+/// # Errors
+///
+/// `OutOfMemory` where memory runs out, and `Unread` where the bytes of a known block could not be read.
+pub fn found_names_by<'a, B: BlockStore>(
+    alloc: Global,
+    view: StoreView<'_, B>,
+    lost: &Unplaced<'a>,
+    folder: &Node,
+) -> Result<Vec<FoundName<'a>>, GaveUp>
+    ensures value { IfOk result (λ found. B.tells → found.items ≡ found_names (view_by B.states view.entry) lost.now folder.now.icb) }
+    ensures fails { IsErrOf result GaveUp.Unread → B.fails }
+{
+    match body_by(alloc, view, folder.icb)? {
         None => Ok(Vec::new(alloc)),
         Some(body) => {
-            let names = FoundNames::new(view, &body);
+            let names = FoundNames::new_by(view, &body)?;
             let found = names_in(alloc, view, lost, names)?;
             Ok(found)
         }

@@ -2,7 +2,6 @@
 use Rattle.std.proofs.Common.{◌≡◌, ◌∙◌, refl, sym, ap, subst, ℕ, Bool, true, false, List, [], ◌∷◌, ◌++◌, map, Option, Some, None, option_map, cond, append_assoc}
 use Rattle.std.specs.Prelude.{find, flat_map}
 use Rattle.std.specs.Borrow.{Bor}
-use Rattle.udfs_lattice.specs.Tables.{Table, state_of}
 use Rattle.udfs_lattice.specs.Volumes.{Blocks}
 use Rattle.udfs_tag.specs.declared.layouts.LongAd.{LongAd}
 use Rattle.udfs_volume.specs.Answers.{Answer, found, holes, faulty}
@@ -12,7 +11,11 @@ use Rattle.udfs_space.specs.Places.{View, view}
 use Rattle.udfs_walk.specs.Bare.{full_entry, full_node}
 use Rattle.udfs_walk.specs.NodeFields.{NodeFields}
 use Rattle.udfs_walk.specs.Targets.{Icb, icb_of}
+use Rattle.udfs_walk.specs.GivingUp.{IfTold}
 use Rattle.udfs_walk.specs.declared.answers.NodesError.{NodesError}
+use Rattle.udfs_walk.specs.declared.answers.NodesError.TheVariants as errors
+use Rattle.udfs_walk.specs.declared.answers.NodesGaveUp.{NodesGaveUp}
+use Rattle.udfs_walk.specs.declared.answers.NodesGaveUp.TheVariants.{OutOfMemory, TooManyPaths, Unread}
 use Rattle.udfs_walk.specs.declared.answers.Unnamed.{Unnamed}
 use Rattle.udfs_lost.specs.Folders.{AreLostRoots, lost_folders}
 use Rattle.udfs_lost.specs.LostFiles.{lost_files}
@@ -139,39 +142,45 @@ pub opened_place : (M : Blocks) (answer : Answer Found) (f : Found) (entries : L
     → searched_by closed M answer (full_entries M answer entries) ≡ Some (record { view = view M f.space; two = has_two f.layout; entries = map (full_entry (view M f.space)) entries })
 opened_place M answer f entries closed opened = λ i. searched_by closed M (opened i) (full_entries M (opened i) entries)
 
-pub opened_lost : (deleted : Bool) (s : code_survey.Survey Table) (f : Found) (v : View) (es : List Unnamed) (lost : Lost) → volume_now s.volume ≡ found f → v ≡ view (state_of s.table.now) f.space → es ≡ s.unnamed.items
-    → AreLost v deleted es lost.trees.items → IsLostOf deleted s lost
-opened_lost deleted s f v es lost opened seen are a = record {
-  place = place (option_map (rootless_now (state_of s.table.now)) lost.rootless) ∙ sym (place (without_root s.profile (state_of s.table.now) s.last));
-  trees = subst (λ o. AreLostBy deleted o lost.trees.items) (sym (place (without_root s.profile (state_of s.table.now) s.last))) (full_lost v (view (state_of s.table.now) f.space) deleted es s.unnamed.items lost.trees.items seen are a);
+pub opened_lost : (deleted : Bool) {B : Type 0} (states : B → Blocks) (s : code_survey.Survey B) (f : Found) (v : View) (es : List Unnamed) (lost : Lost) → volume_now s.volume ≡ found f → v ≡ view (states s.table.now) f.space → es ≡ s.unnamed.items
+    → AreLost v deleted es lost.trees.items → IsLostOf states deleted s lost
+opened_lost deleted states s f v es lost opened seen are a = record {
+  place = place (option_map (rootless_now (states s.table.now)) lost.rootless) ∙ sym (place (without_root s.profile (states s.table.now) s.last));
+  trees = subst (λ o. AreLostBy deleted o lost.trees.items) (sym (place (without_root s.profile (states s.table.now) s.last))) (full_lost v (view (states s.table.now) f.space) deleted es s.unnamed.items lost.trees.items seen are a);
 }
   where
-    place : (closed : Option Searched) → searched_by closed (state_of s.table.now) (volume_now s.volume) (full_entries (state_of s.table.now) (volume_now s.volume) s.unnamed.items)
-        ≡ Some (record { view = view (state_of s.table.now) f.space; two = has_two f.layout; entries = map (full_entry (view (state_of s.table.now) f.space)) s.unnamed.items })
-    place closed = opened_place (state_of s.table.now) (volume_now s.volume) f s.unnamed.items closed opened
+    place : (closed : Option Searched) → searched_by closed (states s.table.now) (volume_now s.volume) (full_entries (states s.table.now) (volume_now s.volume) s.unnamed.items)
+        ≡ Some (record { view = view (states s.table.now) f.space; two = has_two f.layout; entries = map (full_entry (view (states s.table.now) f.space)) s.unnamed.items })
+    place closed = opened_place (states s.table.now) (volume_now s.volume) f s.unnamed.items closed opened
 
-pub opened_unfound : (deleted : Bool) (s : code_survey.Survey Table) (f : Found) (v : View) (es : List Unnamed) (error : NodesError) → volume_now s.volume ≡ found f → v ≡ view (state_of s.table.now) f.space → es ≡ s.unnamed.items
-    → IsUnfound v (lost_folders v deleted es) error → IsUnfoundBy deleted (searched_of s) error
-opened_unfound deleted s f v es error opened seen are a =
-    subst (λ o. IsUnfoundBy deleted o error) (sym (opened_place (state_of s.table.now) (volume_now s.volume) f s.unnamed.items (without_root s.profile (state_of s.table.now) s.last) opened))
-    (full_unfound v (view (state_of s.table.now) f.space) deleted es s.unnamed.items error seen are a)
+pub opened_unfound : (deleted : Bool) {B : Type 0} (states : B → Blocks) (s : code_survey.Survey B) (f : Found) (v : View) (es : List Unnamed) (error : NodesError) → volume_now s.volume ≡ found f → v ≡ view (states s.table.now) f.space → es ≡ s.unnamed.items
+    → IsUnfound v (lost_folders v deleted es) error → IsUnfoundBy deleted (searched_of states s) error
+opened_unfound deleted states s f v es error opened seen are a =
+    subst (λ o. IsUnfoundBy deleted o error) (sym (opened_place (states s.table.now) (volume_now s.volume) f s.unnamed.items (without_root s.profile (states s.table.now) s.last) opened))
+    (full_unfound v (view (states s.table.now) f.space) deleted es s.unnamed.items error seen are a)
 
 -- a volume that does not open is looked through in what is known of it without its file set
-abbrev pub IsClosed : code_survey.Survey Table → Type 0
-IsClosed s = (closed : Option Searched) → searched_by closed (state_of s.table.now) (volume_now s.volume) (full_entries (state_of s.table.now) (volume_now s.volume) s.unnamed.items) ≡ closed
+abbrev pub IsClosed : {B : Type 0} → (B → Blocks) → code_survey.Survey B → Type 0
+IsClosed states s = (closed : Option Searched) → searched_by closed (states s.table.now) (volume_now s.volume) (full_entries (states s.table.now) (volume_now s.volume) s.unnamed.items) ≡ closed
 
-pub holes_closed : (s : code_survey.Survey Table) (listed : List ℕ) → volume_now s.volume ≡ holes listed → IsClosed s
-holes_closed s listed is closed = λ i. searched_by closed (state_of s.table.now) (is i) (full_entries (state_of s.table.now) (is i) s.unnamed.items)
+pub holes_closed : {B : Type 0} (states : B → Blocks) (s : code_survey.Survey B) (listed : List ℕ) → volume_now s.volume ≡ holes listed → IsClosed states s
+holes_closed states s listed is closed = λ i. searched_by closed (states s.table.now) (is i) (full_entries (states s.table.now) (is i) s.unnamed.items)
 
-pub faulty_closed : (s : code_survey.Survey Table) (fault : VolumeFault) → volume_now s.volume ≡ faulty fault → IsClosed s
-faulty_closed s fault is closed = λ i. searched_by closed (state_of s.table.now) (is i) (full_entries (state_of s.table.now) (is i) s.unnamed.items)
+pub faulty_closed : {B : Type 0} (states : B → Blocks) (s : code_survey.Survey B) (fault : VolumeFault) → volume_now s.volume ≡ faulty fault → IsClosed states s
+faulty_closed states s fault is closed = λ i. searched_by closed (states s.table.now) (is i) (full_entries (states s.table.now) (is i) s.unnamed.items)
 
-pub closed_lost : (deleted : Bool) (s : code_survey.Survey Table) (lost : Lost) → IsClosed s → option_map (rootless_now (state_of s.table.now)) lost.rootless ≡ without_root s.profile (state_of s.table.now) s.last
-    → AreLostBy deleted (without_root s.profile (state_of s.table.now) s.last) lost.trees.items → IsLostOf deleted s lost
-closed_lost deleted s lost is at are = record {
-  place = is (option_map (rootless_now (state_of s.table.now)) lost.rootless) ∙ at ∙ sym (is (without_root s.profile (state_of s.table.now) s.last));
-  trees = subst (λ o. AreLostBy deleted o lost.trees.items) (sym (is (without_root s.profile (state_of s.table.now) s.last))) are;
+pub closed_lost : (deleted : Bool) {B : Type 0} (states : B → Blocks) (s : code_survey.Survey B) (lost : Lost) → IsClosed states s → option_map (rootless_now (states s.table.now)) lost.rootless ≡ without_root s.profile (states s.table.now) s.last
+    → AreLostBy deleted (without_root s.profile (states s.table.now) s.last) lost.trees.items → IsLostOf states deleted s lost
+closed_lost deleted states s lost is at are = record {
+  place = is (option_map (rootless_now (states s.table.now)) lost.rootless) ∙ at ∙ sym (is (without_root s.profile (states s.table.now) s.last));
+  trees = subst (λ o. AreLostBy deleted o lost.trees.items) (sym (is (without_root s.profile (states s.table.now) s.last))) are;
 }
 
-pub closed_unfound : (deleted : Bool) (s : code_survey.Survey Table) (error : NodesError) → IsClosed s → IsUnfoundBy deleted (without_root s.profile (state_of s.table.now) s.last) error → IsUnfoundBy deleted (searched_of s) error
-closed_unfound deleted s error is a = subst (λ o. IsUnfoundBy deleted o error) (sym (is (without_root s.profile (state_of s.table.now) s.last))) a
+pub closed_unfound : (deleted : Bool) {B : Type 0} (states : B → Blocks) (s : code_survey.Survey B) (error : NodesError) → IsClosed states s → IsUnfoundBy deleted (without_root s.profile (states s.table.now) s.last) error → IsUnfoundBy deleted (searched_of states s) error
+closed_unfound deleted states s error is a = subst (λ o. IsUnfoundBy deleted o error) (sym (is (without_root s.profile (states s.table.now) s.last))) a
+
+-- what holds of why they were not found, by any store
+pub if_told : (P Q : NodesError → Type 0) → ((e : NodesError) → P e → Q e) → (e : NodesGaveUp) → IfTold P e → IfTold Q e
+if_told P Q by TooManyPaths h = by errors.TooManyPaths h
+if_told P Q by OutOfMemory h = by errors.OutOfMemory h
+if_told P Q by Unread h = tt

@@ -302,18 +302,19 @@ fn put_parts<B: BlockStore, W: Sink>(
     put_lines(alloc, text, sink, blocks, volume, nodes, form)
 }
 
-/// The first line, where it is asked for, and the lines of all nodes of a table's volume.
-pub(crate) fn put_list<W: Sink>(
+/// The first line, where it is asked for, and the lines of all nodes of a survey's volume.
+pub(crate) fn put_list<B: BlockStore, W: Sink>(
     alloc: Global,
     text: &mut String,
     sink: &mut W,
-    survey: &Survey<'_>,
+    survey: &Survey<'_, B>,
     form: ListForm,
-) -> Result<(), RunError>
-    ensures { PassesOn (W.stream sink.old) (W.stream sink.new) (string_bytes text.old) (string_bytes text.new)
-        (list_text form (state_of survey.now.table.now) (survey_now survey.now)) result }
+) -> Result<(), PrintError>
+    ensures printed { B.tells → PassesOnBy (W.stream sink.old) (W.stream sink.new) (string_bytes text.old) (string_bytes text.new)
+        (list_text form (B.states survey.now.table.now) (survey_by B.states survey.now)) result }
+    ensures fails { IsErrOf result PrintError.Unread → B.fails }
 {
-    match put_parts(
+    put_parts(
         alloc,
         text,
         sink,
@@ -321,11 +322,7 @@ pub(crate) fn put_list<W: Sink>(
         &survey.volume,
         &survey.nodes,
         form,
-    ) {
-        Ok(()) => Ok(()),
-        Err(PrintError::Run(error)) => Err(error),
-        Err(PrintError::Unread) => unreachable!(),
-    }
+    )
 }
 
 /// The same, written.
