@@ -24,7 +24,7 @@ use Rattle.udfs_reading.specs.Writing.{Failed, Wrote}
 use Rattle.udfs_lattice.specs.Volumes.{Blocks, ascending, not_known}
 use Rattle.udfs_volume.specs.Answers.{Answer}
 use Rattle.udfs_volume.specs.declared.profiles.Profile.{Profile}
-use Rattle.udfs_groups.specs.Groups.{AreGrouped}
+use Rattle.udfs_witnesses.specs.Groups.{AreGrouped}
 use Rattle.udfs_rescue.specs.Writing.{domain_text}
 use Rattle.udfs_salvage.specs.Found.{Found}
 use Rattle.udfs_salvage.specs.InLine.{reread_for}

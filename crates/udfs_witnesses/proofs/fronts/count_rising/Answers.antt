@@ -1,7 +1,7 @@
 use Rattle.std.proofs.Common.{◌+◌, arith, subst, sym, take}
-use Rattle.udfs_groups.proofs.Rising.{never_falls, risen_more}
-use Rattle.udfs_groups.specs.Adding.{IsNext}
-use Rattle.udfs_groups.proofs.fronts.count_rising.Goals as goal
+use Rattle.udfs_witnesses.proofs.Rising.{never_falls, risen_more}
+use Rattle.udfs_witnesses.specs.Adding.{IsNext}
+use Rattle.udfs_witnesses.proofs.fronts.count_rising.Goals as goal
 
 pub returns-then-number-next-clause-all : goal.returns-then-number-next-clause-all
 returns-then-number-next-clause-all c rises =

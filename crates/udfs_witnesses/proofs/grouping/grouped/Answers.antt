@@ -1,5 +1,5 @@
-use Rattle.udfs_groups.proofs.Groups.{grouped_more}
-use Rattle.udfs_groups.proofs.grouping.grouped.Goals as goal
+use Rattle.udfs_witnesses.proofs.Groups.{grouped_more}
+use Rattle.udfs_witnesses.proofs.grouping.grouped.Goals as goal
 
 pub loop-block-preserved : goal.loop-block-preserved
 loop-block-preserved g c told =

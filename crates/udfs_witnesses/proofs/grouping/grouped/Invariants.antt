@@ -1,8 +1,8 @@
 -- What is asked for of the listed blocks so far.
 use Rattle.std.proofs.Common.{take}
-use Rattle.udfs_groups.specs.Adding.{IsNext}
-use Rattle.udfs_groups.specs.Groups.{AreGrouped}
-use Rattle.udfs_groups.proofs.grouping.grouped.Given as goal
+use Rattle.udfs_witnesses.specs.Adding.{IsNext}
+use Rattle.udfs_witnesses.specs.Groups.{AreGrouped}
+use Rattle.udfs_witnesses.proofs.grouping.grouped.Given as goal
 
 abbrev pub invariant-loop-block : goal.invariant-loop-block
 invariant-loop-block g l = g.B.BlockStore.tells → record {

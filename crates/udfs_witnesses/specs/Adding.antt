@@ -3,7 +3,7 @@
 --     Adds blocks last size block old next new later     with one listed block more these are asked for
 use Rattle.std.specs.Prelude.{◌≡◌, ◌⊎◌, ℕ, ◌-◌, ◌<◌, List, [], ◌∷◌, ◌++◌, Contains}
 use Rattle.udfs_lattice.specs.Volumes.{Blocks}
-use Rattle.udfs_groups.specs.Groups.{AreGrouped}
+use Rattle.udfs_witnesses.specs.Groups.{AreGrouped}
 
 -- the block after the greatest of these, or 0
 abbrev pub IsNext : List ℕ → ℕ → Type 0

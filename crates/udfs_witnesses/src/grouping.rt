@@ -5,8 +5,8 @@ ghost use Rattle.std.specs.List.{range_with_len};
 ghost use Rattle.udfs_lattice.specs.States.{is_known};
 ghost use Rattle.udfs_lattice.specs.Volumes.{IsUnread};
 ghost use Rattle.udfs_volume.specs.Seen.{IsRising};
-ghost use Rattle.udfs_groups.specs.Adding.{Adds};
-ghost use Rattle.udfs_groups.specs.Groups.{AreEdges, AreGrouped, group_start};
+ghost use Rattle.udfs_witnesses.specs.Adding.{Adds};
+ghost use Rattle.udfs_witnesses.specs.Groups.{AreEdges, AreGrouped, group_start};
 
 use crate::edges::{first_unread, last_unread};
 use std::alloc::{AllocError, Global};

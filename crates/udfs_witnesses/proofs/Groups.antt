@@ -10,9 +10,9 @@ use Rattle.std.proofs.Math.Nat.{div-mul-le_self}
 use Rattle.udfs_lattice.specs.States.{is_known}
 use Rattle.udfs_lattice.specs.Volumes.{Blocks}
 use Rattle.udfs_lattice.proofs.Inclusion.{here, in_nothing}
-use Rattle.udfs_groups.specs.Adding.{Adds, IsNext}
-use Rattle.udfs_groups.specs.Groups.{AreEdges, AreGrouped, IsBeside, IsGrouped, group_start}
-use Rattle.udfs_groups.proofs.Rising.{alone, both_rise, front_below, in_left, in_one, in_range, in_right, range_has, range_rises}
+use Rattle.udfs_witnesses.specs.Adding.{Adds, IsNext}
+use Rattle.udfs_witnesses.specs.Groups.{AreEdges, AreGrouped, IsBeside, IsGrouped, group_start}
+use Rattle.udfs_witnesses.proofs.Rising.{alone, both_rise, front_below, in_left, in_one, in_range, in_right, range_has, range_rises}
 
 -- ---- groups
 one_more : (q s : ℕ) → (q + 1) * s ≡ q * s + s

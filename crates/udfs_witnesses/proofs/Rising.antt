@@ -7,7 +7,7 @@ use Rattle.std.proofs.lemmas.List.Elements.{Contains-append_cases, Contains-appe
 use Rattle.udfs_lattice.proofs.Inclusion.{here, there, here_or_there, in_nothing}
 use Rattle.std.proofs.lemmas.List.{take_more}
 use Rattle.udfs_volume.specs.Seen.{IsRising}
-use Rattle.udfs_groups.specs.Adding.{IsNext}
+use Rattle.udfs_witnesses.specs.Adding.{IsNext}
 
 -- ---- members of two lists
 pub in_left : (xs ys : List ℕ) (n : ℕ) → Contains xs n → Contains (xs ++ ys) n

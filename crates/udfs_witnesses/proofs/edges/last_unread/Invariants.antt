@@ -1,7 +1,7 @@
 -- All after are known.
 use Rattle.std.proofs.Common.{◌≡◌, ◌≤◌, ◌<◌, ◌-◌, ℕ, true}
 use Rattle.udfs_lattice.specs.States.{is_known}
-use Rattle.udfs_groups.proofs.edges.last_unread.Given as goal
+use Rattle.udfs_witnesses.proofs.edges.last_unread.Given as goal
 
 abbrev pub invariant-loop-n : goal.invariant-loop-n
 invariant-loop-n g l = record {

@@ -1,7 +1,7 @@
 use Rattle.std.proofs.Common.{arith, subst, sym, ◌+◌, List, ℕ}
-use Rattle.udfs_groups.specs.Adding.{Adds}
-use Rattle.udfs_groups.proofs.Groups.{add_alone, add_group, add_skipped}
-use Rattle.udfs_groups.proofs.grouping.add.Goals as goal
+use Rattle.udfs_witnesses.specs.Adding.{Adds}
+use Rattle.udfs_witnesses.proofs.Groups.{add_alone, add_group, add_skipped}
+use Rattle.udfs_witnesses.proofs.grouping.add.Goals as goal
 
 pub returns-then-from-next : goal.returns-then-from-next
 returns-then-from-next g c told = add_skipped (g.B.BlockStore.states c.args.blocks.now) c.args.last c.args.size c.args.block c.args.next c.args.asked.now.items c.requires.size (c.requires.unread told)
