@@ -15,9 +15,9 @@ use Rattle.udfs_volume.specs.Standard.{main_blocks, standard_anchor}
 use Rattle.udfs_volume.proofs.Known.{both, complete-known}
 use Rattle.udfs_volume.proofs.LayoutLaw.{are_extents_of, main_fits, place_fits}
 use Rattle.udfs_volume.proofs.ReserveLaw.{main_of_lawful}
-use Rattle.udfs_ecma.specs.Laws.{AreSound, descriptor_in}
-use Rattle.udfs_ecma.specs.Layouts.{Placed}
-use Rattle.udfs_ecma.proofs.PublicLaws.{anchors_are_by_the_table, layouts_are_by_the_tables}
+use Rattle.udfs_lawful.specs.EcmaLaws.{AreSound, descriptor_in}
+use Rattle.udfs_lawful.specs.Layouts.{Placed}
+use Rattle.udfs_lawful.proofs.PublicLaws.{anchors_are_by_the_table, layouts_are_by_the_tables}
 use Rattle.udfs_lawful.specs.ByTables.{LayoutByTables}
 
 -- ---- lists

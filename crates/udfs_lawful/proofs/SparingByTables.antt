@@ -19,9 +19,9 @@ use Rattle.udfs_space.specs.Sparing.{Span, Spans, Spared, counted, space, span, 
 use Rattle.udfs_space.specs.Standard.{first_table, table_at}
 use Rattle.udfs_space.proofs.Counting.{any_copies}
 use Rattle.udfs_space.proofs.SpaceLaw.{whole_table}
-use Rattle.udfs_ecma.specs.Laws.{AreBytes}
-use Rattle.udfs_ecma.specs.Sparing.{IsSparingTable}
-use Rattle.udfs_ecma.proofs.PublicLaws.{sparing_tables_are_by_the_table}
+use Rattle.udfs_lawful.specs.EcmaLaws.{AreBytes}
+use Rattle.udfs_lawful.specs.Sparing.{IsSparingTable}
+use Rattle.udfs_lawful.proofs.PublicLaws.{sparing_tables_are_by_the_table}
 use Rattle.udfs_salvage.specs.Found.{Found}
 use Rattle.udfs_salvage.specs.VolumeTrees.{IsLawfulBy}
 use Rattle.udfs_salvage.proofs.Openings.{ReadAs, read_as}

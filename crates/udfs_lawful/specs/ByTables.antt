@@ -18,12 +18,12 @@ use Rattle.udfs_file.specs.Fronts.{listed_entries}
 use Rattle.udfs_file.specs.Identifiers.{Identifier}
 use Rattle.udfs_file.specs.declared.directories.DirEntry.{DirEntry}
 use Rattle.udfs_file.specs.declared.faults.Kind.TheVariants.{Directory}
-use Rattle.udfs_ecma.specs.Entries.{IsEntryAt}
-use Rattle.udfs_ecma.specs.Files.{AreIdentifiers, IsBodyAt}
-use Rattle.udfs_ecma.specs.Identifiers.{IsFileSet}
-use Rattle.udfs_ecma.specs.Layouts.{IsLayout}
-use Rattle.udfs_ecma.specs.Sparing.{IsSparingTable}
-use Rattle.udfs_ecma.specs.Volumes.{IsAnchorAt}
+use Rattle.udfs_lawful.specs.Entries.{IsEntryAt}
+use Rattle.udfs_lawful.specs.Files.{AreIdentifiers, IsBodyAt}
+use Rattle.udfs_lawful.specs.Identifiers.{IsFileSet}
+use Rattle.udfs_lawful.specs.Layouts.{IsLayout}
+use Rattle.udfs_lawful.specs.Sparing.{IsSparingTable}
+use Rattle.udfs_lawful.specs.Volumes.{IsAnchorAt}
 use Rattle.udfs_tree.specs.Trees.{InTree, PartitionBlocks, TreeFile}
 use Rattle.udfs_salvage.specs.VolumeTrees.{IsLawfulBy, IsOpenedBy, Opened}
 

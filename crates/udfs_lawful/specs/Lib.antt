@@ -1,3 +1,14 @@
 pub mod Forms
 pub mod Laws
 pub mod ByTables
+pub mod Tables
+pub mod Tags
+pub mod Extents
+pub mod Entries
+pub mod Identifiers
+pub mod Files
+pub mod Volumes
+pub mod Layouts
+pub mod Sparing
+pub mod Texts
+pub mod EcmaLaws

@@ -2,6 +2,14 @@
 //! What lawful volumes are: their layouts, sparing tables and trees are those that the standard's tables give, and there is one with descriptors of many forms.
 //!
 //! Nothing here runs.
+//!
+//! What is read of descriptors, stated a second time: by the tables of ECMA-167 and UDF, each field at its byte position.
+//!
+//! Nothing here runs: each function is a law, that a decoder gives the fields of a table and no others.
 #![tactic(auto)]
 
+pub mod ecma_laws;
 pub mod laws;
+
+
+
