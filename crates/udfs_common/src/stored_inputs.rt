@@ -10,7 +10,7 @@ use crate::refusal::Refusal;
 use std::alloc::{AllocError, Global};
 use udfs_files::Stage;
 use udfs_index::{Cursor, Stored};
-use udfs_pairs::{AnyStored, open_stored_pair};
+use udfs_index::{AnyStored, open_stored_pair};
 use udfs_reading::DeviceFault;
 use udfs_rescue::PairFault;
 use udfs_words::input_path::InputPath;

@@ -19,7 +19,7 @@ use udfs_common::stored_volumes::{StoredDisc, indexed_volume, stored_volume};
 use udfs_files::Stage;
 use udfs_index::Stored;
 use udfs_lattice::ReadFault;
-use udfs_pairs::AnyStored;
+use udfs_index::AnyStored;
 use udfs_reading::Sink;
 use udfs_remarks::no_reports::refused_report;
 use udfs_remarks::{IndexBlocks, SteadyStore};

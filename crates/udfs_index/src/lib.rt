@@ -1,7 +1,10 @@
 // SPDX-License-Identifier: MIT OR Apache-2.0
 //! A table of blocks by index: for each known block it keeps not its bytes, but which input holds them and at what offset.
+//!
+//! An image with its mapfile as an input that is read at any position: the reading of the blocks that are known of it.
 #![tactic(auto)]
 
+mod any_stored;
 mod blocks;
 mod by_heads;
 mod bytes;
@@ -10,19 +13,24 @@ mod cursor;
 mod entries;
 mod fault;
 mod file;
+mod giving;
 mod heads;
 mod imaging;
 mod index;
 mod inputs;
 pub mod laws;
+mod opening;
 mod packet;
 mod packing;
+mod pair_blocks;
 mod placed;
 mod places;
 mod record;
 mod recorded;
+mod spreading;
 mod stamp;
 mod stored;
+mod stored_pair;
 mod taking;
 mod window;
 
@@ -36,3 +44,6 @@ pub use record::{END, record_at, record_count};
 pub use recorded::{RecordTaker, take_records};
 pub use stored::{HEADER, RECORD, Stored};
 pub use taking::take_stored;
+pub use any_stored::AnyStored;
+pub use opening::open_stored_pair;
+pub use stored_pair::StoredPair;

@@ -4,7 +4,7 @@ use Rattle.std.specs.Prelude.{IfErr, IfOk}
 use Rattle.udfs_index.specs.Copying.{AreAllTold}
 use Rattle.udfs_lattice.specs.Records.{join_all}
 use Rattle.udfs_lattice.specs.Tables.{IsTable, Table}
-use Rattle.udfs_pairs.specs.declared.any_stored.AnyStored.{AnyStored}
+use Rattle.udfs_index.specs.declared.any_stored.AnyStored.{AnyStored}
 use Rattle.udfs_words.specs.declared.request.VolumeSource.{VolumeSource}
 use Rattle.udfs_common.proofs.StoredLemmas.{HaveSources}
 use Rattle.udfs_common.proofs.StoredVolumes.{indexed_of}

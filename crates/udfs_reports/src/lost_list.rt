@@ -24,7 +24,7 @@ use udfs_files::Stage;
 use udfs_index::{Cursor, Index, Stored, Unread};
 use udfs_lattice::ReadFault;
 use udfs_overview::{ListForm, find_lost, write_lost};
-use udfs_pairs::AnyStored;
+use udfs_index::AnyStored;
 use udfs_reading::{Sink, Taker};
 use udfs_remarks::no_reports::{refused_report, refused_run};
 use udfs_remarks::remarks::{UNREAD, remark_on_by};

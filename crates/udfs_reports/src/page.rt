@@ -35,7 +35,7 @@ use udfs_index::Stored;
 use udfs_lattice::ReadFault;
 use udfs_overview::Given;
 use udfs_page::{Called, write_page_by};
-use udfs_pairs::AnyStored;
+use udfs_index::AnyStored;
 use udfs_reading::Sink;
 use udfs_remarks::no_reports::refused_report;
 use udfs_remarks::{IndexBlocks, SteadyStore};

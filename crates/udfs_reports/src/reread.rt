@@ -19,7 +19,7 @@ use udfs_common::volumes::joined_volume;
 use udfs_files::Stage;
 use udfs_index::{Cursor, Index, Stored, Unread};
 use udfs_lattice::{GaveUp, ReadFault};
-use udfs_pairs::AnyStored;
+use udfs_index::AnyStored;
 use udfs_reading::{Sink, Taker, WriteFault};
 use udfs_remarks::remarks::remark_on_listing_by;
 use udfs_remarks::{IndexBlocks, SteadyStore};

@@ -25,7 +25,7 @@ use udfs_common::volumes::{joined_volume, unwritten_volume};
 use udfs_files::{Content, Stage};
 use udfs_index::Stored;
 use udfs_lattice::{GaveUp, ReadFault};
-use udfs_pairs::AnyStored;
+use udfs_index::AnyStored;
 use udfs_reading::{Sink, WriteFault, write_all};
 use udfs_remarks::remarks::remark_on_listing_by;
 use udfs_remarks::{IndexBlocks, SteadyStore};

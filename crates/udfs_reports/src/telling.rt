@@ -17,7 +17,7 @@ use udfs_common::stored_volumes::{StoredDisc, indexed_volume, stored_volume, unr
 use udfs_common::volumes::joined_volume;
 use udfs_index::{Cursor, Index, Stored, Unread};
 use udfs_lattice::ReadFault;
-use udfs_pairs::AnyStored;
+use udfs_index::AnyStored;
 use udfs_reading::{Sink, Taker};
 use udfs_remarks::{IndexBlocks, SteadyStore};
 use udfs_volume::Profile;

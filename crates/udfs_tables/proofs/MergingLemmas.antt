@@ -4,7 +4,7 @@ use Rattle.udfs_files.specs.Disk.{After, Disk, Fails, Replaced, SinkFails}
 use Rattle.udfs_index.specs.Copying.{AreAllTold}
 use Rattle.udfs_lattice.specs.Records.{join_all}
 use Rattle.udfs_lattice.specs.Tables.{Table}
-use Rattle.udfs_pairs.specs.declared.any_stored.AnyStored.{AnyStored}
+use Rattle.udfs_index.specs.declared.any_stored.AnyStored.{AnyStored}
 use Rattle.udfs_words.specs.declared.input_path.InputPath.{InputPath}
 use Rattle.udfs_words.specs.declared.request.Inputs.{Inputs}
 use Rattle.udfs_common.specs.Keeping.{FailedOut, IsKept, IsTaken, Opens}

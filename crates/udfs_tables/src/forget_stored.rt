@@ -17,7 +17,7 @@ use udfs_common::files::Files;
 use udfs_common::known::Known;
 use udfs_common::refusal::Refusal;
 use udfs_index::{Cursor, Index, Stored};
-use udfs_pairs::AnyStored;
+use udfs_index::AnyStored;
 use udfs_reading::Taker;
 use udfs_words::forms::Version;
 use udfs_words::request::ForgetRequest;

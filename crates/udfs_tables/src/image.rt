@@ -29,7 +29,7 @@ use udfs_common::refusal::Refusal;
 use udfs_common::stored_inputs::open_all_stored;
 use udfs_files::{Content, Stage};
 use udfs_index::Stored;
-use udfs_pairs::AnyStored;
+use udfs_index::AnyStored;
 use udfs_reading::{Sink, WriteFault};
 use udfs_rescue::write_image_map;
 use udfs_words::request::ImageRequest;

@@ -18,7 +18,7 @@ use udfs_common::known::Known;
 use udfs_common::refusal::Refusal;
 use udfs_files::Job;
 use udfs_index::{CopyFault, Cursor, END, Index, Stored, Unread};
-use udfs_pairs::AnyStored;
+use udfs_index::AnyStored;
 use udfs_reading::{Sink, Taker};
 use udfs_words::forms::Version;
 

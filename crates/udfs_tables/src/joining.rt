@@ -14,7 +14,7 @@ use udfs_common::known::Known;
 use udfs_common::refusal::Refusal;
 use udfs_index::{Cursor, Index, Stored};
 use udfs_lattice::BlockTable;
-use udfs_pairs::AnyStored;
+use udfs_index::AnyStored;
 use udfs_reading::Taker;
 use udfs_words::input_path::InputPath;
 use udfs_words::request::Inputs;

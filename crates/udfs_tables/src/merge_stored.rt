@@ -18,7 +18,7 @@ use udfs_common::indexing::index_all;
 use udfs_common::known::Known;
 use udfs_common::refusal::Refusal;
 use udfs_index::{Cursor, Stored};
-use udfs_pairs::AnyStored;
+use udfs_index::AnyStored;
 use udfs_reading::Taker;
 use udfs_words::input_path::InputPath;
 use udfs_words::request::MergeRequest;
