@@ -11,3 +11,4 @@ pub mod PairPlaced
 pub mod Fronts
 pub mod Told
 pub mod AnyStored
+pub mod Comparing

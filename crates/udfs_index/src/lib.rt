@@ -2,12 +2,15 @@
 //! A table of blocks by index: for each known block it keeps not its bytes, but which input holds them and at what offset.
 //!
 //! An image with its mapfile as an input that is read at any position: the reading of the blocks that are known of it.
+//!
+//! What was read beside what was read before: whether both are of one disc.
 #![tactic(auto)]
 
 mod any_stored;
 mod blocks;
 mod by_heads;
 mod bytes;
+pub mod comparison;
 mod counting;
 mod cursor;
 mod entries;
@@ -47,3 +50,4 @@ pub use taking::take_stored;
 pub use any_stored::AnyStored;
 pub use opening::open_stored_pair;
 pub use stored_pair::StoredPair;
+pub use comparison::{Comparison, compare};

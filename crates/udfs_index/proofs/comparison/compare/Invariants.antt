@@ -1,8 +1,8 @@
 -- The entries before those that are left were counted.
 use Rattle.std.proofs.Common.{◌≡◌, ◌≤◌, ◌+◌, count_by, length}
 use Rattle.udfs_lattice.specs.Tables.{state_of}
-use Rattle.udfs_compare.specs.Comparing.{are_known, are_other, disagreeing, shared}
-use Rattle.udfs_compare.proofs.comparison.compare.Given as goal
+use Rattle.udfs_index.specs.Comparing.{are_known, are_other, disagreeing, shared}
+use Rattle.udfs_index.proofs.comparison.compare.Given as goal
 
 abbrev pub invariant-loop-block : goal.invariant-loop-block
 invariant-loop-block l =

@@ -1,7 +1,7 @@
 //! Two tables beside one another.
 
 ghost use Rattle.std.specs.Prelude.{◌≡◌, ◌≤◌};
-ghost use Rattle.udfs_compare.specs.Comparing.{are_known, are_other, disagreeing, is_other_disc, shared};
+ghost use Rattle.udfs_index.specs.Comparing.{are_known, are_other, disagreeing, is_other_disc, shared};
 ghost use Rattle.udfs_lattice.specs.States.{fact_now};
 
 use udfs_lattice::{BlockTable, Fact};
