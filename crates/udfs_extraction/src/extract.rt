@@ -23,7 +23,7 @@ use udfs_common::volumes::{Disc, joined_volume};
 use udfs_files::Stage;
 use udfs_reading::Sink;
 use udfs_remarks::looking::listed;
-use udfs_times::Times;
+use udfs_files::Times;
 use udfs_words::request::ExtractRequest;
 
 /// Makes what a request asks for of the volume of a disc: the nodes, their manifest at its place, the lost files, and the lost folders.

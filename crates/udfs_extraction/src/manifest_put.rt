@@ -24,7 +24,7 @@ use udfs_files::{JobError, ReplaceError, replace_by_job};
 use udfs_lattice::{BlockStore, ReadFault};
 use udfs_reading::Sink;
 use udfs_salvage::{Listing, ReportStore};
-use udfs_times::Times;
+use udfs_files::Times;
 use udfs_words::request::ExtractRequest;
 
 /// Why a manifest was not put.

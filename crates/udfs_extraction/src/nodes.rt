@@ -25,7 +25,7 @@ use udfs_remarks::no_reports::refused_run;
 use udfs_remarks::remarks::{UNREAD, remark_on_left_out, remark_on_listing_by};
 use udfs_salvage::choosing::chosen_are_whole;
 use udfs_salvage::{Fill, Listing, ReportStore, Volume, write_volume_line};
-use udfs_times::Times;
+use udfs_files::Times;
 use udfs_words::request::ExtractRequest;
 
 /// What is done with a node.

@@ -24,7 +24,7 @@ use udfs_common::files::Files;
 use udfs_lattice::{BlockStore, GaveUp};
 use udfs_reading::Sink;
 use udfs_salvage::{Fill, Listing};
-use udfs_times::Times;
+use udfs_files::Times;
 
 /// How many nodes a run has at most.
 const NODES: usize = 256;

@@ -24,7 +24,7 @@ use udfs_reading::Sink;
 use udfs_remarks::no_reports::refused_report;
 use udfs_remarks::{IndexBlocks, SteadyStore};
 use udfs_salvage::{StoreError, list_store};
-use udfs_times::Times;
+use udfs_files::Times;
 use udfs_words::request::ExtractRequest;
 
 /// The inputs of a request's volume, where all of them can be read at positions, and neither lost files nor lost folders are asked for: those are looked for in a table.

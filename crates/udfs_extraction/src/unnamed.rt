@@ -33,7 +33,7 @@ use udfs_files::{Job, fill_by};
 use udfs_reading::{Sink, WriteFault, write_all};
 use udfs_remarks::looking::unnamed_in;
 use udfs_salvage::{ExtractError, Listing, Volume, has_two_partitions, is_lost_file, write_lost};
-use udfs_times::Times;
+use udfs_files::Times;
 use udfs_walk::Unnamed;
 
 /// Appends the name of the file of an entry: its logical block, with the partition reference in front where there are two partitions.

@@ -5,3 +5,4 @@ pub mod Leading
 pub mod Opened
 pub mod Telling
 pub mod Told
+pub mod Moments

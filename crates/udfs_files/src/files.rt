@@ -16,7 +16,7 @@ use std::io::Error;
 use udfs_index::Stored;
 use udfs_reading::{DeviceFault, Sink, Source};
 use udfs_rescue::Image as Positions;
-use udfs_times::{Times, Zone};
+use crate::{Times, Zone};
 
 /// An output while it is written.
 pub trait Handle: Sink {

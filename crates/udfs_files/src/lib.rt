@@ -1,12 +1,19 @@
 // SPDX-License-Identifier: MIT OR Apache-2.0
 //! Files that a crash may take at any moment, and one call that replaces a file whole or not at all.
+//!
+//! The moments of timestamps, as a file system counts them: microseconds since 1970-01-01T00:00:00Z.
+//!
+//! A stamp at UTC is a moment by itself. A local one is what a clock showed at an offset that was not written down, and
+//! [`moment_in`] takes the time zone of a clock, which a [`Zone`] gives, to find when that was.
 #![tactic(auto)]
 
 mod files;
 mod filling;
 mod folders;
+mod keeping;
 pub mod laws;
 mod machine;
+mod moments;
 mod opened;
 mod output;
 mod places;
@@ -14,6 +21,7 @@ mod reaching;
 mod replacing;
 mod resolving;
 mod watch;
+mod zones;
 
 pub use files::{Aim, Files, Handle, Identity, Kind, Target};
 pub(crate) use filling::ContentJob;
@@ -23,3 +31,6 @@ pub use opened::{MachineImage, MachineInput, MachineStored};
 pub use output::MachineFile;
 pub use replacing::{JobError, ReplaceError, replace, replace_by_job};
 pub use watch::{Stage, Watch};
+pub use keeping::Times;
+pub use moments::moment_in;
+pub use zones::Zone;

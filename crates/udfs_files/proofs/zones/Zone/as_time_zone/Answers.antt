@@ -1,7 +1,7 @@
 use Rattle.std.proofs.Common.{refl, sym, subst, ◌+◌}
 use Rattle.jiff_tz.specs.declared.timezone.TimeZone.TheVariants.{Tzif}
-use Rattle.udfs_times.specs.Moments.{IsClockOf}
-use Rattle.udfs_times.proofs.zones.Zone.as_time_zone.Goals as goal
+use Rattle.udfs_files.specs.Moments.{IsClockOf}
+use Rattle.udfs_files.proofs.zones.Zone.as_time_zone.Goals as goal
 
 pub returns-in-Table : goal.returns-in-Table
 returns-in-Table c =

@@ -2,7 +2,7 @@
 
 ghost use Rattle.std.specs.Prelude.{◌≡◌, ℤ, pos, neg_ℤ, ◌≤ℤ◌, ◌*ℤ◌, ◌-ℤ◌, MatchOption};
 ghost use Rattle.jiff_core.specs.DateTime.{civil_nanos, IsCivilNanos};
-ghost use Rattle.udfs_times.specs.Moments.{IsLocalMoment, IsMomentOf, seconds_ahead, since_1970};
+ghost use Rattle.udfs_files.specs.Moments.{IsLocalMoment, IsMomentOf, seconds_ahead, since_1970};
 
 use jiff_core::civil::DateTime;
 use jiff_tz::{AmbiguousOffset, TimeZone};

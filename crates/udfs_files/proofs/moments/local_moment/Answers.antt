@@ -1,7 +1,7 @@
 use Rattle.std.proofs.Common.{◌≡◌, inl, ap, ◌∙◌, arith, pos, ◌-ℤ◌, ◌*ℤ◌, w32, w64, to_z-of_z, FitsSigned}
 use Rattle.jiff_core.proofs.SignedLemmas.{signed_arith}
-use Rattle.udfs_times.specs.Moments.{IsLocalMoment, seconds_ahead, since_1970}
-use Rattle.udfs_times.proofs.moments.local_moment.Goals as goal
+use Rattle.udfs_files.specs.Moments.{IsLocalMoment, seconds_ahead, since_1970}
+use Rattle.udfs_files.proofs.moments.local_moment.Goals as goal
 
 pub returns-in-Some : goal.returns-in-Some
 unfolding IsLocalMoment

@@ -12,8 +12,8 @@ use Rattle.jiff_tz.specs.declared.timezone.TimeZone.TheVariants.{UTC, Posix, Tzi
 use Rattle.jiff_tz.specs.declared.tzif.Tzif.{Tzif}
 use Rattle.udfs_osta.specs.declared.stamps.Stamp.{Stamp}
 use Rattle.udfs_osta.specs.declared.stamps.Stamp.TheVariants.{Utc, Local, Invalid}
-use Rattle.udfs_times.specs.declared.zones.Zone.{Zone}
-use Rattle.udfs_times.specs.declared.zones.Zone.TheVariants.{Utc as UtcZone, Rule, Table}
+use Rattle.udfs_files.specs.declared.zones.Zone.{Zone}
+use Rattle.udfs_files.specs.declared.zones.Zone.TheVariants.{Utc as UtcZone, Rule, Table}
 
 -- a number of microseconds since 1970, and none for a moment before
 abbrev pub since_1970 : ℤ → Option ℕ

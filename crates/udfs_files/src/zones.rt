@@ -1,7 +1,7 @@
 //! The zone of a clock.
 
 ghost use Rattle.jiff_tz.specs.declared.timezone.TimeZone.{TimeZone};
-ghost use Rattle.udfs_times.specs.Moments.{IsClockOf, IsMomentOf};
+ghost use Rattle.udfs_files.specs.Moments.{IsClockOf, IsMomentOf};
 
 use crate::moments::moment_in;
 use jiff_core::Error;
