@@ -1,11 +1,11 @@
 //! Printers.
 
 ghost use Rattle.std.specs.Prelude.{◌≡◌, ◌≤◌, ◌↔◌, [], None, OnErr, OnOk, Some, length, decimal, true};
-ghost use Rattle.udfs_printing.specs.Puts.{Finishes, Puts};
+ghost use Rattle.udfs_reading.specs.Puts.{Finishes, Puts};
 
 use itoa::Buffer;
 use std::marker::Model;
-use udfs_reading::{Outgoing, Sink, WriteFault};
+use crate::{Outgoing, Sink, WriteFault};
 
 /// Text on its way to a sink. What is not yet written is held in the printer itself, and no memory is allocated. To
 /// contracts it is the bytes that it holds, or nothing where the sink has failed.

@@ -1,8 +1,8 @@
 -- The laws of this crate that proofs above it use. Each has the statement that a function of src/laws.rt ensures.
-use Rattle.udfs_printing.specs.Laws.{PutsNone, PutsThen, PutsAll}
-use Rattle.udfs_printing.proofs.Putting as putting
+use Rattle.udfs_reading.specs.PrintingLaws.{PutsNone, PutsThen, PutsAll}
+use Rattle.udfs_reading.proofs.Putting as putting
 -- what follows of them, of texts one behind the other
-pub use Rattle.udfs_printing.proofs.Putting.{puts_as, puts_two, puts_three, puts_four, puts_five, puts_piece}
+pub use Rattle.udfs_reading.proofs.Putting.{puts_as, puts_two, puts_three, puts_four, puts_five, puts_piece}
 
 -- pieces_make_one
 pub puts_none : PutsNone

@@ -2,7 +2,7 @@
 use Rattle.std.specs.Prelude.{ℕ, List, [], ◌++◌, Option, Some, Result, ⊤}
 use Rattle.udfs_reading.specs.Writing.{Writes}
 use Rattle.udfs_reading.specs.declared.writing.WriteFault.{WriteFault}
-use Rattle.udfs_printing.specs.Puts.{Finishes, Puts}
+use Rattle.udfs_reading.specs.Puts.{Finishes, Puts}
 use Rattle.udfs_reading.specs.Device.{Stream}
 
 -- no text is put where nothing was done

@@ -7,7 +7,7 @@ use Rattle.std.proofs.lemmas.List.Concat.{flat_map-append}
 use Rattle.std.proofs.KnownBytes.{Appends-trans}
 use Rattle.udfs_reading.specs.Writing.{Passed, FailedPast, Wrote, Failed, Writes}
 use Rattle.udfs_reading.proofs.PublicLaws as reading
-use Rattle.udfs_printing.specs.Puts.{Finishes, LeftAlone, Puts, PutsBy}
+use Rattle.udfs_reading.specs.Puts.{Finishes, LeftAlone, Puts, PutsBy}
 use Rattle.udfs_reading.specs.Device.{Stream}
 
 by_none : (a : Stream) (p : Option (List ℕ)) → PutsBy a a p p []
