@@ -20,7 +20,7 @@ use Rattle.udfs_reading.specs.Writing.{Wrote, Failed as WriteFailed}
 use Rattle.udfs_walk.specs.NodeFields.{NodeFields}
 use Rattle.udfs_tag.specs.declared.layouts.LongAd.{LongAd}
 use Rattle.udfs_space.specs.Places.{view}
-use Rattle.udfs_tree.specs.Cells.{HasCellsAt}
+use Rattle.udfs_walk.specs.Cells.{HasCellsAt}
 use Rattle.udfs_salvage.specs.Extraction.{fill_byte, filled}
 use Rattle.udfs_osta.specs.Escapes.{escaped}
 use Rattle.udfs_salvage.specs.NodeTexts.{names_text}

@@ -12,7 +12,7 @@ use Rattle.udfs_file.specs.declared.cells.Cell.{Cell}
 use Rattle.udfs_walk.specs.Bare.{full_node}
 use Rattle.udfs_walk.specs.UnnamedEntries.{address_of}
 use Rattle.udfs_walk.specs.declared.answers.Unnamed.{Unnamed}
-use Rattle.udfs_tree.specs.Cells.{HasCellsAt}
+use Rattle.udfs_walk.specs.Cells.{HasCellsAt}
 use Rattle.udfs_lost.specs.Subtrees.{OverFolders, TellsBelow}
 use Rattle.udfs_lost.specs.declared.trees.LostTree.{LostTree}
 use Rattle.udfs_salvage.specs.Extraction.{HasCellsInBy}

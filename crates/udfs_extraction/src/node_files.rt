@@ -9,7 +9,7 @@ ghost use Rattle.udfs_space.specs.Places.{view};
 ghost use Rattle.udfs_walk.specs.NodeFields.{NodeFields};
 ghost use Rattle.udfs_salvage.specs.declared.extraction.ExtractError.TheVariants as extract_error;
 ghost use Rattle.udfs_salvage.specs.declared.extraction.StoreExtractError.TheVariants as store_error;
-ghost use Rattle.udfs_tree.specs.Cells.{HasCellsAt};
+ghost use Rattle.udfs_walk.specs.Cells.{HasCellsAt};
 ghost use Rattle.udfs_salvage.specs.Extraction.{fill_byte, filled, is_offered};
 ghost use Rattle.udfs_salvage.specs.Found.{Found, volume_now};
 ghost use Rattle.udfs_salvage.specs.Listings.{full_in, listing_by};

@@ -16,7 +16,7 @@ use Rattle.udfs_lawful.specs.Entries.{IsEntryAt}
 use Rattle.udfs_lawful.specs.Files.{IsBodyAt, bytes_in}
 use Rattle.udfs_lawful.specs.EcmaLaws.{AreBytes, AreWholeBlocks}
 use Rattle.udfs_lawful.proofs.PublicLaws.{bodies_are_bytes, directories_are_by_the_tables, file_sets_are_by_the_table, files_are_by_the_tables}
-use Rattle.udfs_tree.specs.Trees.{InTree, IsDirectoryAt, IsFileAt, Leads, PartitionBlocks, TreeFile}
+use Rattle.udfs_walk.specs.Trees.{InTree, IsDirectoryAt, IsFileAt, Leads, PartitionBlocks, TreeFile}
 use Rattle.udfs_salvage.proofs.Openings.{ReadAs, read_as}
 use Rattle.udfs_lawful.specs.ByTables.{InTreeByTables, IsDirectoryByTables, IsFileByTables, IsRootByTables, LeadsByTables, TreeByTables}
 

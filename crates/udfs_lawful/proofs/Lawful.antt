@@ -18,7 +18,7 @@ use Rattle.udfs_file.specs.Standard.{IsDirectoryBody, Located}
 use Rattle.udfs_file.specs.declared.cells.Cell.{Cell}
 use Rattle.udfs_file.specs.declared.faults.Kind.TheVariants.{Directory}
 use Rattle.udfs_file.proofs.PublicLaws.{body_is_read, directory_is_read}
-use Rattle.udfs_tree.specs.Trees.{IsDirectoryAt, IsFileAt, Leads, PartitionBlocks}
+use Rattle.udfs_walk.specs.Trees.{IsDirectoryAt, IsFileAt, Leads, PartitionBlocks}
 use Rattle.udfs_salvage.specs.Found.{Found, placed, rooted, volume_by}
 use Rattle.udfs_salvage.specs.Laws.{IsLawfulVolumeBy}
 use Rattle.udfs_salvage.specs.VolumeTrees.{AllIsWhole, IsLawfulBy}

@@ -12,7 +12,7 @@ use Rattle.udfs_walk.specs.Nodes.{node}
 use Rattle.udfs_walk.specs.Routes.{entries_below}
 use Rattle.udfs_walk.specs.Standings.{cells_standing}
 use Rattle.udfs_walk.specs.Targets.{target}
-use Rattle.udfs_tree.specs.Lawful.{IsLawfulTree}
+use Rattle.udfs_walk.specs.Lawful.{IsLawfulTree}
 use Rattle.udfs_lawful.specs.Forms.{all_blocks, forms_layout, forms_space, icb, named}
 use Rattle.udfs_lawful.proofs.TwoFiles.{AreTwoFiles, two_files_are_lawful}
 

@@ -9,8 +9,8 @@ use Rattle.udfs_walk.specs.Nodes.{node}
 use Rattle.udfs_walk.specs.Routes.{Route, Walked, at_root, below, entries_below, walk_from, walked, IsWalk}
 use Rattle.udfs_walk.specs.declared.standings.Standing.TheVariants.{Whole}
 use Rattle.udfs_walk.proofs.PublicLaws.{no_more_routes}
-use Rattle.udfs_tree.specs.Lawful.{IsLawfulTree}
-use Rattle.udfs_tree.proofs.WholeRoutes.{Step, step_inv}
+use Rattle.udfs_walk.specs.Lawful.{IsLawfulTree}
+use Rattle.udfs_walk.proofs.WholeRoutes.{Step, step_inv}
 
 -- the nodes of such a tree
 pub record AreTwoFiles (v : View) (root : LongAd) (a b : DirEntry) : Type 0 where

@@ -24,7 +24,7 @@ use Rattle.udfs_lawful.specs.Identifiers.{IsFileSet}
 use Rattle.udfs_lawful.specs.Layouts.{IsLayout}
 use Rattle.udfs_lawful.specs.Sparing.{IsSparingTable}
 use Rattle.udfs_lawful.specs.Volumes.{IsAnchorAt}
-use Rattle.udfs_tree.specs.Trees.{InTree, PartitionBlocks, TreeFile}
+use Rattle.udfs_walk.specs.Trees.{InTree, PartitionBlocks, TreeFile}
 use Rattle.udfs_salvage.specs.VolumeTrees.{IsLawfulBy, IsOpenedBy, Opened}
 
 -- the address is that of a recorded block (4/14.14.2), an entry is there by its table, and this is its body

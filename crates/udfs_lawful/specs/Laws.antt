@@ -12,7 +12,7 @@ use Rattle.udfs_space.specs.Places.{IsSparedBy}
 use Rattle.udfs_space.specs.Sparing.{Span}
 use Rattle.udfs_space.specs.Standard.{standard_space}
 use Rattle.udfs_file.specs.Standard.{recorded_in}
-use Rattle.udfs_tree.specs.Trees.{IsFileAt, Leads, TreeFile}
+use Rattle.udfs_walk.specs.Trees.{IsFileAt, Leads, TreeFile}
 use Rattle.udfs_salvage.specs.VolumeTrees.{IsLawfulBy, IsOpenedBy, Opened}
 
 -- the path leads from the root to an address, the block there has these bytes, and this is the file there

@@ -15,7 +15,7 @@ use Rattle.udfs_walk.specs.Routes.{Walked}
 use Rattle.udfs_walk.specs.declared.standings.Standing.{Standing}
 use Rattle.udfs_walk.specs.declared.standings.Standing.TheVariants.{Whole, Torn, Loop, Fault}
 use Rattle.udfs_walk.proofs.PublicLaws.{node_has_cells}
-use Rattle.udfs_tree.specs.Cells.{HasCellsAt}
+use Rattle.udfs_walk.specs.Cells.{HasCellsAt}
 use Rattle.udfs_salvage.specs.Found.{Found}
 use Rattle.udfs_salvage.specs.WalkedNodes.{AreNodesFrom}
 use Rattle.udfs_salvage.specs.Reports.{Report, IsReportBy, ReportsBy, ReportsNodes}

@@ -11,7 +11,7 @@ ghost use Rattle.udfs_walk.specs.NodeBodies.{MayTakeMemory};
 ghost use Rattle.udfs_walk.specs.NodeFields.{NodeFields};
 ghost use Rattle.udfs_walk.specs.declared.answers.Unnamed.{Unnamed};
 ghost use Rattle.udfs_walk.specs.declared.standings.Standing.TheVariants.{Whole};
-ghost use Rattle.udfs_tree.specs.Cells.{HasCellsAt};
+ghost use Rattle.udfs_walk.specs.Cells.{HasCellsAt};
 ghost use Rattle.udfs_salvage.specs.Extraction.{Extracts, HasCellsInBy, fill_byte, filled, is_offered};
 ghost use Rattle.udfs_salvage.specs.Found.{Found, volume_now};
 ghost use Rattle.udfs_salvage.specs.Listings.{AreUnnamed, AreUnnamedBy, listing_by, listing_now};

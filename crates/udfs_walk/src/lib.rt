@@ -1,6 +1,10 @@
 // SPDX-License-Identifier: MIT OR Apache-2.0
 //! The nodes of a volume of which some blocks are not known: every path with what is known of it, the entries that
 //! no name leads to, and the blocks to read again.
+//!
+//! What the nodes of a volume say of the tree that the standard reads from its complete bytes.
+//!
+//! Nothing here runs: each function is a law over one view, of which a part is known, and its complete one.
 #![tactic(auto)]
 
 pub mod answers;
@@ -11,6 +15,7 @@ mod children;
 pub mod counting;
 mod gaps;
 mod kinds;
+pub mod known_laws;
 pub mod laws;
 mod memos;
 mod node_bodies;
@@ -20,6 +25,7 @@ mod settling;
 pub mod standings;
 mod targets;
 mod told;
+pub mod tree_laws;
 pub mod unnamed_entries;
 mod visits;
 mod walks;
@@ -33,3 +39,4 @@ pub use paths::Path;
 pub use rereads::{bare_reread, bare_reread_by, reread};
 pub use standings::{Standing, Torn};
 pub use walks::{bare_nodes, bare_nodes_by, counted_nodes, counted_nodes_by, nodes};
+
