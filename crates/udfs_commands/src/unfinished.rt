@@ -5,7 +5,7 @@ use crate::longer_images::is_file;
 use std::alloc::{AllocError, Global};
 use udfs_common::files::Files;
 use udfs_common::shown::Shown;
-use udfs_files::{Aim, Kind};
+use udfs_host_fs::{Aim, Kind};
 use udfs_words::request::Request;
 
 /// How many names are looked at.

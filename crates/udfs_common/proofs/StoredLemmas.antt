@@ -1,7 +1,7 @@
 -- Inputs that are read at positions have the tables of their paths.
 use Rattle.std.proofs.Common.{◌≡◌, ◌⊎◌, ◌+◌, ◌-◌, Err, alloc_error, ℕ, zero, suc, List, [], ◌∷◌, ◌++◌, length, take, Option, None, Some, IfSome, slice_get, refl, sym, ap, subst, ◌∙◌, inl, inr, arith}
 use Rattle.std.specs.Io.KnownBytes.{Appends}
-use Rattle.udfs_files.specs.Telling.{ToldOrSilent}
+use Rattle.udfs_host_fs.specs.Telling.{ToldOrSilent}
 use Rattle.udfs_index.specs.Copying.{AreAllTold}
 use Rattle.udfs_reading.specs.Device.{Stream}
 use Rattle.udfs_lattice.specs.Tables.{Table}

@@ -8,7 +8,7 @@ ghost use Rattle.udfs_common.specs.Sources.{IsPathOpened};
 use crate::files::Files;
 use crate::refusal::Refusal;
 use std::alloc::{AllocError, Global};
-use udfs_files::Stage;
+use udfs_host_fs::Stage;
 use udfs_index::{Cursor, Stored};
 use udfs_index::{AnyStored, open_stored_pair};
 use udfs_reading::DeviceFault;

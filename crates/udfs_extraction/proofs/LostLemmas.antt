@@ -1,8 +1,8 @@
 -- How the entries that no name leads to are gone through, and what was written stays.
 use Rattle.std.proofs.Common.{◌≡◌, ◌≢◌, inl, ⊎_elim, ℕ, ◌++◌, ◌≤◌, List, [], ◌∷◌, Option, Some, None, refl, sym, ◌∙◌, subst, arith, length, ap, slice_get, append_assoc, rules, Bool, Bor, true}
 use Rattle.std.specs.Prelude.{MatchOption}
-use Rattle.udfs_files.specs.Disk.{Disk, Same, SameBut, Goes}
-use Rattle.udfs_files.specs.declared.files.Files.{Ghosts}
+use Rattle.udfs_host_fs.specs.Disk.{Disk, Same, SameBut, Goes}
+use Rattle.udfs_host_fs.specs.declared.files.Files.{Ghosts}
 use Rattle.udfs_lattice.specs.Tables.{Table}
 use Rattle.udfs_walk.specs.declared.answers.Unnamed.{Unnamed}
 use Rattle.udfs_salvage.specs.Reports.{Report}

@@ -1,7 +1,7 @@
 -- Where what is lost is looked for.
 use Rattle.std.proofs.Common.{◌≡◌, ◌∙◌, ap, subst, sym, Bool, Bor, List, ℕ, Option, Some, None}
 use Rattle.std.specs.Prelude.{⊤, Result, Ok, Err, IfErr, IfOk, MatchOption}
-use Rattle.udfs_files.specs.declared.files.Files.{Ghosts}
+use Rattle.udfs_host_fs.specs.declared.files.Files.{Ghosts}
 use Rattle.udfs_reading.specs.Device.{Stream}
 use Rattle.udfs_lost.specs.declared.trees.LostTree.{LostTree}
 use Rattle.udfs_salvage.specs.Reports.{Report}

@@ -3,7 +3,7 @@ use Rattle.std.proofs.lemmas.List.{append-nil}
 use Rattle.std.proofs.lemmas.List.Concat.{flat_map-append}
 use Rattle.sha2.specs.Sha256.{sha256}
 use Rattle.std.proofs.Common.{◌≡◌, ◌≢◌, ◌⊎◌, inl, inr, ⊎_elim, ℕ, suc, ◌+◌, arith, ◌++◌, List, [], ◌∷◌, Bool, true, false, Option, Some, None, refl, sym, ◌∙◌, subst, length, ap, slice_get, drop, append_assoc, codes}
-use Rattle.udfs_files.specs.Disk.{Fails, SinkFails}
+use Rattle.udfs_host_fs.specs.Disk.{Fails, SinkFails}
 use Rattle.std.specs.Prelude.{◌&&◌, MatchOption, is_some, option_map}
 use Rattle.std.specs.List.{list_all}
 use Rattle.udfs_lattice.specs.Volumes.{Blocks}

@@ -7,7 +7,7 @@ use Rattle.std.specs.Io.KnownBytes.{Appends}
 use Rattle.std.proofs.KnownBytes.{Appends-trans}
 use Rattle.udfs_file.specs.declared.faults.Kind.{Kind}
 use Rattle.udfs_file.specs.declared.faults.Kind.TheVariants as kind
-use Rattle.udfs_files.specs.Disk.{Disk, Same, SameBut, After, Goes}
+use Rattle.udfs_host_fs.specs.Disk.{Disk, Same, SameBut, After, Goes}
 use Rattle.udfs_lattice.specs.Volumes.{Blocks}
 use Rattle.udfs_walk.specs.NodeFields.{NodeFields}
 use Rattle.udfs_walk.specs.declared.standings.Standing.{Standing}

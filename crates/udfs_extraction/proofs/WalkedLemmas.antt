@@ -2,7 +2,7 @@
 use Rattle.std.proofs.Common.{◌≡◌, ◌≢◌, ◌∙◌, ◌++◌, List, [], None, Option, Some, ℕ, ap, refl}
 use Rattle.std.specs.Prelude.{Err}
 use Rattle.std.specs.Io.KnownBytes.{Appends}
-use Rattle.udfs_files.specs.Disk.{SinkFails}
+use Rattle.udfs_host_fs.specs.Disk.{SinkFails}
 use Rattle.udfs_reading.specs.Device.{Stream}
 use Rattle.udfs_salvage.specs.Extraction.{Extracts}
 use Rattle.udfs_salvage.specs.StoreExtraction.{StoreExtracts}

@@ -8,8 +8,8 @@
 --     IsNewFolder                      nothing is where the folder is to be, and other paths do not lead there
 use Rattle.std.specs.Prelude.{◌≡◌, ◌⊎◌, ℕ, Bool, false, List, [], ◌∷◌, ◌++◌, ⊤, Option, Some, None, cond, codes, length}
 use Rattle.udfs_file.specs.declared.cells.Cell.{Cell}
-use Rattle.udfs_files.specs.Disk.{Disk, Fails, Goes, SinkFails}
-use Rattle.udfs_files.specs.declared.files.Files.{Ghosts}
+use Rattle.udfs_host_fs.specs.Disk.{Disk, Fails, Goes, SinkFails}
+use Rattle.udfs_host_fs.specs.declared.files.Files.{Ghosts}
 use Rattle.udfs_reading.specs.Writing.{Wrote}
 use Rattle.udfs_lattice.specs.Tables.{Table, state_of}
 use Rattle.udfs_volume.specs.declared.profiles.Profile.{Profile}

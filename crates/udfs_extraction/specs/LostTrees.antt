@@ -10,7 +10,7 @@
 --     StopsTrees                       why they were not put or reported, or only in part
 use Rattle.std.specs.Prelude.{◌≡◌, ◌⊎◌, ℕ, Bool, true, false, List, [], Contains, ◌∷◌, ◌++◌, ⊤, Option, filter, length, map, alloc_error}
 use Rattle.std.specs.List.{AllZip, list_all}
-use Rattle.udfs_files.specs.declared.files.Files.{Ghosts}
+use Rattle.udfs_host_fs.specs.declared.files.Files.{Ghosts}
 use Rattle.udfs_lattice.specs.Tables.{Table, state_of}
 use Rattle.udfs_lattice.specs.Volumes.{Blocks}
 use Rattle.udfs_reading.specs.Device.{Stream}

@@ -15,8 +15,8 @@
 --     IsUnbegun            memory ran out, or a place was rejected, or the inputs were not joined
 --     ExtractRefused       the same of the volume: which of these it was
 use Rattle.std.specs.Prelude.{◌≡◌, ◌≢◌, ◌⊎◌, ◌<◌, ◌+◌, ℕ, Bool, true, false, List, [], Option, Some, MatchOption, alloc_error, drop, length, slice_get}
-use Rattle.udfs_files.specs.Disk.{Fails, SinkFails}
-use Rattle.udfs_files.specs.declared.files.Files.{Ghosts}
+use Rattle.udfs_host_fs.specs.Disk.{Fails, SinkFails}
+use Rattle.udfs_host_fs.specs.declared.files.Files.{Ghosts}
 use Rattle.udfs_lattice.specs.Tables.{Table, state_of}
 use Rattle.udfs_lattice.specs.Volumes.{Blocks}
 use Rattle.udfs_reading.specs.Device.{Stream}

@@ -12,8 +12,8 @@
 --     RunsOn .. first before after    nodes from some index on have their fates, and their lines where the output took all before them
 use Rattle.std.specs.Prelude.{◌≡◌, ◌≢◌, ◌⊎◌, ℕ, ◌+◌, Bool, true, false, List, Option, Some, drop, slice_get, string_bytes}
 use Rattle.udfs_common.specs.Keeping.{IsKept}
-use Rattle.udfs_files.specs.Disk.{Disk, Fails, Goes, SinkFails, folder_of}
-use Rattle.udfs_files.specs.declared.files.Files.{Ghosts}
+use Rattle.udfs_host_fs.specs.Disk.{Disk, Fails, Goes, SinkFails, folder_of}
+use Rattle.udfs_host_fs.specs.declared.files.Files.{Ghosts}
 use Rattle.udfs_lattice.specs.Volumes.{Blocks}
 use Rattle.udfs_reading.specs.Device.{Stream}
 use Rattle.udfs_salvage.specs.Choosing.{is_chosen}

@@ -24,7 +24,7 @@ use udfs_overview::has_room;
 use udfs_reading::Sink;
 use udfs_salvage::{Listing, OpenVolume, Volume};
 use udfs_tag::LongAd;
-use udfs_files::Times;
+use udfs_host_fs::Times;
 use udfs_volume::Profile;
 use udfs_walk::Unnamed;
 use udfs_words::request::ExtractRequest;

@@ -31,7 +31,7 @@ use udfs_lost::LostTree;
 use udfs_reading::Sink;
 use udfs_salvage::{Fill, Listing, has_two_partitions};
 use udfs_tag::LbAddr;
-use udfs_files::Times;
+use udfs_host_fs::Times;
 use udfs_words::request::ExtractRequest;
 
 /// What became of the first node of a tree.

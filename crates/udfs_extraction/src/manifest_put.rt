@@ -1,7 +1,7 @@
 //! The files and folders of a volume, written into a new folder, and then a manifest of them.
 
 ghost use Rattle.std.specs.Prelude.{◌≡◌, ◌≢◌, ◌⊎◌, ℕ, List, Some, IfOk, IfErr, MatchOption, OnErr, OnOk, alloc_error, option_map, string_bytes};
-ghost use Rattle.udfs_files.specs.Disk.{Fails, SinkFails};
+ghost use Rattle.udfs_host_fs.specs.Disk.{Fails, SinkFails};
 ghost use Rattle.udfs_lattice.specs.Tables.{state_of};
 ghost use Rattle.udfs_salvage.specs.Listings.{listing_by, listing_now};
 ghost use Rattle.udfs_words.specs.Requests.{texts};
@@ -20,11 +20,11 @@ use std::alloc::{AllocError, Global};
 use udfs_common::files::Files;
 use udfs_common::known::Known;
 use udfs_common::refusal::Refusal;
-use udfs_files::{JobError, ReplaceError, replace_by_job};
+use udfs_host_fs::{JobError, ReplaceError, replace_by_job};
 use udfs_lattice::{BlockStore, ReadFault};
 use udfs_reading::Sink;
 use udfs_salvage::{Listing, ReportStore};
-use udfs_files::Times;
+use udfs_host_fs::Times;
 use udfs_words::request::ExtractRequest;
 
 /// Why a manifest was not put.

@@ -2,7 +2,7 @@
 
 ghost use Rattle.std.specs.Prelude.{◌≡◌, ◌++◌, List, ℕ, IfErr, IfOk, OnErr, OnOk};
 ghost use Rattle.std.specs.Io.KnownBytes.{Appends};
-ghost use Rattle.udfs_files.specs.Disk.{SinkFails};
+ghost use Rattle.udfs_host_fs.specs.Disk.{SinkFails};
 ghost use Rattle.udfs_salvage.specs.Listings.{listing_by};
 ghost use Rattle.udfs_extraction.specs.Manifests.{note_text, notes_text};
 ghost use Rattle.udfs_extraction.specs.ShortNames.{IsWay};
@@ -10,7 +10,7 @@ ghost use Rattle.udfs_extraction.specs.ShortNames.{IsWay};
 use crate::manifest::{Noted, behind_slash, push_sum_line};
 use crate::places::place_from;
 use std::alloc::{AllocError, Global};
-use udfs_files::Job;
+use udfs_host_fs::Job;
 use udfs_lattice::BlockStore;
 use udfs_reading::{Sink, WriteFault, write_all};
 use udfs_salvage::Listing;

@@ -3,7 +3,7 @@
 ghost use Rattle.std.specs.Prelude.{◌≡◌, ◌≢◌, ◌<◌, ◌⊎◌, ◌++◌, ℕ, Bool, false, true, List, [], Some, IfErr, IfOk, IsErrOf, OnOk, length, slice_get, None, map, string_bytes};
 ghost use Rattle.std.specs.Io.KnownBytes.{Appends};
 ghost use Rattle.udfs_file.specs.declared.cells.Cell.{Cell};
-ghost use Rattle.udfs_files.specs.Disk.{Same, SameBut, Goes, Fails, SinkFails};
+ghost use Rattle.udfs_host_fs.specs.Disk.{Same, SameBut, Goes, Fails, SinkFails};
 ghost use Rattle.udfs_tag.specs.declared.layouts.LongAd.{LongAd};
 ghost use Rattle.udfs_space.specs.Places.{view};
 ghost use Rattle.udfs_walk.specs.NodeFields.{NodeFields};
@@ -28,7 +28,7 @@ use std::alloc::{AllocError, Global};
 use std::marker::PhantomData;
 use udfs_common::files::Files;
 use udfs_file::Kind;
-use udfs_files::Job;
+use udfs_host_fs::Job;
 use udfs_lattice::{BlockStore, GaveUp};
 use udfs_reading::{DeviceFault, Sink};
 use udfs_salvage::choosing::{is_above, is_chosen};

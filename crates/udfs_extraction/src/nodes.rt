@@ -1,7 +1,7 @@
 //! The files and folders of a volume, written into a new folder.
 
 ghost use Rattle.std.specs.Prelude.{◌≡◌, ◌<◌, ◌⊎◌, ℕ, Bool, true, false, ◌&&◌, List, Some, IfOk, IfErr, IsErrOf, OnErr, length, drop, None, Option, map, option_map, if◌then◌else◌};
-ghost use Rattle.udfs_files.specs.Disk.{Goes, Fails, SinkFails};
+ghost use Rattle.udfs_host_fs.specs.Disk.{Goes, Fails, SinkFails};
 ghost use Rattle.udfs_salvage.specs.Listings.{listing_by};
 ghost use Rattle.udfs_words.specs.Requests.{texts};
 ghost use Rattle.udfs_extraction.specs.ByRequest.{IsNodePut, fill_of};
@@ -25,7 +25,7 @@ use udfs_remarks::no_reports::refused_run;
 use udfs_remarks::remarks::{UNREAD, remark_on_left_out, remark_on_listing_by};
 use udfs_salvage::choosing::chosen_are_whole;
 use udfs_salvage::{Fill, Listing, ReportStore, Volume, write_volume_line};
-use udfs_files::Times;
+use udfs_host_fs::Times;
 use udfs_words::request::ExtractRequest;
 
 /// What is done with a node.

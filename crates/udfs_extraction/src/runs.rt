@@ -1,7 +1,7 @@
 //! The nodes are gone through in runs: the files of a run are written, then their names come to the disk, and then the lines of the run are printed.
 
 ghost use Rattle.std.specs.Prelude.{◌≡◌, ◌≢◌, ◌<◌, ◌≤◌, ◌+◌, ◌-◌, ◌⊎◌, ◌++◌, ◌∷◌, ℕ, Bool, false, true, List, [], Some, None, IfOk, IsErrOf, OnErr, OnOk, drop, length, slice_get, string_bytes, if◌then◌else◌};
-ghost use Rattle.udfs_files.specs.Disk.{Fails, Goes, SinkFails};
+ghost use Rattle.udfs_host_fs.specs.Disk.{Fails, Goes, SinkFails};
 ghost use Rattle.udfs_salvage.specs.Listings.{listing_by};
 ghost use Rattle.udfs_walk.specs.NodeFields.{NodeFields};
 ghost use Rattle.udfs_words.specs.Requests.{texts};
@@ -24,7 +24,7 @@ use udfs_common::files::Files;
 use udfs_lattice::{BlockStore, GaveUp};
 use udfs_reading::Sink;
 use udfs_salvage::{Fill, Listing};
-use udfs_files::Times;
+use udfs_host_fs::Times;
 
 /// How many nodes a run has at most.
 const NODES: usize = 256;

@@ -16,7 +16,7 @@ use udfs_osta::Stamp;
 use udfs_overview::push_shown_path;
 use udfs_salvage::Listing;
 use udfs_salvage::choosing::is_above;
-use udfs_files::Times;
+use udfs_host_fs::Times;
 use udfs_walk::{Node, Unnamed};
 
 /// The times of what is made: where they are asked for they are kept, by the zone of the machine's clock.

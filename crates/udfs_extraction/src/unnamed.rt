@@ -3,7 +3,7 @@
 ghost use Rattle.std.specs.Prelude.{◌≡◌, ◌≢◌, ◌<◌, ◌⊎◌, ◌++◌, ⊤, ℕ, Bool, false, true, List, [], Some, None, IfOk, IfErr, MatchOption, OnOk, OnErr, alloc_error, length, slice_get, string_bytes};
 ghost use Rattle.std.specs.Io.KnownBytes.{Appends};
 ghost use Rattle.udfs_file.specs.declared.cells.Cell.{Cell};
-ghost use Rattle.udfs_files.specs.Disk.{Same, SameBut, Goes, Fails, SinkFails};
+ghost use Rattle.udfs_host_fs.specs.Disk.{Same, SameBut, Goes, Fails, SinkFails};
 ghost use Rattle.udfs_lattice.specs.Tables.{state_of};
 ghost use Rattle.udfs_volume.specs.declared.profiles.Profile.{Profile};
 ghost use Rattle.udfs_walk.specs.declared.answers.Unnamed.{Unnamed};
@@ -29,11 +29,11 @@ use std::alloc::{AllocError, Global};
 use udfs_common::files::Files;
 use udfs_common::known::Known;
 use udfs_common::refusal::Refusal;
-use udfs_files::{Job, fill_by};
+use udfs_host_fs::{Job, fill_by};
 use udfs_reading::{Sink, WriteFault, write_all};
 use udfs_remarks::looking::unnamed_in;
 use udfs_salvage::{ExtractError, Listing, Volume, has_two_partitions, is_lost_file, write_lost};
-use udfs_files::Times;
+use udfs_host_fs::Times;
 use udfs_walk::Unnamed;
 
 /// Appends the name of the file of an entry: its logical block, with the partition reference in front where there are two partitions.

@@ -17,7 +17,7 @@
 --     IsNotMapped         why it was not put, where it may take its place
 --     MapRefused          why it was not put
 use Rattle.std.specs.Prelude.{◌≡◌, ◌⊎◌, ℕ, ◌+◌, ◌++◌, ◌==◌, Bool, List, [], ◌∷◌, Option, Some, None, alloc_error, codes, decimal, length, if◌then◌else◌}
-use Rattle.udfs_files.specs.Disk.{Fails}
+use Rattle.udfs_host_fs.specs.Disk.{Fails}
 use Rattle.udfs_lattice.specs.Tables.{Table, state_of}
 use Rattle.udfs_reading.specs.Device.{Stream}
 use Rattle.udfs_reading.specs.Writing.{Failed, Wrote}

@@ -16,7 +16,7 @@ use udfs_common::known::Known;
 use udfs_common::refusal::Refusal;
 use udfs_common::stored_volumes::{StoredDisc, indexed_volume, stored_volume, unread_volume};
 use udfs_common::volumes::joined_volume;
-use udfs_files::Stage;
+use udfs_host_fs::Stage;
 use udfs_index::{Cursor, Index, Stored, Unread};
 use udfs_lattice::{GaveUp, ReadFault};
 use udfs_index::AnyStored;

@@ -22,7 +22,7 @@ use udfs_common::putting::put_file;
 use udfs_common::refusal::Refusal;
 use udfs_common::stored_volumes::{StoredDisc, indexed_volume, stored_volume, unread_volume};
 use udfs_common::volumes::{joined_volume, unwritten_volume};
-use udfs_files::{Content, Stage};
+use udfs_host_fs::{Content, Stage};
 use udfs_index::Stored;
 use udfs_lattice::{GaveUp, ReadFault};
 use udfs_index::AnyStored;

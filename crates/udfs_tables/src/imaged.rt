@@ -2,7 +2,7 @@
 
 ghost use Rattle.std.specs.Prelude.{◌≡◌, ◌⊎◌, ◌<◌, ◌≤◌, ⊤, ℕ, IfErr, MatchOption, OnOk, length};
 ghost use Rattle.std.specs.Io.KnownBytes.{Appends};
-ghost use Rattle.udfs_files.specs.Disk.{SinkFails};
+ghost use Rattle.udfs_host_fs.specs.Disk.{SinkFails};
 ghost use Rattle.udfs_index.specs.Copying.{AreAllTold};
 ghost use Rattle.udfs_lattice.specs.Tables.{IsTable, Table, state_of};
 ghost use Rattle.udfs_rescue.specs.Images.{image_bytes};

@@ -16,7 +16,7 @@ use udfs_common::index_taking::reread_of;
 use udfs_common::job_putting::put_job;
 use udfs_common::known::Known;
 use udfs_common::refusal::Refusal;
-use udfs_files::Job;
+use udfs_host_fs::Job;
 use udfs_index::{CopyFault, Cursor, END, Index, Stored, Unread};
 use udfs_index::AnyStored;
 use udfs_reading::{Sink, Taker};

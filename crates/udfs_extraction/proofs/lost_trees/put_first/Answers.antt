@@ -1,6 +1,6 @@
 use Rattle.std.proofs.Common.{◌≡◌, ◌⊎◌, ◌∙◌, ◌++◌, ◌∷◌, [], inl, List, ℕ, Option, rules, subst, sym, ap, string_bytes, codes, refl, Some, true, false}
 use Rattle.udfs_common.specs.Keeping.{IsKept}
-use Rattle.udfs_files.specs.Disk.{Fails, SinkFails}
+use Rattle.udfs_host_fs.specs.Disk.{Fails, SinkFails}
 use Rattle.udfs_walk.specs.NodeFields.{NodeFields}
 use Rattle.udfs_lattice.specs.Tables.{state_of}
 use Rattle.udfs_salvage.specs.Found.{volume_now}

@@ -1,6 +1,6 @@
 use Rattle.std.proofs.Common.{◌≡◌, ◌⊎◌, ◌<◌, ◌∙◌, ◌∷◌, ℕ, suc, [], inl, inr, refl, sym, ap, subst, length, rules, drop, true, false, if◌then◌else◌}
 use Rattle.std.proofs.lemmas.List.{append-nil, length-map}
-use Rattle.udfs_files.specs.Disk.{Fails, SinkFails}
+use Rattle.udfs_host_fs.specs.Disk.{Fails, SinkFails}
 use Rattle.udfs_walk.specs.NodeFields.{NodeFields}
 use Rattle.udfs_lattice.specs.Tables.{state_of}
 use Rattle.udfs_salvage.specs.Found.{volume_now}

@@ -1,6 +1,6 @@
 -- What was held of each node of the run so far is told, as the files were before any was removed.
 use Rattle.std.proofs.Common.{◌≡◌, ◌≢◌, ◌++◌, ℕ, Bool, Bor, List, true, false, drop, length, map, if◌then◌else◌}
-use Rattle.udfs_files.specs.Disk.{Goes}
+use Rattle.udfs_host_fs.specs.Disk.{Goes}
 use Rattle.udfs_salvage.specs.Listings.{listing_by}
 use Rattle.udfs_salvage.specs.declared.extraction.Fill.{Fill}
 use Rattle.udfs_extraction.specs.Extracting.{IsDone, IsPutAt, all_good, node_line}

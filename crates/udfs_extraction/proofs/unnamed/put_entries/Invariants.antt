@@ -1,6 +1,6 @@
 -- Each entry so far has its fate, and its line where the output still takes them; what was written stays.
 use Rattle.std.proofs.Common.{◌≡◌, ◌⊎◌, List, length}
-use Rattle.udfs_files.specs.Disk.{Fails, SinkFails}
+use Rattle.udfs_host_fs.specs.Disk.{Fails, SinkFails}
 use Rattle.udfs_salvage.specs.Listings.{listing_now}
 use Rattle.udfs_extraction.specs.Extracting.{TellsLines, all_good}
 use Rattle.udfs_extraction.specs.LostFiles.{EachLost, IsLostPut, SparesLost, lost_lines}
