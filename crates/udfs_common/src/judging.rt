@@ -14,8 +14,7 @@ ghost use Rattle.udfs_common.specs.Refused.{IsUncompared};
 use crate::index_taking::cursors;
 use crate::refusal::Refusal;
 use std::alloc::{AllocError, Global};
-use udfs_index::Comparison;
-use udfs_index::{Cursor, Index, Stored};
+use udfs_index::{Comparison, Cursor, Index, Stored};
 use udfs_lattice::{BlockStore, Fact, ReadFault};
 use udfs_reading::{ReadingError, ReadingFault, Taker, take_inputs};
 

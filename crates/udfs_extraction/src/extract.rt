@@ -20,10 +20,9 @@ use udfs_common::files::Files;
 use udfs_common::known::Known;
 use udfs_common::refusal::Refusal;
 use udfs_common::volumes::{Disc, joined_volume};
-use udfs_host_fs::Stage;
+use udfs_host_fs::{Stage, Times};
 use udfs_reading::Sink;
 use udfs_remarks::looking::listed;
-use udfs_host_fs::Times;
 use udfs_words::request::ExtractRequest;
 
 /// Makes what a request asks for of the volume of a disc: the nodes, their manifest at its place, the lost files, and the lost folders.

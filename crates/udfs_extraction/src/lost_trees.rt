@@ -26,12 +26,12 @@ use std::alloc::{AllocError, Global};
 use udfs_common::files::Files;
 use udfs_common::known::Known;
 use udfs_common::refusal::Refusal;
+use udfs_host_fs::Times;
 use udfs_lattice::GaveUp;
 use udfs_lost::LostTree;
 use udfs_reading::Sink;
 use udfs_salvage::{Fill, Listing, has_two_partitions};
 use udfs_tag::LbAddr;
-use udfs_host_fs::Times;
 use udfs_words::request::ExtractRequest;
 
 /// What became of the first node of a tree.

@@ -20,11 +20,10 @@ use std::alloc::{AllocError, Global};
 use udfs_common::files::Files;
 use udfs_common::known::Known;
 use udfs_common::refusal::Refusal;
-use udfs_host_fs::{JobError, ReplaceError, replace_by_job};
+use udfs_host_fs::{JobError, ReplaceError, Times, replace_by_job};
 use udfs_lattice::{BlockStore, ReadFault};
 use udfs_reading::Sink;
 use udfs_salvage::{Listing, ReportStore};
-use udfs_host_fs::Times;
 use udfs_words::request::ExtractRequest;
 
 /// Why a manifest was not put.

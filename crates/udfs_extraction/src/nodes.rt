@@ -19,13 +19,13 @@ use std::alloc::{AllocError, Global};
 use udfs_common::files::Files;
 use udfs_common::known::Known;
 use udfs_common::refusal::Refusal;
+use udfs_host_fs::Times;
 use udfs_lattice::{BlockStore, GaveUp, ReadFault};
 use udfs_reading::Sink;
 use udfs_remarks::no_reports::refused_run;
 use udfs_remarks::remarks::{UNREAD, remark_on_left_out, remark_on_listing_by};
 use udfs_salvage::choosing::chosen_are_whole;
 use udfs_salvage::{Fill, Listing, ReportStore, Volume, write_volume_line};
-use udfs_host_fs::Times;
 use udfs_words::request::ExtractRequest;
 
 /// What is done with a node.

@@ -21,10 +21,10 @@ use crate::telling::tell;
 use crate::times::note_time;
 use std::alloc::{AllocError, Global};
 use udfs_common::files::Files;
+use udfs_host_fs::Times;
 use udfs_lattice::{BlockStore, GaveUp};
 use udfs_reading::Sink;
 use udfs_salvage::{Fill, Listing};
-use udfs_host_fs::Times;
 
 /// How many nodes a run has at most.
 const NODES: usize = 256;

@@ -16,15 +16,13 @@ use udfs_common::index_taking::reread_of;
 use udfs_common::known::Known;
 use udfs_common::refusal::Refusal;
 use udfs_common::stored_volumes::{StoredDisc, indexed_volume, stored_volume};
-use udfs_host_fs::Stage;
-use udfs_index::Stored;
+use udfs_host_fs::{Stage, Times};
+use udfs_index::{AnyStored, Stored};
 use udfs_lattice::ReadFault;
-use udfs_index::AnyStored;
 use udfs_reading::Sink;
 use udfs_remarks::no_reports::refused_report;
 use udfs_remarks::{IndexBlocks, SteadyStore};
 use udfs_salvage::{StoreError, list_store};
-use udfs_host_fs::Times;
 use udfs_words::request::ExtractRequest;
 
 /// The inputs of a request's volume, where all of them can be read at positions, and neither lost files nor lost folders are asked for: those are looked for in a table.

@@ -11,12 +11,12 @@ use std::fmt::Write;
 use udfs_common::files::Files;
 use udfs_common::shown::Said;
 use udfs_file::Kind;
+use udfs_host_fs::Times;
 use udfs_lattice::BlockStore;
 use udfs_osta::Stamp;
 use udfs_overview::push_shown_path;
 use udfs_salvage::Listing;
 use udfs_salvage::choosing::is_above;
-use udfs_host_fs::Times;
 use udfs_walk::{Node, Unnamed};
 
 /// The times of what is made: where they are asked for they are kept, by the zone of the machine's clock.

@@ -29,11 +29,10 @@ use std::alloc::{AllocError, Global};
 use udfs_common::files::Files;
 use udfs_common::known::Known;
 use udfs_common::refusal::Refusal;
-use udfs_host_fs::{Job, fill_by};
+use udfs_host_fs::{Job, Times, fill_by};
 use udfs_reading::{Sink, WriteFault, write_all};
 use udfs_remarks::looking::unnamed_in;
 use udfs_salvage::{ExtractError, Listing, Volume, has_two_partitions, is_lost_file, write_lost};
-use udfs_host_fs::Times;
 use udfs_walk::Unnamed;
 
 /// Appends the name of the file of an entry: its logical block, with the partition reference in front where there are two partitions.

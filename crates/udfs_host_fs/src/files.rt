@@ -11,12 +11,12 @@ ghost use Rattle.udfs_index.specs.Copying.{AreAllTold};
 ghost use Rattle.udfs_reading.specs.Device.{CountsFault};
 
 use crate::watch::Stage;
+use crate::{Times, Zone};
 use std::alloc::{AllocError, Global};
 use std::io::Error;
 use udfs_index::Stored;
 use udfs_reading::{DeviceFault, Sink, Source};
 use udfs_rescue::Image as Positions;
-use crate::{Times, Zone};
 
 /// An output while it is written.
 pub trait Handle: Sink {

@@ -16,13 +16,13 @@ use crate::reaching::{
 };
 use crate::resolving::resolve;
 use crate::watch::{Stage, Watch, heeded};
+use crate::{Times, Zone};
 use std::alloc::{AllocError, Global};
 use std::io::{Error, ErrorKind};
 use std::rt::{Clock, Env};
 use std::time::{Duration, SystemTime};
 use udfs_calls::Calls;
 use udfs_reading::DeviceFault;
-use crate::{Times, Zone};
 
 /// The machine's files, over its system calls: they tell what the calls tell. A link is neither moved nor replaced, and a folder is not opened. The name
 /// of a new folder comes to the disk before a second folder is made, or the names in it. The runtime gives memory, the time and the zone of its clock alone.

@@ -3,9 +3,9 @@
 ghost use Rattle.std.specs.Prelude.{⊤};
 ghost use Rattle.udfs_index.specs.AnyStored.{fails_in, stored_in};
 
+use crate::Stored;
 use crate::stored_pair::StoredPair;
 use std::time::SystemTime;
-use crate::Stored;
 use udfs_reading::DeviceFault;
 use udfs_rescue::PairFault;
 

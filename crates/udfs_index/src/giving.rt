@@ -5,10 +5,10 @@ ghost use Rattle.udfs_reading.specs.Format.{header, number};
 ghost use Rattle.udfs_reading.specs.Reading.{magic};
 ghost use Rattle.udfs_index.specs.Fronts.{IsFrontBehind, MayFail};
 
+use crate::Stored;
 use crate::pair_blocks::Found;
 use crate::spreading::spread;
 use byteorder::{ByteOrder, LittleEndian};
-use crate::Stored;
 use udfs_reading::DeviceFault;
 
 /// How many blocks are read at once: 256 KiB.

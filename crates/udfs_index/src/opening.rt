@@ -4,9 +4,9 @@ ghost use Rattle.std.specs.Prelude.{◌≡◌, ℕ, ◌+◌, ◌*◌, ◌≤◌,
 ghost use Rattle.udfs_rescue.specs.Opening.{AreKnownOf, IsReadingOf, PairFails};
 ghost use Rattle.udfs_index.specs.Told.{AreInside, HasSize};
 
+use crate::Stored;
 use crate::stored_pair::StoredPair;
 use std::alloc::Global;
-use crate::Stored;
 use udfs_reading::{DeviceFault, ReadingError, ReadingFault, Source};
 use udfs_rescue::{KnownBlocks, MapError, Mapfile, PairFault};
 

@@ -4,11 +4,11 @@ ghost use Rattle.std.specs.Prelude.{◌≡◌, ◌⊎◌, None, IfOk, IfSome};
 ghost use Rattle.udfs_rescue.specs.Blocks.{reading_known};
 ghost use Rattle.udfs_index.specs.Told.{AreInside, HasSize, HasSize-prop};
 
-use crate::pair_blocks::NumberedBlocks;
 use crate::giving::{give_behind, give_header};
+use crate::pair_blocks::NumberedBlocks;
+use crate::{HEADER, RECORD, Stored};
 use std::alloc::{AllocError, Global};
 use std::time::SystemTime;
-use crate::{HEADER, RECORD, Stored};
 use udfs_reading::DeviceFault;
 use udfs_rescue::KnownBlocks;
 

@@ -26,4 +26,3 @@ mod trees;
 pub use answers::{Lawfulness, Reason, Structures, Why};
 pub use deciding::{lawfulness, lawfulness_by};
 pub use structures::{structures_by, structures_of};
-

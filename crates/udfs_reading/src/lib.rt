@@ -30,6 +30,6 @@ pub use error::{ReadingError, ReadingFault};
 pub use input::{read_input, read_reading, read_table};
 pub use inputs::{InputError, join_inputs, take_inputs};
 pub use packing::write_table;
+pub use printer::Printer;
 pub use taker::{NotTaken, Taker};
 pub use writing::{Outgoing, WriteFault, write_all, write_header, write_number, write_table_v1};
-pub use printer::Printer;

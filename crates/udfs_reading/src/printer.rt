@@ -3,9 +3,9 @@
 ghost use Rattle.std.specs.Prelude.{◌≡◌, ◌≤◌, ◌↔◌, [], None, OnErr, OnOk, Some, length, decimal, true};
 ghost use Rattle.udfs_reading.specs.Puts.{Finishes, Puts};
 
+use crate::{Outgoing, Sink, WriteFault};
 use itoa::Buffer;
 use std::marker::Model;
-use crate::{Outgoing, Sink, WriteFault};
 
 /// Text on its way to a sink. What is not yet written is held in the printer itself, and no memory is allocated. To
 /// contracts it is the bytes that it holds, or nothing where the sink has failed.

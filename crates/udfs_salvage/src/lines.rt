@@ -15,8 +15,7 @@ use crate::word_printing::{put_count, put_escaped};
 use crate::words::{fault_number, revision_name};
 use udfs_lattice::{BlockStore, Fact};
 use udfs_osta::{Label, Name};
-use udfs_reading::Printer;
-use udfs_reading::Sink;
+use udfs_reading::{Printer, Sink};
 use udfs_volume::{Partition, PartitionMap, Profile, VolumeFault};
 
 /// Whether the volume opens and has two partitions.

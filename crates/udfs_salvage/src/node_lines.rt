@@ -8,8 +8,7 @@ use crate::word_printing::{put_count, put_escaped, put_stamp, put_word};
 use crate::words::{kind_word, standing_word};
 use udfs_file::Kind;
 use udfs_osta::{Name, Stamp};
-use udfs_reading::Printer;
-use udfs_reading::Sink;
+use udfs_reading::{Printer, Sink};
 use udfs_tag::LbAddr;
 use udfs_walk::{Node, Path, Standing, Unnamed};
 

@@ -15,8 +15,7 @@ use crate::lines::{has_two, put_end, put_head, put_rereads, put_volume};
 use crate::node_printing::{put_all_unnamed, put_nodes};
 use crate::reports::Report;
 use crate::volumes::Volume;
-use udfs_reading::Printer;
-use udfs_reading::{Sink, WriteFault, write_all};
+use udfs_reading::{Printer, Sink, WriteFault, write_all};
 
 /// How many bytes of text are gathered before they are written.
 const PIECE: usize = 65_536;

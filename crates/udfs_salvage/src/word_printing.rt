@@ -8,8 +8,7 @@ ghost use Rattle.udfs_salvage.specs.NodeTexts.{word_text};
 
 use crate::words::Word;
 use udfs_osta::{Name, Stamp};
-use udfs_reading::Printer;
-use udfs_reading::Sink;
+use udfs_reading::{Printer, Sink};
 
 /// `front`, and then a number in decimal.
 pub(crate) fn put_count<W: Sink>(out: &mut Printer, sink: &mut W, front: &str, number: u64)

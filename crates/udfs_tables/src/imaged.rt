@@ -15,9 +15,8 @@ ghost use Rattle.udfs_common.proofs.IndexingLemmas.{states_are};
 
 use udfs_common::index_taking::reread_of;
 use udfs_common::refusal::Refusal;
-use udfs_index::{CopyFault, Cursor, END, Index, Stored, Unread};
+use udfs_index::{AnyStored, CopyFault, Cursor, END, Index, Stored, Unread};
 use udfs_lattice::{BlockStore, BlockTable, Fact};
-use udfs_index::AnyStored;
 use udfs_reading::{Sink, Taker, WriteFault};
 use udfs_rescue::{RunStatus, Statuses, write_image};
 

@@ -39,4 +39,3 @@ pub use paths::Path;
 pub use rereads::{bare_reread, bare_reread_by, reread};
 pub use standings::{Standing, Torn};
 pub use walks::{bare_nodes, bare_nodes_by, counted_nodes, counted_nodes_by, nodes};
-

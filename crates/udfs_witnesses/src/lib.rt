@@ -21,6 +21,6 @@ mod named;
 mod spread;
 
 pub use choosing::{MOST_WITNESSES, witnesses};
-pub use inserting::add_rising;
 pub use fronts::rising_front;
 pub use grouping::grouped;
+pub use inserting::add_rising;
