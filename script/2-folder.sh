@@ -29,7 +29,7 @@ interrupt() {
 # shellcheck disable=SC2317
 at_once() {
     [ -z "$reader" ] || kill -TERM "$reader" 2> /dev/null
-    [ -z "$child" ] || kill -TERM "$child" 2> /dev/null
+    [ -z "$child" ] || kill -TERM "$(cat work/child 2> /dev/null)" 2> /dev/null
     [ -z "$watcher" ] || kill "$watcher" 2> /dev/null
     clear_line
     note "ended at once by a signal"
@@ -53,12 +53,20 @@ await() {
     return "$status"
 }
 
-# attend COMMAND..: runs a command that Ctrl-C does not reach, while the script hears it
+# attend COMMAND..: runs a command that Ctrl-C does not reach, while the script hears it. Its status goes through a file, since a shell
+# whose wait a signal ends in the moment in which the command does forgets it.
 attend() {
-    "$@" < /dev/null 3>&- &
+    rm -f work/child work/ended
+    (
+        "$@" &
+        echo $! > work/child
+        wait $!
+        echo $? > work/ended
+    ) < /dev/null 3>&- &
     child=$!
     await "$child"
     status=$?
+    [ ! -s work/ended ] || read -r status < work/ended
     child=''
     return "$status"
 }
