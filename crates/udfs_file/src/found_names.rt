@@ -25,7 +25,7 @@ fn entry_ahead<B: BlockStore>(
     ensures found { IfOk result (λ found. B.tells → found ≡ entry_in cursor.now) }
     ensures fails { IsErrOf result GaveUp.Unread → B.fails }
 {
-    match cursor.ahead(Profile::Strict, spare, other)? {
+    match cursor.here(Profile::Strict, spare, other)? {
         Step::Id(pieces) => {
             if pieces.crc_length() == 0 {
                 return Ok(None);
@@ -56,7 +56,7 @@ fn next_in<B: BlockStore>(
             return Ok(None);
         }
         let found = entry_ahead(alloc, cursor, &mut spare, &mut other)?;
-        cursor.pass(4);
+        cursor.skip(4);
         match found {
             Some(entry) => return Ok(Some(entry)),
             None => {}

@@ -376,7 +376,7 @@ impl<'a, B: BlockStore> StoreCursor<'a, B> {
     }
 
     /// The next descriptor by these rules, or what ends the directory there, without moving.
-    pub(crate) fn ahead<'r>(
+    pub(crate) fn here<'r>(
         &self,
         profile: Profile,
         spare: &'r mut [u8; 2048],
@@ -399,8 +399,8 @@ impl<'a, B: BlockStore> StoreCursor<'a, B> {
         self.cells.holds(1)
     }
 
-    /// Moves past so many bytes, or to the end where fewer are left.
-    pub(crate) fn pass(&mut self, count: usize)
+    /// Moves past so many bytes, or to the end where fewer are left, and reads nothing.
+    pub(crate) fn skip(&mut self, count: usize)
         ensures { self.new ≡ drop count self.old }
     {
         self.cells = self.cells.behind(count);

@@ -14,20 +14,20 @@ returns-in_err-found-clause-stays g c = on_error (g.B.BlockStore.tells → entri
 
 pub returns-in-Some-clause-found : goal.returns-in-Some-clause-found
 returns-in-Some-clause-found g c told = sym (c.places.invariant.same told)
-    ∙ entry_found c.places.cursor c.pass.new.self c.in_ok-found.found c.in-Some.entry (sym c.has_left.ensures ∙ c.if-not-has_left.false) c.pass.ensures (c.in_ok-found.ensures.found told) c.in-Some.is
+    ∙ entry_found c.places.cursor c.skip.new.self c.in_ok-found.found c.in-Some.entry (sym c.has_left.ensures ∙ c.if-not-has_left.false) c.skip.ensures (c.in_ok-found.ensures.found told) c.in-Some.is
 
 pub returns-in-Some-clause-fewer : goal.returns-in-Some-clause-fewer
-returns-in-Some-clause-fewer g c = λ _. let less : length c.pass.new.self < length c.places.cursor = passed_fewer c.places.cursor c.pass.new.self (sym c.has_left.ensures ∙ c.if-not-has_left.false) c.pass.ensures in
+returns-in-Some-clause-fewer g c = λ _. let less : length c.skip.new.self < length c.places.cursor = passed_fewer c.places.cursor c.skip.new.self (sym c.has_left.ensures ∙ c.if-not-has_left.false) c.skip.ensures in
     omega (arith, c.places.invariant.fewer)
 
 pub places-smaller : goal.places-smaller
-places-smaller g c = passed_fewer c.places.cursor c.pass.new.self (sym c.has_left.ensures ∙ c.if-not-has_left.false) c.pass.ensures
+places-smaller g c = passed_fewer c.places.cursor c.skip.new.self (sym c.has_left.ensures ∙ c.if-not-has_left.false) c.skip.ensures
 
 pub places-preserved : goal.places-preserved
 places-preserved g c =
     let left : nat_le 1 (length c.places.cursor) ≡ true = sym c.has_left.ensures ∙ c.if-not-has_left.false in
-    let less : length c.pass.new.self < length c.places.cursor = passed_fewer c.places.cursor c.pass.new.self left c.pass.ensures in
+    let less : length c.skip.new.self < length c.places.cursor = passed_fewer c.places.cursor c.skip.new.self left c.skip.ensures in
     record {
-      same = λ told. sym (entry_passed c.places.cursor c.pass.new.self c.in_ok-found.found left c.pass.ensures (c.in_ok-found.ensures.found told) c.in-None.is) ∙ c.places.invariant.same told;
+      same = λ told. sym (entry_passed c.places.cursor c.skip.new.self c.in_ok-found.found left c.skip.ensures (c.in_ok-found.ensures.found told) c.in-None.is) ∙ c.places.invariant.same told;
       fewer = omega (arith, c.places.invariant.fewer);
     }
