@@ -1,10 +1,8 @@
 // SPDX-License-Identifier: MIT OR Apache-2.0
 //! Files that a crash may take at any moment, and one call that replaces a file whole or not at all.
 //!
-//! The moments of timestamps, as a file system counts them: microseconds since 1970-01-01T00:00:00Z.
-//!
-//! A stamp at UTC is a moment by itself. A local one is what a clock showed at an offset that was not written down, and
-//! [`moment_in`] takes the time zone of a clock, which a [`Zone`] gives, to find when that was.
+//! [`moment_in`] turns a timestamp into a moment as a file system counts it, in microseconds since 1970-01-01T00:00:00Z. A stamp at UTC is a moment
+//! by itself. A local one is what a clock showed at an offset that was not written down, and the time zone of a clock, a [`Zone`], tells when that was.
 #![tactic(auto)]
 
 mod files;

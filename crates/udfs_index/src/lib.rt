@@ -1,9 +1,8 @@
 // SPDX-License-Identifier: MIT OR Apache-2.0
 //! A table of blocks by index: for each known block it keeps not its bytes, but which input holds them and at what offset.
 //!
-//! An image with its mapfile as an input that is read at any position: the reading of the blocks that are known of it.
-//!
-//! What was read beside what was read before: whether both are of one disc.
+//! An image with its mapfile is such an input too: the reading of the blocks that are known of it ([`StoredPair`]). [`compare`] says how what was read
+//! agrees with what was read before, and so whether both are of one disc.
 #![tactic(auto)]
 
 mod any_stored;

@@ -1,13 +1,9 @@
 // SPDX-License-Identifier: MIT OR Apache-2.0
 //! Whether a volume is lawful, by what is known of its blocks.
 //!
-//! What lawful volumes are: their layouts, sparing tables and trees are those that the standard's tables give, and there is one with descriptors of many forms.
-//!
-//! Nothing here runs.
-//!
-//! What is read of descriptors, stated a second time: by the tables of ECMA-167 and UDF, each field at its byte position.
-//!
-//! Nothing here runs: each function is a law, that a decoder gives the fields of a table and no others.
+//! The rest are laws, which nothing runs: what descriptors say is stated a second time, by the tables of ECMA-167 and UDF, each field at its byte
+//! position, and a decoder gives the fields of a table and no others; the layouts, sparing tables and trees of lawful volumes are those that the
+//! tables give, and there is one with descriptors of many forms.
 #![tactic(auto)]
 
 pub mod answers;

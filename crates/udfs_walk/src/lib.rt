@@ -2,9 +2,8 @@
 //! The nodes of a volume of which some blocks are not known: every path with what is known of it, the entries that
 //! no name leads to, and the blocks to read again.
 //!
-//! What the nodes of a volume say of the tree that the standard reads from its complete bytes.
-//!
-//! Nothing here runs: each function is a law over one view, of which a part is known, and its complete one.
+//! Laws, which nothing runs, say what the nodes tell of the tree that the standard reads from the volume's complete bytes: each is over one view,
+//! of which a part is known, and its complete one.
 #![tactic(auto)]
 
 pub mod answers;
