@@ -27,10 +27,10 @@ use Rattle.udfs_salvage.specs.Found.{Found, volume_now}
 use Rattle.udfs_salvage.specs.Surveys.{full_entries, full_nodes}
 use Rattle.udfs_salvage.specs.Texts.{has_two as told_two}
 use Rattle.udfs_salvage.specs.declared.surveys.Survey as code_survey
-use Rattle.udfs_overview.specs.FoundLists.{found_lines}
+use Rattle.udfs_overview.specs.FoundLists.{found_lines, named}
 use Rattle.udfs_overview.specs.FullLists.{lost_and_found, lost_text}
-use Rattle.udfs_overview.specs.LostLists.{file_line, folder_at, is_folder_at, lost_lines, lost_word, node_line, place_column, tree_lines}
-use Rattle.udfs_overview.proofs.FoundPieces.{found_full}
+use Rattle.udfs_overview.specs.LostLists.{Named, file_line, folder_at, is_folder_at, lost_lines, lost_word, node_line, place_column, tree_lines}
+use Rattle.udfs_overview.proofs.FoundPieces.{found_full, named_full}
 use Rattle.udfs_overview.specs.LostTrees.{AreLost, AreLostBy, IsLostOf, IsUnfound, IsUnfoundBy}
 use Rattle.udfs_overview.specs.Searched.{Searched, rootless_now, searched_by, searched_of, without_root}
 use Rattle.udfs_overview.specs.declared.lost_found.Lost.{Lost}
@@ -55,15 +55,15 @@ pub folder_full : (v : View) (ns : List NodeFields) (o : Option LongAd) → fold
 folder_full v ns None = refl
 folder_full v ns (Some a) = first_full v (icb_of a) ns
 
-tree_full : (form : ListForm) (v : View) (two : Bool) (ns : List NodeFields) (t : LostTree) → tree_lines form v two ns t ≡ tree_lines form v two (map (full_node v) ns) t
+tree_full : (form : ListForm) (v : View) (two : Bool) (named : Named) (ns : List NodeFields) (t : LostTree) → tree_lines form v two named ns t ≡ tree_lines form v two named (map (full_node v) ns) t
 unfolding tree_lines
-tree_full form v two ns t = ap (λ place. flat_map (node_line form v (lost_word two t.folder) (place_column form place)) (map (full_node v) t.nodes.items)) (folder_full v ns (parent_at v t.folder))
+tree_full form v two named ns t = ap (λ place. flat_map (node_line form v (lost_word two t.folder) (place_column form place) (named t.folder)) (map (full_node v) t.nodes.items)) (folder_full v ns (parent_at v t.folder))
 
 -- ---- lines
 
-trees_full : (form : ListForm) (v : View) (two : Bool) (ns : List NodeFields) (trees : List LostTree) → flat_map (tree_lines form v two ns) trees ≡ flat_map (tree_lines form v two (map (full_node v) ns)) trees
-trees_full form v two ns [] = refl
-trees_full form v two ns (t ∷ trees) = λ i. tree_full form v two ns t i ++ trees_full form v two ns trees i
+trees_full : (form : ListForm) (v : View) (two : Bool) (named : Named) (ns : List NodeFields) (trees : List LostTree) → flat_map (tree_lines form v two named ns) trees ≡ flat_map (tree_lines form v two named (map (full_node v) ns)) trees
+trees_full form v two named ns [] = refl
+trees_full form v two named ns (t ∷ trees) = λ i. tree_full form v two named ns t i ++ trees_full form v two named ns trees i
 
 borrowed : (v : View) (files : List (Bor Unnamed)) → map (λ (file : Bor Unnamed). full_entry v file.now) files ≡ map (full_entry v) (map (λ (file : Bor Unnamed). file.now) files)
 borrowed v [] = refl
@@ -74,22 +74,19 @@ pub files_full : (v : View) (deleted : Bool) (trees : List LostTree) (es : List 
 files_full v deleted trees es files are = borrowed v files ∙ ap (map (full_entry v)) are ∙ sym (bare_entries_will_do v deleted trees es).files
 
 -- the lines of trees, and then those of files, are all; `ns`, `es` and `files` are as the code lends them
-lost_pieces : (form : ListForm) (deleted : Bool) (v : View) (two : Bool) (ns : List NodeFields) (es : List Unnamed) (trees : List LostTree) (files lent : List (Bor Unnamed)) → lent ≡ files
+pub lost_pieces : (form : ListForm) (deleted : Bool) (v : View) (two : Bool) (named : Named) (ns : List NodeFields) (es : List Unnamed) (trees : List LostTree) (files lent : List (Bor Unnamed)) → lent ≡ files
     → map (λ (file : Bor Unnamed). file.now) files ≡ lost_files v deleted trees es
-    → flat_map (tree_lines form v two ns) trees ++ flat_map (file_line form v two) (map (λ (file : Bor Unnamed). full_entry v file.now) lent)
-    ≡ lost_lines form deleted v two ns (map (full_entry v) es) trees
-lost_pieces form deleted v two ns es trees files lent lent_is are =
-    (λ i. flat_map (tree_lines form v two ns) trees ++ flat_map (file_line form v two) (map (λ (file : Bor Unnamed). full_entry v file.now) (lent_is i)))
-    ∙ (λ i. flat_map (tree_lines form v two ns) trees ++ flat_map (file_line form v two) (files_full v deleted trees es files are i))
+    → flat_map (tree_lines form v two named ns) trees ++ flat_map (file_line form v two named) (map (λ (file : Bor Unnamed). full_entry v file.now) lent)
+    ≡ lost_lines form deleted v two named ns (map (full_entry v) es) trees
+lost_pieces form deleted v two named ns es trees files lent lent_is are =
+    (λ i. flat_map (tree_lines form v two named ns) trees ++ flat_map (file_line form v two named) (map (λ (file : Bor Unnamed). full_entry v file.now) (lent_is i)))
+    ∙ (λ i. flat_map (tree_lines form v two named ns) trees ++ flat_map (file_line form v two named) (files_full v deleted trees es files are i))
 
--- and the names that are found behind these
-pub lost_and_found_pieces : (form : ListForm) (deleted : Bool) (v : View) (two : Bool) (ns : List NodeFields) (es : List Unnamed) (trees : List LostTree) (files lent : List (Bor Unnamed)) → lent ≡ files
-    → map (λ (file : Bor Unnamed). file.now) files ≡ lost_files v deleted trees es
-    → flat_map (tree_lines form v two ns) trees ++ (flat_map (file_line form v two) (map (λ (file : Bor Unnamed). full_entry v file.now) lent) ++ found_lines form deleted v two ns (map (full_entry v) es) trees)
-    ≡ lost_and_found form deleted v two ns (map (full_entry v) es) trees
-lost_and_found_pieces form deleted v two ns es trees files lent lent_is are =
-    sym (append_assoc (flat_map (tree_lines form v two ns) trees) (flat_map (file_line form v two) (map (λ (file : Bor Unnamed). full_entry v file.now) lent)) (found_lines form deleted v two ns (map (full_entry v) es) trees))
-    ∙ ap (λ l. l ++ found_lines form deleted v two ns (map (full_entry v) es) trees) (lost_pieces form deleted v two ns es trees files lent lent_is are)
+-- of nodes without their blocks and holes the same is listed
+both_full : (form : ListForm) (deleted : Bool) (v : View) (two : Bool) (ns : List NodeFields) (es : List Unnamed) (ts : List LostTree) → lost_and_found form deleted v two ns es ts ≡ lost_and_found form deleted v two (map (full_node v) ns) es ts
+both_full form deleted v two ns es ts =
+    (λ i. (trees_full form v two (named form deleted v ns es ts) ns ts i ++ flat_map (file_line form v two (named form deleted v ns es ts)) (lost_files v deleted ts es)) ++ found_full form deleted v two ns es ts i)
+    ∙ (λ i. lost_lines form deleted v two (named_full form deleted v ns es ts i) (map (full_node v) ns) es ts ++ found_lines form deleted v two (map (full_node v) ns) es ts)
 
 -- where the volume opens, seen by the table
 pub lost_seen : (form : ListForm) (deleted : Bool) (M : Blocks) (answer : Answer Found) (f : Found) (v : View) (two : Bool) (ns nodes : List NodeFields) (es entries : List Unnamed) (ts trees : List LostTree) (closed : Option Searched)
@@ -97,7 +94,7 @@ pub lost_seen : (form : ListForm) (deleted : Bool) (M : Blocks) (answer : Answer
     → lost_and_found form deleted v two ns (map (full_entry v) es) ts ≡ lost_text form deleted (searched_by closed M answer (full_entries M answer entries)) (full_nodes M answer nodes) trees
 unfolding lost_text
 lost_seen form deleted M answer f v two ns nodes es entries ts trees closed opened seen is nodes_are entries_are trees_are =
-    (λ i. (trees_full form v two ns ts i ++ flat_map (file_line form v two) (lost_files v deleted ts (map (full_entry v) es))) ++ found_full form deleted v two ns (map (full_entry v) es) ts i)
+    both_full form deleted v two ns (map (full_entry v) es) ts
     ∙ (λ i. lost_and_found form deleted (seen i) (same i) (map (full_node (seen i)) (nodes_are i)) (map (full_entry (seen i)) (entries_are i)) (trees_are i))
     ∙ (λ i. lost_text form deleted (searched_by closed M (sym opened i) (full_entries M (sym opened i) entries)) (full_nodes M (sym opened i) nodes) trees)
   where

@@ -2,13 +2,14 @@
 //! runs out, a part may be appended.
 
 ghost use Rattle.std.specs.Prelude.{◌≡◌, ◌++◌, OnErr, OnOk, IfOk, IsErrOf, Some, option_map};
+ghost use Rattle.std.specs.List.{list_any};
 ghost use Rattle.std.specs.String.{string_bytes};
 ghost use Rattle.udfs_space.specs.Views.{view_by};
 ghost use Rattle.udfs_walk.specs.Bare.{full_entry, full_node};
 ghost use Rattle.udfs_walk.specs.Targets.{is_icb};
 ghost use Rattle.udfs_walk.specs.UnnamedEntries.{names};
 ghost use Rattle.udfs_lost.specs.Folders.{is_directory};
-ghost use Rattle.udfs_overview.specs.LostLists.{file_line, folder_at, in_member, in_place, is_folder_at, lost_columns, lost_line, lost_members, lost_object, lost_path, lost_row, lost_word, node_line, own_place, place_column, place_of};
+ghost use Rattle.udfs_overview.specs.LostLists.{file_line, folder_at, in_member, in_place, is_folder_at, is_own, lost_columns, lost_line, lost_members, lost_object, lost_path, lost_row, lost_word, node_line, own_place, place_column, place_of};
 
 use crate::node_columns::{is_whole, push_safe_path, push_told};
 use crate::node_list::{ListForm, push_end, push_tail};
@@ -19,7 +20,7 @@ use std::fmt::Write;
 use udfs_file::Kind;
 use udfs_file::file_sets::address_fault;
 use udfs_lattice::{BlockStore, GaveUp, ReadFault};
-use udfs_lost::parent_by;
+use udfs_lost::{Met, parent_by};
 use udfs_osta::{OutOfMemory, Stamp};
 use udfs_space::StoreView;
 use udfs_tag::{LbAddr, LongAd};
@@ -285,7 +286,14 @@ pub(crate) fn push_lost_line(
     push_end(text, form)
 }
 
-/// The line of a node of a lost tree, which is given without its blocks and holes, if it is asked for.
+/// Whether a path is that of the folder itself, which is named elsewhere.
+fn is_own(named: bool, path: &Path) -> bool
+    ensures { result ≡ is_own named path.now }
+{
+    named && path.is_empty()
+}
+
+/// The line of a node of a lost tree, which is given without its blocks and holes, if it is asked for and the node is not the tree's folder, named elsewhere.
 #[tactic(auto, unfolding(crate::specs::LostLists::node_line))]
 pub(crate) fn push_node_line<B: BlockStore>(
     alloc: Global,
@@ -294,11 +302,15 @@ pub(crate) fn push_node_line<B: BlockStore>(
     view: StoreView<'_, B>,
     word: &str,
     place: &str,
+    named: bool,
     node: &Node,
 ) -> Result<(), GaveUp>
-    ensures line { OnOk result (B.tells → string_bytes text.new ≡ string_bytes text.old ++ node_line form (view_by B.states view.entry) word.now place.now (full_node (view_by B.states view.entry) node.now)) }
+    ensures line { OnOk result (B.tells → string_bytes text.new ≡ string_bytes text.old ++ node_line form (view_by B.states view.entry) word.now place.now named (full_node (view_by B.states view.entry) node.now)) }
     ensures fails { IsErrOf result GaveUp.Unread → B.fails }
 {
+    if is_own(named, &node.path) {
+        return Ok(());
+    }
     let full = full_standing_by(alloc, view, node.icb, &node.standing)?;
     if form.torn && is_whole(&full) {
         return Ok(());
@@ -313,7 +325,7 @@ pub(crate) fn push_node_line<B: BlockStore>(
     Ok(())
 }
 
-/// The line of a lost file, which is given without its blocks and holes, if it is asked for.
+/// The line of a lost file, which is given without its blocks and holes, if it is asked for and the file is not named elsewhere.
 #[tactic(auto, unfolding(crate::specs::LostLists::file_line))]
 pub(crate) fn push_file_line<B: BlockStore>(
     alloc: Global,
@@ -321,11 +333,15 @@ pub(crate) fn push_file_line<B: BlockStore>(
     form: ListForm,
     view: StoreView<'_, B>,
     two: bool,
+    named: &Met,
     file: &Unnamed,
 ) -> Result<(), GaveUp>
-    ensures line { OnOk result (B.tells → string_bytes text.new ≡ string_bytes text.old ++ file_line form (view_by B.states view.entry) two (full_entry (view_by B.states view.entry) file.now)) }
+    ensures line { OnOk result (B.tells → string_bytes text.new ≡ string_bytes text.old ++ file_line form (view_by B.states view.entry) two (λ icb. list_any (is_icb icb) named.now) (full_entry (view_by B.states view.entry) file.now)) }
     ensures fails { IsErrOf result GaveUp.Unread → B.fails }
 {
+    if named.contains(file.address()) {
+        return Ok(());
+    }
     let full = full_standing_by(alloc, view, file.icb(), &file.standing)?;
     if form.torn && is_whole(&full) {
         return Ok(());

@@ -1,13 +1,16 @@
 //! The list of lost folders and lost files, behind that of the nodes.
 
 ghost use Rattle.std.specs.Prelude.{IsErrOf, flat_map, map, option_map};
+ghost use Rattle.std.specs.List.{list_any};
 ghost use Rattle.std.specs.String.{string_bytes};
 ghost use Rattle.udfs_space.specs.Views.{view_by};
 ghost use Rattle.udfs_walk.specs.Bare.{full_entry, full_node};
+ghost use Rattle.udfs_walk.specs.Targets.{Icb, is_icb};
 ghost use Rattle.udfs_salvage.specs.StorePrinting.{PassesOnBy, PrintsBy};
 ghost use Rattle.udfs_salvage.specs.Surveys.{survey_by};
+ghost use Rattle.udfs_overview.specs.FoundLists.{named};
 ghost use Rattle.udfs_overview.specs.FullLists.{full_list, lost_and_found, lost_text};
-ghost use Rattle.udfs_overview.specs.LostLists.{file_line, node_line, tree_lines};
+ghost use Rattle.udfs_overview.specs.LostLists.{file_line, lost_lines, node_line, tree_lines};
 ghost use Rattle.udfs_overview.specs.Searched.{rootless_now, searched_now};
 
 use crate::found_list::put_found;
@@ -15,8 +18,8 @@ use crate::lost_found::Lost;
 use crate::lost_lines::{place_column, push_file_line, push_lost_word, push_node_line};
 use crate::node_list::{ListForm, put_list};
 use std::alloc::Global;
-use udfs_lattice::BlockStore;
-use udfs_lost::{LostTree, lost_files_by};
+use udfs_lattice::{BlockStore, GaveUp};
+use udfs_lost::{LostTree, Met, found_entries, lost_files_by, unplaced_by};
 use udfs_reading::Sink;
 use udfs_salvage::{PrintError, Survey, Volume, flush, has_two_partitions, pass_on};
 use udfs_space::StoreView;
@@ -31,13 +34,14 @@ fn put_node<B: BlockStore, W: Sink>(
     view: StoreView<'_, B>,
     word: &str,
     place: &str,
+    named: bool,
     node: &Node,
 ) -> Result<(), PrintError>
     ensures printed { B.tells → PassesOnBy (W.stream sink.old) (W.stream sink.new) (string_bytes text.old) (string_bytes text.new)
-        (node_line form (view_by B.states view.entry) word.now place.now (full_node (view_by B.states view.entry) node.now)) result }
+        (node_line form (view_by B.states view.entry) word.now place.now named (full_node (view_by B.states view.entry) node.now)) result }
     ensures fails { IsErrOf result PrintError.Unread → B.fails }
 {
-    push_node_line(alloc, text, form, view, word, place, node)?;
+    push_node_line(alloc, text, form, view, word, place, named, node)?;
     pass_on(text, sink)?;
     Ok(())
 }
@@ -51,14 +55,15 @@ fn put_nodes<B: BlockStore, W: Sink>(
     view: StoreView<'_, B>,
     word: &str,
     place: &str,
+    named: bool,
     nodes: &[Node],
 ) -> Result<(), PrintError>
     ensures printed { B.tells → PassesOnBy (W.stream sink.old) (W.stream sink.new) (string_bytes text.old) (string_bytes text.new)
-        (flat_map (node_line form (view_by B.states view.entry) word.now place.now) (map (full_node (view_by B.states view.entry)) nodes.now)) result }
+        (flat_map (node_line form (view_by B.states view.entry) word.now place.now named) (map (full_node (view_by B.states view.entry)) nodes.now)) result }
     ensures fails { IsErrOf result PrintError.Unread → B.fails }
 {
     for node in nodes {
-        put_node(alloc, text, sink, form, view, word, place, node)?;
+        put_node(alloc, text, sink, form, view, word, place, named, node)?;
     }
     Ok(())
 }
@@ -72,17 +77,29 @@ fn put_tree<B: BlockStore, W: Sink>(
     form: ListForm,
     view: StoreView<'_, B>,
     two: bool,
+    named: &Met,
     nodes: &[Node],
     tree: &LostTree,
 ) -> Result<(), PrintError>
     ensures printed { B.tells → PassesOnBy (W.stream sink.old) (W.stream sink.new) (string_bytes text.old) (string_bytes text.new)
-        (tree_lines form (view_by B.states view.entry) two nodes.now tree.now) result }
+        (tree_lines form (view_by B.states view.entry) two (λ icb. list_any (is_icb icb) named.now) nodes.now tree.now) result }
     ensures fails { IsErrOf result PrintError.Unread → B.fails }
 {
     let mut word = String::new(alloc);
     push_lost_word(&mut word, two, tree.folder)?;
     let place = place_column(alloc, form, view, nodes, tree.folder)?;
-    put_nodes(alloc, text, sink, form, view, &word, &place, &tree.nodes)
+    let named = named.contains(tree.folder);
+    put_nodes(
+        alloc,
+        text,
+        sink,
+        form,
+        view,
+        &word,
+        &place,
+        named,
+        &tree.nodes,
+    )
 }
 
 /// The lines of lost trees.
@@ -93,15 +110,16 @@ fn put_trees<B: BlockStore, W: Sink>(
     form: ListForm,
     view: StoreView<'_, B>,
     two: bool,
+    named: &Met,
     nodes: &[Node],
     trees: &[LostTree],
 ) -> Result<(), PrintError>
     ensures printed { B.tells → PassesOnBy (W.stream sink.old) (W.stream sink.new) (string_bytes text.old) (string_bytes text.new)
-        (flat_map (tree_lines form (view_by B.states view.entry) two nodes.now) trees.now) result }
+        (flat_map (tree_lines form (view_by B.states view.entry) two (λ icb. list_any (is_icb icb) named.now) nodes.now) trees.now) result }
     ensures fails { IsErrOf result PrintError.Unread → B.fails }
 {
     for tree in trees {
-        put_tree(alloc, text, sink, form, view, two, nodes, tree)?;
+        put_tree(alloc, text, sink, form, view, two, named, nodes, tree)?;
     }
     Ok(())
 }
@@ -114,13 +132,14 @@ fn put_file<B: BlockStore, W: Sink>(
     form: ListForm,
     view: StoreView<'_, B>,
     two: bool,
+    named: &Met,
     file: &Unnamed,
 ) -> Result<(), PrintError>
     ensures printed { B.tells → PassesOnBy (W.stream sink.old) (W.stream sink.new) (string_bytes text.old) (string_bytes text.new)
-        (file_line form (view_by B.states view.entry) two (full_entry (view_by B.states view.entry) file.now)) result }
+        (file_line form (view_by B.states view.entry) two (λ icb. list_any (is_icb icb) named.now) (full_entry (view_by B.states view.entry) file.now)) result }
     ensures fails { IsErrOf result PrintError.Unread → B.fails }
 {
-    push_file_line(alloc, text, form, view, two, file)?;
+    push_file_line(alloc, text, form, view, two, named, file)?;
     pass_on(text, sink)?;
     Ok(())
 }
@@ -133,19 +152,65 @@ fn put_files<B: BlockStore, W: Sink>(
     form: ListForm,
     view: StoreView<'_, B>,
     two: bool,
+    named: &Met,
     files: &[&Unnamed],
 ) -> Result<(), PrintError>
     ensures printed { B.tells → PassesOnBy (W.stream sink.old) (W.stream sink.new) (string_bytes text.old) (string_bytes text.new)
-        (flat_map (file_line form (view_by B.states view.entry) two) (map (λ file. full_entry (view_by B.states view.entry) file.now) files.now)) result }
+        (flat_map (file_line form (view_by B.states view.entry) two (λ icb. list_any (is_icb icb) named.now)) (map (λ file. full_entry (view_by B.states view.entry) file.now) files.now)) result }
     ensures fails { IsErrOf result PrintError.Unread → B.fails }
 {
     for file in files {
-        put_file(alloc, text, sink, form, view, two, file)?;
+        put_file(alloc, text, sink, form, view, two, named, file)?;
     }
     Ok(())
 }
 
-/// All lines of lost trees and lost files in a view, of a volume that has these nodes, and of names that are found behind holes.
+/// The information control blocks of entries that are listed by a name which is found behind a hole.
+fn named_in<B: BlockStore>(
+    alloc: Global,
+    form: ListForm,
+    deleted: bool,
+    view: StoreView<'_, B>,
+    nodes: &[Node],
+    entries: &[Unnamed],
+    trees: &[LostTree],
+) -> Result<Met, GaveUp>
+    ensures value { IfOk result (λ met. B.tells → (icb : Icb) → list_any (is_icb icb) met ≡ named form deleted (view_by B.states view.entry) nodes.now (map (full_entry (view_by B.states view.entry)) entries.now) trees.now icb) }
+    ensures fails { IsErrOf result GaveUp.Unread → B.fails }
+{
+    if form.paths {
+        return Ok(Met::none(alloc));
+    }
+    let lost = unplaced_by(alloc, view, deleted, trees, entries)?;
+    let named = found_entries(alloc, view, &lost, nodes, trees)?;
+    Ok(named)
+}
+
+/// The lines of lost trees and lost files in a view, of a volume that has these nodes: not of the entries that are named elsewhere.
+fn put_by_block<B: BlockStore, W: Sink>(
+    alloc: Global,
+    text: &mut String,
+    sink: &mut W,
+    form: ListForm,
+    deleted: bool,
+    view: StoreView<'_, B>,
+    two: bool,
+    named: &Met,
+    nodes: &[Node],
+    entries: &[Unnamed],
+    trees: &[LostTree],
+) -> Result<(), PrintError>
+    ensures printed { B.tells → PassesOnBy (W.stream sink.old) (W.stream sink.new) (string_bytes text.old) (string_bytes text.new)
+        (lost_lines form deleted (view_by B.states view.entry) two (λ icb. list_any (is_icb icb) named.now) nodes.now (map (full_entry (view_by B.states view.entry)) entries.now) trees.now) result }
+    ensures fails { IsErrOf result PrintError.Unread → B.fails }
+{
+    let files = lost_files_by(alloc, view, deleted, trees, entries)?;
+    put_trees(alloc, text, sink, form, view, two, named, nodes, trees)?;
+    put_files(alloc, text, sink, form, view, two, named, &files)
+}
+
+/// All lines of lost trees and lost files in a view, of a volume that has these nodes, and of names that are found behind holes: each entry by the names that are found
+/// of it, or else by its block.
 fn put_lost_in<B: BlockStore, W: Sink>(
     alloc: Global,
     text: &mut String,
@@ -162,9 +227,10 @@ fn put_lost_in<B: BlockStore, W: Sink>(
         (lost_and_found form deleted (view_by B.states view.entry) two nodes.now (map (full_entry (view_by B.states view.entry)) entries.now) trees.now) result }
     ensures fails { IsErrOf result PrintError.Unread → B.fails }
 {
-    let files = lost_files_by(alloc, view, deleted, trees, entries)?;
-    put_trees(alloc, text, sink, form, view, two, nodes, trees)?;
-    put_files(alloc, text, sink, form, view, two, &files)?;
+    let named = named_in(alloc, form, deleted, view, nodes, entries, trees)?;
+    put_by_block(
+        alloc, text, sink, form, deleted, view, two, &named, nodes, entries, trees,
+    )?;
     put_found(
         alloc, text, sink, form, deleted, view, two, nodes, entries, trees,
     )
@@ -260,8 +326,9 @@ fn put_both<B: BlockStore, W: Sink>(
 ///
 /// Behind these, unless only paths are asked for, come the names that are found behind holes of torn folders, as `found_names` of
 /// `udfs_lost` finds them, of lost files and of folders from which a lost tree is walked: of those folders that are nodes, by their
-/// paths, and of those in lost trees. Before the last column, `found`, is what the entry is called in the lines before. Such a name is
-/// evidence and no proof.
+/// paths, and of those in lost trees. Before the last column, `found`, is what the entry is called by its block. What has such a line
+/// has none of its own in the lines before, where what is in a folder stands below what it is called. Such a name is evidence and no
+/// proof.
 ///
 /// # Errors
 ///

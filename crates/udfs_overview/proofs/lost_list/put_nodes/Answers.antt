@@ -13,7 +13,7 @@ returns-in_err-put_node-clause-printed g c told =
     let v = view_by g.B.BlockStore.states c.args.view in
     let f = full_node v in
     let ns = c.args.nodes.now in
-    rw (p.1, p.2) (stopped_item (node_line c.args.form v c.args.word.now c.args.place.now) (map f ns) c.loop-node.node-index (f c.node-item.result) (full_length f ns c.loop-node.node-index c.loop-node-test.true)
+    rw (p.1, p.2) (stopped_item (node_line c.args.form v c.args.word.now c.args.place.now c.args.named) (map f ns) c.loop-node.node-index (f c.node-item.result) (full_length f ns c.loop-node.node-index c.loop-node-test.true)
     (full_at f ns c.loop-node.node-index c.node-item.result c.loop-node-test.true c.node-item.is) (c.loop-node.invariant told) (c.in_err-put_node.ensures.printed told))
 
 pub loop-node-preserved : goal.loop-node-preserved
@@ -21,5 +21,5 @@ loop-node-preserved g c told =
     let v = view_by g.B.BlockStore.states c.args.view in
     let f = full_node v in
     let ns = c.args.nodes.now in
-    passed_item (node_line c.args.form v c.args.word.now c.args.place.now) (map f ns) c.loop-node.node-index (f c.node-item.result) (full_length f ns c.loop-node.node-index c.loop-node-test.true)
+    passed_item (node_line c.args.form v c.args.word.now c.args.place.now c.args.named) (map f ns) c.loop-node.node-index (f c.node-item.result) (full_length f ns c.loop-node.node-index c.loop-node-test.true)
     (full_at f ns c.loop-node.node-index c.node-item.result c.loop-node-test.true c.node-item.is) (c.loop-node.invariant told) (c.in_ok-put_node.ensures.printed told)

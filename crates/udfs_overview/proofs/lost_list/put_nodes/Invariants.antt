@@ -12,4 +12,4 @@ abbrev pub invariant-loop-node : goal.invariant-loop-node
 invariant-loop-node g l =
     let W = g.W.Sink in
     g.B.BlockStore.tells → Passed (W.stream l.fn.sink) (W.stream l.sink) (string_bytes l.fn.text) (string_bytes l.text)
-    (flat_map (node_line l.form (view_by g.B.BlockStore.states l.view) l.word l.place) (take l.node-index (map (full_node (view_by g.B.BlockStore.states l.view)) l.nodes)))
+    (flat_map (node_line l.form (view_by g.B.BlockStore.states l.view) l.word l.place l.named) (take l.node-index (map (full_node (view_by g.B.BlockStore.states l.view)) l.nodes)))
