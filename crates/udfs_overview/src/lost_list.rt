@@ -318,7 +318,7 @@ fn put_both<B: BlockStore, W: Sink>(
     put_lost(alloc, text, sink, survey, form, deleted, lost)
 }
 
-/// Writes the lines that [`write_list`](crate::write_list) writes, and then a line for each node of the trees of lost folders, which
+/// Writes the lines that [`write_list_by`](crate::write_list_by) writes, and then a line for each node of the trees of lost folders, which
 /// [`find_lost`](crate::find_lost) found of the survey, and for each lost file, which is a file that no known name leads to, not even
 /// in them. With `deleted` those of link count 0 are files too. Paths begin with `lost:` and the logical block of the folder's or the
 /// file's entry, with the partition reference and a `-` before it where there are two partitions. The folder's own path ends with `/`;
