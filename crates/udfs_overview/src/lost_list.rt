@@ -1,6 +1,6 @@
 //! The list of lost folders and lost files, behind that of the nodes.
 
-ghost use Rattle.std.specs.Prelude.{IfOk, IsErrOf, flat_map, map, option_map};
+ghost use Rattle.std.specs.Prelude.{◌≡◌, IfOk, IsErrOf, flat_map, map, option_map};
 ghost use Rattle.std.specs.List.{list_any};
 ghost use Rattle.std.specs.String.{string_bytes};
 ghost use Rattle.udfs_space.specs.Views.{view_by};
