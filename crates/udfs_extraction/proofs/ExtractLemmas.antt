@@ -23,6 +23,19 @@ use Rattle.udfs_extraction.specs.Stopping.{IfStopped}
 use Rattle.udfs_extraction.specs.declared.stopping.Stop.{Stop}
 use Rattle.udfs_extraction.specs.declared.stopping.Stop.TheVariants as stops
 
+-- nothing was made: memory ran out, or what is lost was not found
+pub unfound : (deleted : Bool) (trees : Option (Bor (List ℕ))) (blocks : Blocks) (report told : Report) (e : NodesGaveUp) (Kept Quiet : Type 0) (More : Refusal → Type 0) (Others : Type 0) → Kept → Quiet → told ≡ report
+    → IfTold (λ error. (error ≡ errors.OutOfMemory) ⊎ MatchOption trees ⊥ (λ folder. IsUnfoundBy deleted blocks told error)) e
+    → IfStopped (λ refusal. (Kept × Quiet × ((refusal ≡ refusals.Memory alloc_error) ⊎ MatchOption trees ⊥ (λ folder. IsUnsearched deleted blocks report refusal))) ⊎ More refusal) ((Kept × Quiet) ⊎ Others) (lost_stop_of e)
+unfound deleted trees blocks report told TooManyPaths Kept Quiet More Others kept quiet place_is (inl memory) = let bad : errors.TooManyPaths ≡ errors.OutOfMemory = memory in absurd (let no : ⊥ = cc in no)
+unfound deleted trees blocks report told TooManyPaths Kept Quiet More Others kept quiet place_is (inr why) = inl (kept, quiet, inr (by trees why))
+  where
+    by : (o : Option (Bor (List ℕ))) → MatchOption o ⊥ (λ folder. IsUnfoundBy deleted blocks told errors.TooManyPaths) → MatchOption o ⊥ (λ folder. IsUnsearched deleted blocks report refusals.TooManyPaths)
+    by None never = never
+    by (Some folder) is = record { error = errors.TooManyPaths; because = subst (λ (m : Report). IsUnfoundBy deleted blocks m errors.TooManyPaths) place_is is; told = refl }
+unfound deleted trees blocks report told OutOfMemory Kept Quiet More Others kept quiet place_is why = inl (kept, quiet, inl refl)
+unfound deleted trees blocks report told Unread Kept Quiet More Others kept quiet place_is why = inl (kept, quiet)
+
 module _ {F I M S W O : Type 0} (reach : Reach F I M S W) (stream : O → Stream) (r : ExtractRequest) (place : Option (List ℕ)) where
   abbrev Refuses : F → F → O → O → ℕ → Blocks → Report → Refusal → Type 0
   Refuses old new before after last blocks report = ListedRefused reach stream r place old new before after last blocks report
@@ -91,19 +104,6 @@ module _ {F I M S W O : Type 0} (reach : Reach F I M S W) (stream : O → Stream
           → MatchOption o ⊥ (λ folder. CutBeyond reach stream r place folder.now old new before after last blocks report)
       by None never = never
       by (Some folder) at = record { one = one; two = two; three = three; between = between; beyond = beyond; nodes_good = nodes_good; lost_good = lost_good; nodes = nodes; lost = lost; trees = subst (λ (m : Report). TreesCut reach.files reach.output r.deleted r.short_names folder.now new (stream beyond) (stream after) blocks m) place_is at }
-
-  -- nothing was made: memory ran out, or what is lost was not found
-  pub unfound : (old : F) (before : O) (last : ℕ) (blocks : Blocks) (report told : Report) (e : NodesGaveUp) → told ≡ lost_report r.volume.profile blocks last report
-      → IfTold (λ error. (error ≡ errors.OutOfMemory) ⊎ MatchOption r.trees ⊥ (λ folder. IsUnfoundBy r.deleted blocks told error)) e
-      → IfStopped (Refuses old old before before last blocks report) (Cuts old old before before last blocks report) (lost_stop_of e)
-  unfound old before last blocks report told TooManyPaths place_is (inl memory) = let bad : errors.TooManyPaths ≡ errors.OutOfMemory = memory in absurd (let no : ⊥ = cc in no)
-  unfound old before last blocks report told TooManyPaths place_is (inr why) = inl (refl, refl, inr (by r.trees why))
-    where
-      by : (o : Option (Bor (List ℕ))) → MatchOption o ⊥ (λ folder. IsUnfoundBy r.deleted blocks told errors.TooManyPaths) → MatchOption o ⊥ (λ folder. IsUnsearched r.deleted blocks (lost_report r.volume.profile blocks last report) refusals.TooManyPaths)
-      by None never = never
-      by (Some folder) is = record { error = errors.TooManyPaths; because = subst (λ (m : Report). IsUnfoundBy r.deleted blocks m errors.TooManyPaths) place_is is; told = refl }
-  unfound old before last blocks report told OutOfMemory place_is why = inl (refl, refl, inl refl)
-  unfound old before last blocks report told Unread place_is why = inl (refl, refl)
 
   -- what is said of the store's states is said of the table that it holds
   pub stopped_table : (old new : F) (before after : O) (listed last : ℕ) (blocks : Blocks) (t : Table) (report : Report) (stop : Stop) → listed ≡ last → blocks ≡ state_of t → IsReportBy r.volume.profile blocks last report

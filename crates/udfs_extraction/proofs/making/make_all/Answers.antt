@@ -1,4 +1,4 @@
-use Rattle.std.proofs.Common.{◌≡◌, ◌∙◌, ap, inl, inr, refl, rules, subst, sym}
+use Rattle.std.proofs.Common.{◌≡◌, ◌∙◌, ap, inl, inr, option_map, refl, rules, string_bytes, subst, sym}
 use Rattle.udfs_lattice.specs.Tables.{state_of}
 use Rattle.udfs_lattice.specs.Volumes.{Blocks}
 use Rattle.udfs_salvage.proofs.StoreAnswers.{states_same}
@@ -34,7 +34,7 @@ returns-in-Err-clause-why g c known t holds =
     let same = states_same (states c.args.blocks.now) t (g.met.B.ReportStore.held c.args.blocks.now t holds) in
     let listed : states l.table.now ≡ state_of t = ap states c.in-Ok.ensures.of.0 ∙ same in
     let is_report = subst (λ (bs : Blocks). IsReportBy c.args.request.now.volume.profile bs c.args.last (listing_by states l)) (sym (ap states c.in-Ok.ensures.of.0)) (c.in-Ok.ensures.report known) in
-    stopped_table _ g.O.Sink.stream c.args.request.now _ _ _ _ _ l.last c.args.last (states l.table.now) t (listing_by states l) c.in-Err.stop c.in-Ok.ensures.of.1 listed is_report (c.in-Err.ensures.why known)
+    stopped_table _ g.O.Sink.stream c.args.request.now (option_map string_bytes c.args.place.now) c.args.files.now c.make_listed.new.files c.args.out.now c.make_listed.new.out l.last c.args.last (states l.table.now) t (listing_by states l) c.in-Err.stop c.in-Ok.ensures.of.1 listed is_report (c.in-Err.ensures.why known)
 
 pub returns-then-not-is_steady-clause-why : goal.returns-then-not-is_steady-clause-why
 returns-then-not-is_steady-clause-why g c known t holds =

@@ -1,20 +1,27 @@
-use Rattle.std.proofs.Common.{◌≡◌, ap, inl, inr, refl, subst}
+use Rattle.std.proofs.Common.{◌≡◌, ◌∙◌, Err, ap, inl, inr, refl, sym}
 use Rattle.udfs_salvage.specs.Listings.{listing_by}
 use Rattle.udfs_extraction.specs.LostPlaces.{lost_report}
+use Rattle.udfs_extraction.specs.declared.stopping.Stop.TheVariants.{Unread}
 use Rattle.udfs_extraction.proofs.ExtractLemmas.{adding_stops, beyond_stops, listing_stops, made, unfound}
 use Rattle.udfs_extraction.proofs.LostLemmas.{nothing_added}
-use Rattle.udfs_extraction.proofs.StopLemmas.{stopped_is, unread_is}
+use Rattle.udfs_extraction.proofs.StopLemmas.{stopped_is, unread_is, unread_of}
 use Rattle.udfs_extraction.proofs.making.make_listed.Goals as goal
 
 pub returns-in-Err-clause-why : goal.returns-in-Err-clause-why
 returns-in-Err-clause-why g c known =
     let states = g.B.BlockStore.states in
     let l = c.args.listing in
+    let r = c.args.request.now in
     stopped_is _ _ _ _ c.unsearched.ensures
-    (unfound _ g.O.Sink.stream c.args.request.now _ _ _ l.last (states l.table.now) (listing_by states l) _ c.in-Err.error (ap (λ p. lost_report p (states l.table.now) l.last (listing_by states l)) c.requires.rules) (c.in-Err.ensures.refused known))
+    (unfound r.deleted r.trees (states l.table.now) (lost_report r.volume.profile (states l.table.now) l.last (listing_by states l)) (lost_report l.profile (states l.table.now) l.last (listing_by states l)) c.in-Err.error _ _ _ _ refl refl (ap (λ p. lost_report p (states l.table.now) l.last (listing_by states l)) c.requires.rules) (c.in-Err.ensures.refused known))
 
 pub returns-in-Err-clause-no_node : goal.returns-in-Err-clause-no_node
 returns-in-Err-clause-no_node g c i is = refl
+
+pub returns-in-Err-clause-fails : goal.returns-in-Err-clause-fails
+returns-in-Err-clause-fails g c is no =
+    let unread : c.unsearched.result ≡ Unread = cc in
+    no (c.in-Err.ensures.fails (ap Err (unread_of c.in-Err.error (sym c.unsearched.ensures ∙ unread))))
 
 pub returns-in-Err-clause-spares : goal.returns-in-Err-clause-spares
 returns-in-Err-clause-spares g c = inl refl

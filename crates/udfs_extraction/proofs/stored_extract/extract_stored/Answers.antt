@@ -10,6 +10,9 @@ use Rattle.udfs_extraction.proofs.StoredLemmas.{reread_no_node}
 use Rattle.udfs_extraction.proofs.ToldVolumes.{of_taken}
 use Rattle.udfs_extraction.proofs.stored_extract.extract_stored.Goals as goal
 
+pub make_all-requires : goal.make_all-requires
+make_all-requires g c = record { told = λ told. any_told g.F.Stored.Stored.content (g.met.F.Files.stored_told told) }
+
 pub returns-in-Err-clause-why : goal.returns-in-Err-clause-why
 returns-in-Err-clause-why g c = inl (refl, refl, inr c.in-Err.ensures.refused)
 
