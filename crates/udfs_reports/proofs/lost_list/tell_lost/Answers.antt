@@ -6,9 +6,10 @@ use Rattle.udfs_salvage.specs.Surveys.{survey_by}
 use Rattle.udfs_salvage.proofs.StoreAnswers.{states_same}
 use Rattle.udfs_overview.specs.FullLists.{full_list}
 use Rattle.udfs_overview.specs.LostTrees.{AreLostBy, IsUnfoundBy}
-use Rattle.udfs_overview.specs.Searched.{searched}
+use Rattle.udfs_overview.specs.Searched.{searched, searched_of}
 use Rattle.udfs_walk.specs.declared.answers.NodesError.TheVariants.{OutOfMemory, TooManyPaths}
 use Rattle.udfs_remarks.specs.NoReports.{salvage_refusal_of}
+use Rattle.udfs_reports.specs.LostListing.{place}
 use Rattle.udfs_reports.proofs.LostTexts.{lost_begun, lost_out, lost_stopped, lost_told}
 use Rattle.udfs_reports.proofs.lost_list.tell_lost.Goals as goal
 
@@ -53,7 +54,7 @@ returns-in-Err-Run-clause-refused g c told t holds =
     let same = ap S of.0 ∙ states_same (S c.args.blocks.now) t (g.met.B.ReportStore.held c.args.blocks.now t holds) in
     let lost = c.in-Ok-find_lost.ensures.found told in
     let trees = c.in-Ok-find_lost.lost.trees.items in
-    let where_is = λ i. searched (of.2 i) (same i) (of.1 i) (survey_by S s) in
+    let where_is : searched_of S s ≡ place c.args.request.now.volume.profile t c.args.last (survey_by S s) = λ i. searched (of.2 i) (same i) (of.1 i) (survey_by S s) in
     lost_stopped c.args.form c.args.request.now.deleted _ _ t (survey_by S s) _ (O.stream c.write_lost.new.sink) (c.in-Ok.ensures.headline told t holds) trees
     (subst (λ o. AreLostBy c.args.request.now.deleted o trees) where_is lost.trees) c.in-Err-Run.error _
     (subst (λ text. Stopped (O.stream c.args.out.now) (O.stream c.write_lost.new.sink) text c.in-Err-Run.error) (λ i. full_list c.args.form c.args.request.now.deleted (same i) ((lost.place ∙ where_is) i) (survey_by S s) trees)
@@ -68,7 +69,7 @@ returns-in-Err-Unread-write_lost-clause-begun g c told t holds =
     let same = ap S of.0 ∙ states_same (S c.args.blocks.now) t (g.met.B.ReportStore.held c.args.blocks.now t holds) in
     let lost = c.in-Ok-find_lost.ensures.found told in
     let trees = c.in-Ok-find_lost.lost.trees.items in
-    let where_is = λ i. searched (of.2 i) (same i) (of.1 i) (survey_by S s) in
+    let where_is : searched_of S s ≡ place c.args.request.now.volume.profile t c.args.last (survey_by S s) = λ i. searched (of.2 i) (same i) (of.1 i) (survey_by S s) in
     lost_begun c.args.form c.args.request.now.deleted _ _ t (survey_by S s) _ (O.stream c.write_lost.new.sink) (c.in-Ok.ensures.headline told t holds) trees
     (subst (λ o. AreLostBy c.args.request.now.deleted o trees) where_is lost.trees)
     (subst (λ text. Stopped (O.stream c.args.out.now) (O.stream c.write_lost.new.sink) text _) (λ i. full_list c.args.form c.args.request.now.deleted (same i) ((lost.place ∙ where_is) i) (survey_by S s) trees)
@@ -83,7 +84,7 @@ returns-then-not-is_steady-clause-begun g c told t holds =
     let same = ap S of.0 ∙ states_same (S c.args.blocks.now) t (g.met.B.ReportStore.held c.args.blocks.now t holds) in
     let lost = c.in-Ok-find_lost.ensures.found told in
     let trees = c.in-Ok-find_lost.lost.trees.items in
-    let where_is = λ i. searched (of.2 i) (same i) (of.1 i) (survey_by S s) in
+    let where_is : searched_of S s ≡ place c.args.request.now.volume.profile t c.args.last (survey_by S s) = λ i. searched (of.2 i) (same i) (of.1 i) (survey_by S s) in
     lost_out c.args.form c.args.request.now.deleted _ _ t (survey_by S s) _ (O.stream c.write_lost.new.sink) (c.in-Ok.ensures.headline told t holds) trees
     (subst (λ o. AreLostBy c.args.request.now.deleted o trees) where_is lost.trees)
     (subst (λ text. Wrote (O.stream c.args.out.now) (O.stream c.write_lost.new.sink) text) (λ i. full_list c.args.form c.args.request.now.deleted (same i) ((lost.place ∙ where_is) i) (survey_by S s) trees) (c.in-Ok-write_lost.ensures.printed told))
@@ -97,7 +98,7 @@ returns-clause-printed g c told t holds =
     let same = ap S of.0 ∙ states_same (S c.args.blocks.now) t (g.met.B.ReportStore.held c.args.blocks.now t holds) in
     let lost = c.in-Ok-find_lost.ensures.found told in
     let trees = c.in-Ok-find_lost.lost.trees.items in
-    let where_is = λ i. searched (of.2 i) (same i) (of.1 i) (survey_by S s) in
+    let where_is : searched_of S s ≡ place c.args.request.now.volume.profile t c.args.last (survey_by S s) = λ i. searched (of.2 i) (same i) (of.1 i) (survey_by S s) in
     lost_told c.args.form c.args.request.now.deleted _ _ t (survey_by S s) _ (O.stream c.write_lost.new.sink) (c.in-Ok.ensures.headline told t holds) trees
     (subst (λ o. AreLostBy c.args.request.now.deleted o trees) where_is lost.trees) _
     (subst (λ text. Wrote (O.stream c.args.out.now) (O.stream c.write_lost.new.sink) text) (λ i. full_list c.args.form c.args.request.now.deleted (same i) ((lost.place ∙ where_is) i) (survey_by S s) trees) (c.in-Ok-write_lost.ensures.printed told))
