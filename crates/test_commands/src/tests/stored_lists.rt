@@ -99,6 +99,37 @@ $ list -v --last 600 disc.tab
 done 1
 remarked the volume does not open: blocks 32 and 48 are needed\n
 
+= a_device_that_fails_in_the_middle_of_a_list_of_what_is_lost
+# The headers are read twice, 56 bytes, and then the anchor: to open the volume, again for the places of its blocks, and again for what is remarked.
+at 256
+
+some 0 4152
+inputs-fail «n»
+$ list --lost --last 600 disc.tab
+refused udfsalvage: input 1: fault 8 Io at record 0\n
+
+inputs-fail 4152
+$ list --lost -v --last 600 disc.tab
+done 1
+remarked no remarks on the volume: an input could not be read again\n
+
+inputs-fail 6200
+$ list --lost -v --last 600 disc.tab
+done 1
+remarked the volume does not open: blocks 32 and 48 are needed\n
+
+= a_device_that_fails_while_a_lost_folder_is_walked
+# The headers of the table, which are read twice, have 488 bytes, and the volume is opened by more than six blocks.
+directory 1 D=10
+directory 10 A=3
+write 282 48 \x01
+write 275 48 \x01
+but 274
+
+inputs-fail 12776
+$ list --lost --last 600 disc.tab
+refused udfsalvage: input 1: fault 8 Io at record 0\n
+
 = a_device_that_fails_in_the_middle_of_a_report
 # The same reads as for a list; and then those for the remark on the guarantee.
 at 256
