@@ -2,6 +2,7 @@ use Rattle.std.proofs.Common.{◌≡◌, ◌∙◌, ap, inl, inr, refl, rules, s
 use Rattle.udfs_reading.specs.Writing.{Wrote}
 use Rattle.udfs_salvage.specs.Printing.{Stopped}
 use Rattle.udfs_salvage.specs.StorePrinting.{leaves_as}
+use Rattle.udfs_salvage.specs.declared.errors.PrintError.TheVariants.{Unread}
 use Rattle.udfs_salvage.specs.Surveys.{survey_by}
 use Rattle.udfs_salvage.proofs.StoreAnswers.{states_same}
 use Rattle.udfs_overview.specs.FullLists.{full_list}
@@ -72,7 +73,7 @@ returns-in-Err-Unread-write_lost-clause-begun g c told t holds =
     let where_is : searched_of S s ≡ place c.args.request.now.volume.profile t c.args.last (survey_by S s) = λ i. searched (of.2 i) (same i) (of.1 i) (survey_by S s) in
     lost_begun c.args.form c.args.request.now.deleted _ _ t (survey_by S s) _ (O.stream c.write_lost.new.sink) (c.in-Ok.ensures.headline told t holds) trees
     (subst (λ o. AreLostBy c.args.request.now.deleted o trees) where_is lost.trees)
-    (subst (λ text. Stopped (O.stream c.args.out.now) (O.stream c.write_lost.new.sink) text _) (λ i. full_list c.args.form c.args.request.now.deleted (same i) ((lost.place ∙ where_is) i) (survey_by S s) trees)
+    (subst (λ text. Stopped (O.stream c.args.out.now) (O.stream c.write_lost.new.sink) text (leaves_as Unread)) (λ i. full_list c.args.form c.args.request.now.deleted (same i) ((lost.place ∙ where_is) i) (survey_by S s) trees)
     (rw c.in-Err-Unread-write_lost.field-0-is at (c.in-Err-Unread-write_lost.ensures.printed told)))
 
 pub returns-then-not-is_steady-clause-begun : goal.returns-then-not-is_steady-clause-begun
