@@ -16,6 +16,7 @@ use Rattle.udfs_common.specs.declared.refusal.Refusal.{Refusal}
 use Rattle.udfs_common.specs.declared.refusal.Refusal.TheVariants as refusals
 use Rattle.udfs_extraction.specs.ByRequest.{Makes, MakesLost, MakesNodes, MakesTrees, fill_of}
 use Rattle.udfs_extraction.specs.Extracting.{SparesNodes}
+use Rattle.udfs_extraction.specs.ListedStops.{ListedStops}
 use Rattle.udfs_extraction.specs.LostPlaces.{lost_report}
 use Rattle.udfs_extraction.specs.LostTrees.{IsUnfoundBy}
 use Rattle.udfs_extraction.specs.Refused.{CutAdding, CutBeyond, IsUnsearched, ListStops, ListedCut, ListedRefused, LostCut, LostStops, MakingCut, MakingRefused, NodesCut, StopsAdding, StopsBeyond, TreesCut, TreesStop, lost_stop_of}
@@ -107,11 +108,11 @@ module _ {F I M S W O : Type 0} (reach : Reach F I M S W) (stream : O → Stream
 
   -- what is said of the store's states is said of the table that it holds
   pub stopped_table : (old new : F) (before after : O) (listed last : ℕ) (blocks : Blocks) (t : Table) (report : Report) (stop : Stop) → listed ≡ last → blocks ≡ state_of t → IsReportBy r.volume.profile blocks last report
-      → IfStopped (Refuses old new before after listed blocks report) (Cuts old new before after listed blocks report) stop
+      → ListedStops reach stream r place old new before after listed blocks report stop
       → IfStopped (MakingRefused reach stream r place old new before after last t) (MakingCut reach stream r place old new before after last t) stop
   stopped_table old new before after listed last blocks t report stop ends same is why =
       by stop (subst (λ (bs : Blocks). IfStopped (Refuses old new before after last bs report) (Cuts old new before after last bs report) stop) same
-      (subst (λ (k : ℕ). IfStopped (Refuses old new before after k blocks report) (Cuts old new before after k blocks report) stop) ends why))
+      (subst (λ (k : ℕ). IfStopped (Refuses old new before after k blocks report) (Cuts old new before after k blocks report) stop) ends why.why))
     where
       is_report : IsReportBy r.volume.profile (state_of t) last report
       is_report = subst (λ (bs : Blocks). IsReportBy r.volume.profile bs last report) same is

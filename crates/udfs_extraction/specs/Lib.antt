@@ -15,3 +15,4 @@ pub mod ShortNames
 pub mod Sparing
 pub mod Refused
 pub mod Stopping
+pub mod ListedStops

@@ -8,7 +8,8 @@ ghost use Rattle.udfs_salvage.specs.Reports.{IsReportBy, Report};
 ghost use Rattle.udfs_extraction.specs.ByRequest.{Makes};
 ghost use Rattle.udfs_extraction.specs.LostPlaces.{IsPlaceOf, lost_report};
 ghost use Rattle.udfs_extraction.specs.LostTrees.{AreFoundOf, IsUnfoundBy};
-ghost use Rattle.udfs_extraction.specs.Refused.{ListedCut, ListedRefused, MakingCut, MakingRefused, lost_stop_of};
+ghost use Rattle.udfs_extraction.specs.ListedStops.{ListedStops};
+ghost use Rattle.udfs_extraction.specs.Refused.{MakingCut, MakingRefused, lost_stop_of};
 ghost use Rattle.udfs_extraction.specs.Sparing.{SparesMaking};
 ghost use Rattle.udfs_extraction.specs.Stopping.{IfStopped};
 
@@ -107,8 +108,7 @@ fn make_listed<B: ReportStore, F: Files, O: Sink>(
     requires told { F.tells → B.tells }
     requires rules { listing.profile ≡ request.now.volume.profile }
     ensures made { IfOk result (λ good. B.tells → Makes ⟦<F as Known>⟧.reach O.stream request.now (option_map string_bytes place.now) files.old files.new out.old out.new listing.entry.last (B.states listing.entry.table.now) (listing_by B.states listing.entry) good) }
-    ensures why { IfErr result (λ stop. B.tells → IfStopped (ListedRefused ⟦<F as Known>⟧.reach O.stream request.now (option_map string_bytes place.now) files.old files.new out.old out.new listing.entry.last (B.states listing.entry.table.now) (listing_by B.states listing.entry))
-        (ListedCut ⟦<F as Known>⟧.reach O.stream request.now (option_map string_bytes place.now) files.old files.new out.old out.new listing.entry.last (B.states listing.entry.table.now) (listing_by B.states listing.entry)) stop) }
+    ensures why { IfErr result (λ stop. B.tells → ListedStops ⟦<F as Known>⟧.reach O.stream request.now (option_map string_bytes place.now) files.old files.new out.old out.new listing.entry.last (B.states listing.entry.table.now) (listing_by B.states listing.entry) stop) }
     ensures no_node { (i : ℕ) → IsErrOf result (Stop.Refused (Refusal.NoNode i)) → files.new ≡ files.old }
     ensures spares { (files.new ≡ files.old) ⊎ SparesMaking ⟦<F as Known>⟧.reach request.now (option_map string_bytes place.now) files.old files.new }
     ensures fails { IsErrOf result Stop.Unread → (B.fails → ⊥) → ⊥ }

@@ -12,23 +12,23 @@ returns-in-Err-clause-why g c known =
     let states = g.B.BlockStore.states in
     let l = c.args.listing in
     let r = c.args.request.now in
-    stopped_is _ _ _ _ c.unsearched.ensures
-    (unfound r.deleted r.trees (states l.table.now) (lost_report r.volume.profile (states l.table.now) l.last (listing_by states l)) (lost_report l.profile (states l.table.now) l.last (listing_by states l)) c.in-Err.error _ _ _ _ refl refl (ap (λ p. lost_report p (states l.table.now) l.last (listing_by states l)) c.requires.rules) (c.in-Err.ensures.refused known))
+    record { why = stopped_is _ _ _ _ c.unsearched.ensures
+    (unfound r.deleted r.trees (states l.table.now) (lost_report r.volume.profile (states l.table.now) l.last (listing_by states l)) (lost_report l.profile (states l.table.now) l.last (listing_by states l)) c.in-Err.error _ _ _ _ refl refl (ap (λ p. lost_report p (states l.table.now) l.last (listing_by states l)) c.requires.rules) (c.in-Err.ensures.refused known)) }
 
 pub returns-in-Err-clause-no_node : goal.returns-in-Err-clause-no_node
 returns-in-Err-clause-no_node g c i is = refl
 
 pub returns-in-Err-clause-fails : goal.returns-in-Err-clause-fails
-returns-in-Err-clause-fails g c is no =
+returns-in-Err-clause-fails g c is never =
     let unread : c.unsearched.result ≡ Unread = cc in
-    no (c.in-Err.ensures.fails (ap Err (unread_of c.in-Err.error (sym c.unsearched.ensures ∙ unread))))
+    never (c.in-Err.ensures.fails (ap Err (unread_of c.in-Err.error (sym c.unsearched.ensures ∙ unread))))
 
 pub returns-in-Err-clause-spares : goal.returns-in-Err-clause-spares
 returns-in-Err-clause-spares g c = inl refl
 
 pub returns-in-Err-list_report-clause-why : goal.returns-in-Err-list_report-clause-why
 returns-in-Err-list_report-clause-why g c known =
-    listing_stops _ g.O.Sink.stream c.args.request.now _ _ _ _ _ _ _ _ c.in-Err-list_report.stop (λ is. c.in-Err-list_report.ensures.still (unread_is _ is)) (c.in-Err-list_report.ensures.why known)
+    record { why = listing_stops _ g.O.Sink.stream c.args.request.now _ _ _ _ _ _ _ _ c.in-Err-list_report.stop (λ is. c.in-Err-list_report.ensures.still (unread_is _ is)) (c.in-Err-list_report.ensures.why known) }
 
 pub returns-in-Err-list_report-clause-no_node : goal.returns-in-Err-list_report-clause-no_node
 returns-in-Err-list_report-clause-no_node g c = c.in-Err-list_report.ensures.no_node
@@ -45,7 +45,7 @@ returns-in-Err-list_report-clause-spares g c = inr (record {
 pub returns-in-Err-add_lost-clause-why : goal.returns-in-Err-add_lost-clause-why
 returns-in-Err-add_lost-clause-why g c known =
     let nodes = c.in-Ok-list_report.ensures.made known in
-    adding_stops _ g.O.Sink.stream c.args.request.now _ _ nodes.0 c.list_report.new.files c.add_lost.new.files c.args.out.now c.list_report.new.out c.add_lost.new.out _ _ _ _ c.in-Err-add_lost.stop nodes.1 (c.in-Err-add_lost.ensures.why known)
+    record { why = adding_stops _ g.O.Sink.stream c.args.request.now _ _ nodes.0 c.list_report.new.files c.add_lost.new.files c.args.out.now c.list_report.new.out c.add_lost.new.out _ _ _ _ c.in-Err-add_lost.stop nodes.1 (c.in-Err-add_lost.ensures.why known) }
 
 pub returns-in-Err-add_lost-clause-no_node : goal.returns-in-Err-add_lost-clause-no_node
 returns-in-Err-add_lost-clause-no_node g c i is = absurd (c.in-Err-add_lost.ensures.no_node i is)
@@ -89,7 +89,7 @@ returns-clause-why g c known =
     let states = g.B.BlockStore.states in
     let l = c.args.listing in
     let nodes = c.in-Ok-list_report.ensures.made known in
-    beyond_stops _ g.O.Sink.stream c.args.request.now _ _ nodes.0 c.list_report.new.files c.add_lost.new.files c.put_lost.new.files c.args.out.now c.list_report.new.out c.add_lost.new.out c.put_lost.new.out l.last (states l.table.now) (listing_by states l) _ _ _ c.in-Err-put_lost.stop (ap (λ p. lost_report p (states l.table.now) l.last (listing_by states l)) c.requires.rules) nodes.1 (c.in-Ok-add_lost.ensures.made known) (c.in-Err-put_lost.ensures.why known)
+    record { why = beyond_stops _ g.O.Sink.stream c.args.request.now _ _ nodes.0 c.list_report.new.files c.add_lost.new.files c.put_lost.new.files c.args.out.now c.list_report.new.out c.add_lost.new.out c.put_lost.new.out l.last (states l.table.now) (listing_by states l) _ _ _ c.in-Err-put_lost.stop (ap (λ p. lost_report p (states l.table.now) l.last (listing_by states l)) c.requires.rules) nodes.1 (c.in-Ok-add_lost.ensures.made known) (c.in-Err-put_lost.ensures.why known) }
 
 pub returns-clause-no_node : goal.returns-clause-no_node
 returns-clause-no_node g c i is = absurd (c.in-Err-put_lost.ensures.no_node i is)
