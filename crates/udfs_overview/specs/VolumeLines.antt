@@ -40,11 +40,14 @@ abbrev pub partitions_end : List Partition → ℕ
 partitions_end [] = 0
 partitions_end (p ∷ ps) = max (p.start + p.size) (partitions_end ps)
 
+-- that a volume ends before this block
+abbrev pub before_line : ℕ → List ℕ
+before_line end = codes "           the volume ends before block " ++ (grouped end ++ codes ": is the size of the disc right?\n")
+
 -- that a volume takes less than half of a disc with this last block, if it does
 unfoldable pub end_line : List Partition → ℕ → List ℕ
 end_line partitions last =
-    if nat_le (last / 2) (partitions_end partitions) then []
-    else codes "           the volume ends before block " ++ grouped (partitions_end partitions) ++ codes ": is the size of the disc right?\n"
+    if nat_le (last / 2) (partitions_end partitions) then [] else before_line (partitions_end partitions)
 
 -- the line of a volume that opens, and one more if it takes less than half of the disc
 unfoldable pub open_line : Layout → ℕ → List ℕ

@@ -1,11 +1,11 @@
 //! The first line of a summary. Each function appends to a text; if memory runs out, a part may be appended.
 
-ghost use Rattle.std.specs.Prelude.{◌≡◌, ◌++◌, OnOk, map};
+ghost use Rattle.std.specs.Prelude.{◌≡◌, ◌+◌, ◌++◌, OnOk, map};
 ghost use Rattle.std.specs.String.{string_bytes};
 ghost use Rattle.udfs_volume.specs.LayoutParts.{partition_now, parts_now};
 ghost use Rattle.udfs_volume.specs.Parts.{map_now};
 ghost use Rattle.udfs_salvage.specs.Found.{volume_now};
-ghost use Rattle.udfs_overview.specs.VolumeLines.{closed_line, disc_size_text, end_line, fault_words, holes_text, kind_text, kind_texts, label_text, numbers_text, open_line, partitions_end, revision_and_kinds, volume_line};
+ghost use Rattle.udfs_overview.specs.VolumeLines.{before_line, closed_line, disc_size_text, end_line, fault_words, holes_text, kind_text, kind_texts, label_text, numbers_text, open_line, partitions_end, revision_and_kinds, volume_line};
 
 use crate::figures::{push_grouped, push_size};
 use crate::safe_names::push_safe_name;
@@ -80,6 +80,13 @@ pub fn push_disc_size(text: &mut String, last: u32) -> Result<(), OutOfMemory>
     push_size(blocks * BLOCK_BYTES, text)
 }
 
+/// The block after the last of so many blocks.
+fn end_of(start: u32, length: u32) -> u64
+    ensures { result ≡ start + length }
+{
+    u64::from(start) + u64::from(length)
+}
+
 /// The block after the last one of some partitions.
 fn partitions_end(partitions: &[Partition]) -> u64
     ensures { result ≡ partitions_end (map partition_now partitions.now) }
@@ -87,10 +94,19 @@ fn partitions_end(partitions: &[Partition]) -> u64
     match partitions {
         [] => 0,
         [first, rest @ ..] => {
-            let end = u64::from(first.start) + u64::from(first.length);
+            let end = end_of(first.start, first.length);
             end.max(partitions_end(rest))
         }
     }
+}
+
+/// That a volume ends before this block.
+fn push_before(text: &mut String, end: u64) -> Result<(), OutOfMemory>
+    ensures { OnOk result (string_bytes text.new ≡ string_bytes text.old ++ before_line end) }
+{
+    text.push_str("           the volume ends before block ")?;
+    push_grouped(u128::from(end), text)?;
+    text.push_str(": is the size of the disc right?\n")
 }
 
 /// That a volume takes less than half of a disc with this last block, if it does.
@@ -102,9 +118,7 @@ fn push_end(text: &mut String, partitions: &[Partition], last: u32) -> Result<()
     if end >= u64::from(last / 2) {
         return Ok(());
     }
-    text.push_str("           the volume ends before block ")?;
-    push_grouped(u128::from(end), text)?;
-    text.push_str(": is the size of the disc right?\n")
+    push_before(text, end)
 }
 
 /// The line of a volume that opens, and one more if it takes less than half of the disc.
