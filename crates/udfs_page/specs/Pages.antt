@@ -46,7 +46,7 @@ inputs_html g = markup (codes "<p>Read from") ++ shown_name (inputs_words g) ++ 
 
 -- what the page says of the disc: what it is, what is known of it, what was read, the blocks as a picture with these arcs, and what to do next
 abbrev pub disc_html : GivenWords → CalledWords → Figures → List Mark → Report → Verdict → List ℕ
-disc_html g called f marks r answer = overview_html f r answer ++ inputs_html g ++ picture_html marks (f.last + 1) ++ next_html g called f r
+disc_html g called f marks r answer = (overview_html f r answer ++ inputs_html g) ++ picture_html marks (f.last + 1) ++ next_html g called f r
 
 -- all before the tree of the nodes
 unfoldable pub front_html : GivenWords → CalledWords → Figures → List Mark → List Row → ℕ → Report → Verdict → List ℕ

@@ -156,7 +156,7 @@ fn put_root_as<W: Sink>(
     pass_on(text, sink)
 }
 
-/// A lost folder begins, which has this inside it; its blocks and holes are found first, and in which of these nodes it is.
+/// A lost folder begins, which has these nodes inside it; its blocks and holes are found first, and in which of these nodes it is.
 fn put_root<B: BlockStore, W: Sink>(
     alloc: Global,
     text: &mut String,
@@ -166,10 +166,10 @@ fn put_root<B: BlockStore, W: Sink>(
     nodes: &[Node],
     folder: LbAddr,
     node: &Node,
-    held: Inside,
+    inside: &[Node],
 ) -> Result<(), PrintError>
     ensures printed { B.tells → PassesOnBy (W.stream sink.old) (W.stream sink.new) (string_bytes text.old) (string_bytes text.new)
-        (root_html (has_tail (view_by B.states view.entry) node.now.icb) two (place_of (view_by B.states view.entry) nodes.now folder) folder (full_node (view_by B.states view.entry) node.now) held) result }
+        (root_html (has_tail (view_by B.states view.entry) node.now.icb) two (place_of (view_by B.states view.entry) nodes.now folder) folder (full_node (view_by B.states view.entry) node.now) (inside_of inside.now)) result }
     ensures fails { IsErrOf result PrintError.Unread → B.fails }
 {
     let full = full_standing_by(alloc, view, node.icb, &node.standing)?;
@@ -178,6 +178,7 @@ fn put_root<B: BlockStore, W: Sink>(
         Ok(place) => place,
         Err(ReadFault) => return Err(PrintError::Unread),
     };
+    let held = counted(inside);
     put_root_as(
         alloc, text, sink, tail, two, place, folder, node, &full, held,
     )?;
@@ -211,17 +212,7 @@ fn put_rooted<B: BlockStore, W: Sink>(
         ++ nodes_html (view_by B.states view.entry) (map (full_node (view_by B.states view.entry)) inside.now) ++ root_end (map (full_node (view_by B.states view.entry)) inside.now)) result }
     ensures fails { IsErrOf result PrintError.Unread → B.fails }
 {
-    put_root(
-        alloc,
-        text,
-        sink,
-        view,
-        two,
-        nodes,
-        folder,
-        node,
-        counted(inside),
-    )?;
+    put_root(alloc, text, sink, view, two, nodes, folder, node, inside)?;
     put_nodes(alloc, text, sink, view, inside)?;
     push_root_end(text, inside)?;
     Ok(())

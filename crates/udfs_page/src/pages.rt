@@ -13,7 +13,7 @@ ghost use Rattle.udfs_overview.specs.Repeating.{GivenWords, given_now, inputs_wo
 ghost use Rattle.udfs_overview.specs.UnreadLists.{unread_paths};
 ghost use Rattle.udfs_page.specs.Markups.{shown_name};
 ghost use Rattle.udfs_page.specs.Naming.{CalledWords, called_now};
-ghost use Rattle.udfs_page.specs.Overviews.{title_html};
+ghost use Rattle.udfs_page.specs.Overviews.{overview_html, title_html};
 ghost use Rattle.udfs_page.specs.Pages.{disc_html, files_html, front_html, inputs_html, lacking_html, page_html};
 ghost use Rattle.udfs_page.specs.UnreadTables.{unread_html};
 ghost use Rattle.udfs_overview.specs.declared.verdicts.Verdict.{Verdict};
@@ -71,6 +71,21 @@ fn push_read(alloc: Global, text: &mut String, given: &Given<'_>) -> Result<(), 
     push_markup(text, "</p>\n")
 }
 
+/// What the disc is, what is known of it, and what was read.
+fn push_overview_and_read<B: BlockStore>(
+    alloc: Global,
+    text: &mut String,
+    given: &Given<'_>,
+    survey: &Survey<'_, B>,
+    figures: &Figures,
+    answer: &Verdict,
+) -> Result<(), OutOfMemory>
+    ensures { OnOk result (string_bytes text.new ≡ string_bytes text.old ++ (overview_html figures.now (survey_by B.states survey.now) answer.now ++ inputs_html (given_now given.now))) }
+{
+    push_overview(alloc, text, survey, figures, answer)?;
+    push_read(alloc, text, given)
+}
+
 /// What the page says of the disc.
 fn push_about_disc<B: BlockStore>(
     alloc: Global,
@@ -85,8 +100,7 @@ fn push_about_disc<B: BlockStore>(
     requires few { length marks.now ≤ 2000 }
     ensures { OnOk result (string_bytes text.new ≡ string_bytes text.old ++ disc_html (given_now given.now) (called_now called.now) figures.now marks.now (survey_by B.states survey.now) answer.now) }
 {
-    push_overview(alloc, text, survey, figures, answer)?;
-    push_read(alloc, text, given)?;
+    push_overview_and_read(alloc, text, given, survey, figures, answer)?;
     push_picture(text, marks, figures.last as u64 + 1)?;
     push_next(alloc, text, given, called, survey, figures)
 }

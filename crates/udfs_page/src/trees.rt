@@ -232,6 +232,18 @@ pub(crate) fn push_folder_front(
     push_markup(text, "><summary>")
 }
 
+/// A node with this standing begins a folder, in which so many entries and folders are not whole.
+fn push_node_front(
+    text: &mut String,
+    node: &Node,
+    standing: &Standing,
+    amiss: usize,
+) -> Result<(), OutOfMemory>
+    ensures { OnOk result (string_bytes text.new ≡ string_bytes text.old ++ folder_front (length node.now.path) standing.now amiss) }
+{
+    push_folder_front(text, node.path.len(), standing, amiss)
+}
+
 /// A node with this standing begins a folder, which has this inside it.
 fn push_folder(
     alloc: Global,
@@ -243,7 +255,7 @@ fn push_folder(
 ) -> Result<(), OutOfMemory>
     ensures { OnOk result (string_bytes text.new ≡ string_bytes text.old ++ folder_html tail (node_with node.now standing.now) inside) }
 {
-    push_folder_front(text, node.path.len(), standing, inside.amiss)?;
+    push_node_front(text, node, standing, inside.amiss)?;
     push_told(alloc, text, tail, node, standing)?;
     push_inside(text, inside)?;
     push_markup(text, "</summary>\n")
@@ -277,6 +289,13 @@ pub(crate) fn push_date(text: &mut String, stamp: Option<Stamp>) -> Result<(), O
     }
 }
 
+/// The time of the last change of a node, where that is known.
+fn push_node_date(text: &mut String, node: &Node) -> Result<(), OutOfMemory>
+    ensures { OnOk result (string_bytes text.new ≡ string_bytes text.old ++ date_html node.now.stamp) }
+{
+    push_date(text, node.stamp)
+}
+
 /// The line of a node with this standing, after which `ended` folders end.
 fn push_leaf(
     alloc: Global,
@@ -290,7 +309,7 @@ fn push_leaf(
 {
     push_leaf_front(text, standing)?;
     push_told(alloc, text, tail, node, standing)?;
-    push_date(text, node.stamp)?;
+    push_node_date(text, node)?;
     push_markup(text, "</div>\n")?;
     push_closings(text, ended)
 }
