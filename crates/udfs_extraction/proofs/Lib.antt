@@ -21,3 +21,4 @@ mod RefusedLemmas
 pub mod ManifestJob
 mod StoredLemmas
 mod ToldVolumes
+mod StopLemmas

@@ -13,6 +13,9 @@ use udfs_salvage::{Listing, Volume};
 use udfs_volume::Profile;
 use udfs_walk::{Node, Standing, full_standing_by};
 
+/// How many holes of torn files are gone through for remarks: more than a disc has whose files share no block. Behind them a torn file is only called so.
+const MOST_HOLES: usize = 2_000_000;
+
 /// What a person is told that a file or a folder is.
 #[derive(Clone, Copy, PartialEq, Eq)]
 enum Sort {
@@ -48,6 +51,8 @@ pub struct Totals {
     loops: usize,
     faults: usize,
     others: usize,
+    /// How many holes were gone through.
+    holes: usize,
 }
 
 impl Totals {
@@ -63,6 +68,7 @@ impl Totals {
             loops: 0,
             faults: 0,
             others: 0,
+            holes: 0,
         }
     }
 
@@ -109,18 +115,22 @@ fn sort_of(node: &Node, fate: Fate) -> Option<Sort> {
     }
 }
 
-/// Appends how much of a torn file is missing, and where.
+/// Appends how much of a torn file is missing, and where, unless too many holes were gone through for that.
 fn push_missing<B: BlockStore>(
     alloc: Global,
     text: &mut String,
     listing: &Listing<'_, B>,
     node: &Node,
     what: &str,
+    totals: &mut Totals,
 ) -> Result<(), OutOfMemory> {
     text.push_str("torn")?;
     let Volume::Open(opened) = &listing.volume else {
         return Ok(());
     };
+    if totals.holes >= MOST_HOLES {
+        return Ok(());
+    }
     let view = opened.view_by(listing.table);
     let full = match full_standing_by(alloc, view, node.icb, &node.standing) {
         Ok(full) => full,
@@ -130,6 +140,7 @@ fn push_missing<B: BlockStore>(
     let Standing::Torn(torn) = &full else {
         return Ok(());
     };
+    totals.holes = totals.holes.saturating_add(torn.holes.len());
     let Some((offset, _)) = torn.holes.first() else {
         return Ok(());
     };
@@ -165,12 +176,13 @@ fn push_reason<B: BlockStore, F: Files>(
     listing: &Listing<'_, B>,
     node: &Node,
     sort: Sort,
+    totals: &mut Totals,
     files: &F,
 ) -> Result<(), OutOfMemory> {
     match sort {
         Sort::Written => Ok(()),
-        Sort::Filled => push_missing(alloc, text, listing, node, "of zeros"),
-        Sort::Torn => push_missing(alloc, text, listing, node, "missing"),
+        Sort::Filled => push_missing(alloc, text, listing, node, "of zeros", totals),
+        Sort::Torn => push_missing(alloc, text, listing, node, "missing", totals),
         Sort::Unread => text.push_str("not read: a file, or a folder with all below it"),
         Sort::Link => text.push_str("link"),
         Sort::Loop => text.push_str("a folder inside itself"),
@@ -196,12 +208,13 @@ fn line_of<B: BlockStore, F: Files>(
     word: &str,
     node: &Node,
     sort: Sort,
+    totals: &mut Totals,
     files: &F,
 ) -> Result<String, OutOfMemory> {
     let mut line = String::from_str(alloc, word)?;
     push_shown_path(&mut line, &node.path)?;
     line.push_str(": ")?;
-    push_reason(alloc, &mut line, listing, node, sort, files)?;
+    push_reason(alloc, &mut line, listing, node, sort, totals, files)?;
     Ok(line)
 }
 
@@ -226,7 +239,7 @@ pub fn remark_on_fate<B: BlockStore, F: Files>(
     if sort == Sort::Written {
         return;
     }
-    if let Ok(line) = line_of(alloc, listing, word, node, sort, files) {
+    if let Ok(line) = line_of(alloc, listing, word, node, sort, totals, files) {
         files.remark(line.as_str());
     }
 }

@@ -1,9 +1,8 @@
 //! The files and folders of a volume, written into a new folder, and then a manifest of them.
 
-ghost use Rattle.std.specs.Prelude.{◌≡◌, ◌≢◌, ◌⊎◌, ℕ, List, Some, IfOk, IfErr, MatchOption, OnErr, OnOk, alloc_error, option_map, string_bytes};
+ghost use Rattle.std.specs.Prelude.{◌≡◌, ◌≢◌, ◌⊎◌, ℕ, List, Some, IfOk, IfErr, IsErrOf, MatchOption, OnOk, alloc_error, option_map, string_bytes};
 ghost use Rattle.udfs_host_fs.specs.Disk.{Fails, SinkFails};
-ghost use Rattle.udfs_lattice.specs.Tables.{state_of};
-ghost use Rattle.udfs_salvage.specs.Listings.{listing_by, listing_now};
+ghost use Rattle.udfs_salvage.specs.Listings.{listing_by};
 ghost use Rattle.udfs_words.specs.Requests.{texts};
 ghost use Rattle.udfs_common.specs.Keeping.{IsKept};
 ghost use Rattle.udfs_common.specs.Refusing.{IsUnput};
@@ -12,16 +11,18 @@ ghost use Rattle.udfs_extraction.specs.Extracting.{SparesNodes};
 ghost use Rattle.udfs_extraction.specs.Manifests.{ByManifest, IsPutLast, MayPut, notes_text};
 ghost use Rattle.udfs_extraction.specs.Refused.{ListStops, NodesCut};
 ghost use Rattle.udfs_extraction.specs.Sparing.{SparesListed};
+ghost use Rattle.udfs_extraction.specs.Stopping.{IfStopped};
 
 use crate::manifest::Noted;
 use crate::manifest_text::{ManifestText, TextError};
 use crate::nodes::make_nodes;
+use crate::stopping::Stop;
 use std::alloc::{AllocError, Global};
 use udfs_common::files::Files;
 use udfs_common::known::Known;
 use udfs_common::refusal::Refusal;
 use udfs_host_fs::{JobError, ReplaceError, Times, replace_by_job};
-use udfs_lattice::{BlockStore, ReadFault};
+use udfs_lattice::BlockStore;
 use udfs_reading::Sink;
 use udfs_salvage::{Listing, ReportStore};
 use udfs_words::request::ExtractRequest;
@@ -103,8 +104,8 @@ fn add_manifest<B: BlockStore, F: Files>(
 ///
 /// # Errors
 ///
-/// `ReadFault` where the bytes of a known block could not be read: what was reported by then is made, and no manifest is put. In the result: why not all was made.
-pub fn list_report_by<B: ReportStore, F: Files, O: Sink>(
+/// `Unread` where the bytes of a known block could not be read: what was reported by then is made, and no manifest is put. `Refused`: why else not all was made.
+pub fn list_report<B: ReportStore, F: Files, O: Sink>(
     alloc: Global,
     listing: &Listing<'_, B>,
     request: &ExtractRequest<'_>,
@@ -112,21 +113,20 @@ pub fn list_report_by<B: ReportStore, F: Files, O: Sink>(
     times: &Times,
     files: &mut F,
     out: &mut O,
-) -> Result<Result<bool, Refusal>, ReadFault>
+) -> Result<bool, Stop>
     requires { F.tells → B.tells }
-    ensures made { IfOk result (λ told. IfOk told (λ good. B.tells → (one : F) × MakesNodes ⟦<F as Known>⟧.reach request.now (option_map string_bytes place.now) files.old one files.new (O.stream out.old) (O.stream out.new) (B.states listing.now.table.now) (listing_by B.states listing.now) good)) }
-    ensures why { IfOk result (λ told. IfErr told (λ refusal. B.tells → ListStops ⟦<F as Known>⟧.reach request.now (option_map string_bytes place.now) files.old files.new (O.stream out.old) (O.stream out.new) (B.states listing.now.table.now) (listing_by B.states listing.now) refusal)) }
-    ensures cut { OnErr result (B.tells → NodesCut F.Files F.Output.stream (texts request.now.only.items) request.now.folder.now (fill_of request.now.fill) request.now.short_names files.new (O.stream out.old) (O.stream out.new) (B.states listing.now.table.now) (listing_by B.states listing.now)) }
-    ensures still { OnErr result (SparesNodes F.Files request.now.folder.now files.old files.new) }
-    ensures no_node { IfOk result (λ told. IfErr told (λ refusal. (i : ℕ) → refusal ≡ Refusal.NoNode i → files.new ≡ files.old)) }
+    ensures made { IfOk result (λ good. B.tells → (one : F) × MakesNodes ⟦<F as Known>⟧.reach request.now (option_map string_bytes place.now) files.old one files.new (O.stream out.old) (O.stream out.new) (B.states listing.now.table.now) (listing_by B.states listing.now) good) }
+    ensures why { IfErr result (λ stop. B.tells → IfStopped (ListStops ⟦<F as Known>⟧.reach request.now (option_map string_bytes place.now) files.old files.new (O.stream out.old) (O.stream out.new) (B.states listing.now.table.now) (listing_by B.states listing.now))
+        (NodesCut F.Files F.Output.stream (texts request.now.only.items) request.now.folder.now (fill_of request.now.fill) request.now.short_names files.new (O.stream out.old) (O.stream out.new) (B.states listing.now.table.now) (listing_by B.states listing.now)) stop) }
+    ensures still { IsErrOf result Stop.Unread → SparesNodes F.Files request.now.folder.now files.old files.new }
+    ensures no_node { (i : ℕ) → IsErrOf result (Stop.Refused (Refusal.NoNode i)) → files.new ≡ files.old }
     ensures spares { SparesListed ⟦<F as Known>⟧.reach request.now (option_map string_bytes place.now) files.old files.new }
-    ensures fails { OnErr result ((B.fails → ⊥) → ⊥) }
+    ensures fails { IsErrOf result Stop.Unread → (B.fails → ⊥) → ⊥ }
 {
     let digest = place.is_some();
     let made = match make_nodes(alloc, listing, request, digest, times, files, out) {
-        Ok(Ok(made)) => made,
-        Ok(Err(refusal)) => return Ok(Err(refusal)),
-        Err(ReadFault) => return Err(ReadFault),
+        Ok(made) => made,
+        Err(stop) => return Err(stop),
     };
     match add_manifest(
         alloc,
@@ -136,27 +136,7 @@ pub fn list_report_by<B: ReportStore, F: Files, O: Sink>(
         place,
         files,
     ) {
-        Ok(()) => Ok(Ok(made.good)),
-        Err(refusal) => Ok(Err(refusal)),
-    }
-}
-
-/// The same of a table, whose blocks are never read again.
-pub fn list_report<F: Files, O: Sink>(
-    alloc: Global,
-    listing: &Listing<'_>,
-    request: &ExtractRequest<'_>,
-    place: &Option<String>,
-    times: &Times,
-    files: &mut F,
-    out: &mut O,
-) -> Result<bool, Refusal>
-    ensures made { IfOk result (λ good. (one : F) × MakesNodes ⟦<F as Known>⟧.reach request.now (option_map string_bytes place.now) files.old one files.new (O.stream out.old) (O.stream out.new) (state_of listing.now.table.now) (listing_now listing.now) good) }
-    ensures why { IfErr result (ListStops ⟦<F as Known>⟧.reach request.now (option_map string_bytes place.now) files.old files.new (O.stream out.old) (O.stream out.new) (state_of listing.now.table.now) (listing_now listing.now)) }
-    ensures spares { SparesListed ⟦<F as Known>⟧.reach request.now (option_map string_bytes place.now) files.old files.new }
-{
-    match list_report_by(alloc, listing, request, place, times, files, out) {
-        Ok(told) => told,
-        Err(ReadFault) => unreachable!(),
+        Ok(()) => Ok(made.good),
+        Err(refusal) => Err(Stop::Refused(refusal)),
     }
 }

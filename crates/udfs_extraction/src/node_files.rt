@@ -81,17 +81,19 @@ pub fn node_at<'a, B: BlockStore>(listing: &'a Listing<'_, B>, index: usize) -> 
     &listing.nodes[index]
 }
 
-/// Why the bytes of a node were not written.
+/// Why the bytes of a node, or of a lost file, were not written.
 #[derive(Drop)]
-struct NodeFault<B: BlockStore> {
-    error: StoreExtractError,
-    of: PhantomData<B>,
+pub struct NodeFault<B: BlockStore> {
+    /// The error.
+    pub error: StoreExtractError,
+    /// The store of which the bytes were read.
+    pub of: PhantomData<B>,
     ghost fails: { error ≡ store_error.Unread → (B.fails → ⊥) → ⊥ },
 }
 
 impl<B: BlockStore> NodeFault<B> {
     /// That memory ran out, or that a block could not be read again, where that is why.
-    fn gave_up(&self) -> Option<GaveUp>
+    pub fn gave_up(&self) -> Option<GaveUp>
         ensures fails { result ≡ Some GaveUp.Unread → (B.fails → ⊥) → ⊥ }
         ensures other { result ≡ None → (self.now.error ≢ store_error.Extract extract_error.OutOfMemory) × (self.now.error ≢ store_error.Unread) }
     {

@@ -8,12 +8,14 @@ ghost use Rattle.udfs_extraction.specs.ByRequest.{IsNodePut, fill_of};
 ghost use Rattle.udfs_extraction.specs.Extracting.{IsDone, IsElsewhere, IsIn, IsPutAt, Puts, Spares, SparesNodes, Stay, all_good, is_good, node_line};
 ghost use Rattle.udfs_extraction.specs.Manifests.{IsManifest, PutsNoted, notes_text};
 ghost use Rattle.udfs_extraction.specs.Refused.{NodesCut, NodesStop};
+ghost use Rattle.udfs_extraction.specs.Stopping.{IfStopped};
 
 use crate::choosing::all_are_nodes;
 use crate::fate_remarks::remark_on_totals;
 use crate::manifest::Noted;
 use crate::node_files::put_folder;
 use crate::runs::{Told, put_run};
+use crate::stopping::Stop;
 use crate::times::set_folder_times;
 use std::alloc::{AllocError, Global};
 use udfs_common::files::Files;
@@ -158,7 +160,7 @@ fn remark_closed<B: ReportStore, F: Files>(alloc: Global, listing: &Listing<'_, 
 ///
 /// # Errors
 ///
-/// `ReadFault` where the bytes of a known block could not be read: what was reported by then is made. In the result: why not all was made.
+/// `Unread` where the bytes of a known block could not be read: what was reported by then is made. `Refused`: why else not all was made.
 pub fn put_report<B: ReportStore, F: Files, O: Sink>(
     alloc: Global,
     listing: &Listing<'_, B>,
@@ -170,59 +172,61 @@ pub fn put_report<B: ReportStore, F: Files, O: Sink>(
     times: &Times,
     files: &mut F,
     out: &mut O,
-) -> Result<Result<Made, Refusal>, ReadFault>
-    ensures put { IfOk result (λ told. IfOk told (λ made. B.tells → PutsNoted (texts only.now) short
+) -> Result<Made, Stop>
+    ensures put { IfOk result (λ made. B.tells → PutsNoted (texts only.now) short
         (λ told. IsPutAt F.Files F.Output.stream files.new (B.states listing.now.table.now) told fill short folder.now)
         (λ told fates text. digest ≡ true → F.tells → IsManifest (F.holds files.new) folder.now short told fates text)
-        files.old files.new (listing_by B.states listing.now) (O.stream out.old) (O.stream out.new) made.good (option_map (λ m. notes_text short (listing_by B.states listing.now) m.items) made.manifest))) }
-    ensures why { IfOk result (λ told. IfErr told (λ refusal. B.tells → NodesStop F.Files F.Output.stream (texts only.now) folder.now fill short files.old files.new (O.stream out.old) (O.stream out.new) (B.states listing.now.table.now) (listing_by B.states listing.now) refusal)) }
-    ensures cut { OnErr result (B.tells → NodesCut F.Files F.Output.stream (texts only.now) folder.now fill short files.new (O.stream out.old) (O.stream out.new) (B.states listing.now.table.now) (listing_by B.states listing.now)) }
-    ensures no_node { IfOk result (λ told. IfErr told (λ refusal. (i : ℕ) → refusal ≡ Refusal.NoNode i → files.new ≡ files.old)) }
+        files.old files.new (listing_by B.states listing.now) (O.stream out.old) (O.stream out.new) made.good (option_map (λ m. notes_text short (listing_by B.states listing.now) m.items) made.manifest)) }
+    ensures why { IfErr result (λ stop. B.tells → IfStopped (NodesStop F.Files F.Output.stream (texts only.now) folder.now fill short files.old files.new (O.stream out.old) (O.stream out.new) (B.states listing.now.table.now) (listing_by B.states listing.now))
+        (NodesCut F.Files F.Output.stream (texts only.now) folder.now fill short files.new (O.stream out.old) (O.stream out.new) (B.states listing.now.table.now) (listing_by B.states listing.now)) stop) }
+    ensures no_node { (i : ℕ) → IsErrOf result (Stop.Refused (Refusal.NoNode i)) → files.new ≡ files.old }
     ensures stays { F.tells → Stay (F.holds files.old) (F.holds files.new) }
     ensures outside { (q : List ℕ) → (¬ IsIn folder.now q) → F.holds files.new q ≡ F.holds files.old q }
     ensures elsewhere { (q : List ℕ) → IsElsewhere (texts only.now) fill short (listing_by B.states listing.now) folder.now q → F.holds files.new q ≡ F.holds files.old q }
     ensures crash { F.tells → Goes F.moment F.may_leave F.left_since files.old files.new (Spares folder.now (F.holds files.old)) }
-    ensures fails { OnErr result ((B.fails → ⊥) → ⊥) }
+    ensures fails { IsErrOf result Stop.Unread → (B.fails → ⊥) → ⊥ }
 {
     match &listing.volume {
         Volume::Open(_) => {
             match all_are_nodes(alloc, only, &listing.nodes) {
                 Ok(()) => {}
-                Err(refusal) => return Ok(Err(refusal)),
+                Err(refusal) => return Err(Stop::Refused(refusal)),
             }
             let whole = match chosen_are_whole(alloc, only, &listing.nodes) {
                 Ok(whole) => whole,
-                Err(AllocError) => return Ok(Err(Refusal::Memory(AllocError))),
+                Err(AllocError) => return Err(Stop::Refused(Refusal::Memory(AllocError))),
             };
             if put_folder(folder, files) != Fate::Made {
-                return Ok(Err(Refusal::Folder));
+                return Err(Stop::Refused(Refusal::Folder));
             }
             let told = match put_nodes(
                 alloc, listing, "", only, fill, short, digest, folder, times, files, out,
             ) {
                 Ok(told) => told,
-                Err(GaveUp::OutOfMemory) => return Ok(Err(Refusal::Memory(AllocError))),
-                Err(GaveUp::Unread) => return Err(ReadFault),
+                Err(GaveUp::OutOfMemory) => {
+                    return Err(Stop::Refused(Refusal::Memory(AllocError)));
+                }
+                Err(GaveUp::Unread) => return Err(Stop::Unread),
             };
             if !told.heard {
-                return Ok(Err(Refusal::Output));
+                return Err(Stop::Refused(Refusal::Output));
             }
             remark_open(alloc, listing, files);
             remark_on_totals(alloc, &told.totals, files);
-            Ok(Ok(Made {
+            Ok(Made {
                 good: is_all_good(told.good, whole),
                 manifest: Some(told.manifest),
-            }))
+            })
         }
         _ => {
             if let Err(error) = write_volume_line(&listing.volume, out) {
-                return Ok(Err(refused_run(error)));
+                return Err(Stop::Refused(refused_run(error)));
             }
             remark_closed(alloc, listing, files);
-            Ok(Ok(Made {
+            Ok(Made {
                 good: false,
                 manifest: None,
-            }))
+            })
         }
     }
 }
@@ -243,16 +247,16 @@ pub fn make_nodes<B: ReportStore, F: Files, O: Sink>(
     times: &Times,
     files: &mut F,
     out: &mut O,
-) -> Result<Result<Made, Refusal>, ReadFault>
-    ensures put { IfOk result (λ told. IfOk told (λ made. B.tells → PutsNoted (texts request.now.only.items) request.now.short_names (IsNodePut ⟦<F as Known>⟧.reach request.now files.new (B.states listing.now.table.now))
+) -> Result<Made, Stop>
+    ensures put { IfOk result (λ made. B.tells → PutsNoted (texts request.now.only.items) request.now.short_names (IsNodePut ⟦<F as Known>⟧.reach request.now files.new (B.states listing.now.table.now))
         (λ told fates text. digest ≡ true → F.tells → IsManifest (F.holds files.new) request.now.folder.now request.now.short_names told fates text)
-        files.old files.new (listing_by B.states listing.now) (O.stream out.old) (O.stream out.new) made.good (option_map (λ m. notes_text request.now.short_names (listing_by B.states listing.now) m.items) made.manifest))) }
-    ensures why { IfOk result (λ told. IfErr told (λ refusal. B.tells → NodesStop F.Files F.Output.stream (texts request.now.only.items) request.now.folder.now (fill_of request.now.fill) request.now.short_names files.old files.new (O.stream out.old) (O.stream out.new) (B.states listing.now.table.now) (listing_by B.states listing.now) refusal)) }
-    ensures cut { OnErr result (B.tells → NodesCut F.Files F.Output.stream (texts request.now.only.items) request.now.folder.now (fill_of request.now.fill) request.now.short_names files.new (O.stream out.old) (O.stream out.new) (B.states listing.now.table.now) (listing_by B.states listing.now)) }
-    ensures no_node { IfOk result (λ told. IfErr told (λ refusal. (i : ℕ) → refusal ≡ Refusal.NoNode i → files.new ≡ files.old)) }
+        files.old files.new (listing_by B.states listing.now) (O.stream out.old) (O.stream out.new) made.good (option_map (λ m. notes_text request.now.short_names (listing_by B.states listing.now) m.items) made.manifest)) }
+    ensures why { IfErr result (λ stop. B.tells → IfStopped (NodesStop F.Files F.Output.stream (texts request.now.only.items) request.now.folder.now (fill_of request.now.fill) request.now.short_names files.old files.new (O.stream out.old) (O.stream out.new) (B.states listing.now.table.now) (listing_by B.states listing.now))
+        (NodesCut F.Files F.Output.stream (texts request.now.only.items) request.now.folder.now (fill_of request.now.fill) request.now.short_names files.new (O.stream out.old) (O.stream out.new) (B.states listing.now.table.now) (listing_by B.states listing.now)) stop) }
+    ensures no_node { (i : ℕ) → IsErrOf result (Stop.Refused (Refusal.NoNode i)) → files.new ≡ files.old }
     ensures elsewhere { (q : List ℕ) → IsElsewhere (texts request.now.only.items) (fill_of request.now.fill) request.now.short_names (listing_by B.states listing.now) request.now.folder.now q → F.holds files.new q ≡ F.holds files.old q }
     ensures spares { SparesNodes F.Files request.now.folder.now files.old files.new }
-    ensures fails { OnErr result ((B.fails → ⊥) → ⊥) }
+    ensures fails { IsErrOf result Stop.Unread → (B.fails → ⊥) → ⊥ }
 {
     let only = request.only.as_slice();
     let fill = fill_of(request.fill);
@@ -269,7 +273,7 @@ pub fn make_nodes<B: ReportStore, F: Files, O: Sink>(
         files,
         out,
     ) {
-        Ok(told) => Ok(told),
-        Err(fault) => Err(fault),
+        Ok(made) => Ok(made),
+        Err(stop) => Err(stop),
     }
 }

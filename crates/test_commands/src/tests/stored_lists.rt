@@ -160,6 +160,10 @@ $ extract --last 600 --to out disc.tab
 
 $ extract --last 600 --to out disc.tab dev/none.rd
 
+$ extract --last 600 --unnamed more --lost lost --to out disc.tab
+
+$ extract --last 600 --unnamed more --lost lost --to out disc.tab dev/none.rd
+
 = the_same_report_of_files_and_devices
 # What is in `dev/` is a device: then the blocks are held.
 at 32 33 34 256 272 273 274 275 276 277 279

@@ -3,20 +3,17 @@ use Rattle.udfs_extraction.proofs.nodes.make_nodes.Goals as goal
 pub returns-in-Ok-clause-put : goal.returns-in-Ok-clause-put
 returns-in-Ok-clause-put g c = rw c.fill_of-fill.ensures at (rw c.as_slice-only.ensures.value at c.in-Ok.ensures.put)
 
-pub returns-in-Ok-clause-why : goal.returns-in-Ok-clause-why
-returns-in-Ok-clause-why g c = rw c.fill_of-fill.ensures at (rw c.as_slice-only.ensures.value at c.in-Ok.ensures.why)
-
 pub returns-in-Ok-clause-elsewhere : goal.returns-in-Ok-clause-elsewhere
 returns-in-Ok-clause-elsewhere g c = rw c.fill_of-fill.ensures at (rw c.as_slice-only.ensures.value at c.put_report.ensures.elsewhere)
 
 pub returns-in-Ok-clause-spares : goal.returns-in-Ok-clause-spares
 returns-in-Ok-clause-spares g c = record { stays = c.put_report.ensures.stays; outside = c.put_report.ensures.outside; crash = c.put_report.ensures.crash }
 
-pub returns-in-Err-clause-cut : goal.returns-in-Err-clause-cut
-returns-in-Err-clause-cut g c = rw c.fill_of-fill.ensures at (rw c.as_slice-only.ensures.value at c.in-Err.ensures.cut)
+pub returns-clause-why : goal.returns-clause-why
+returns-clause-why g c = rw c.fill_of-fill.ensures at (rw c.as_slice-only.ensures.value at c.in-Err.ensures.why)
 
-pub returns-in-Err-clause-elsewhere : goal.returns-in-Err-clause-elsewhere
-returns-in-Err-clause-elsewhere g c = rw c.fill_of-fill.ensures at (rw c.as_slice-only.ensures.value at c.put_report.ensures.elsewhere)
+pub returns-clause-elsewhere : goal.returns-clause-elsewhere
+returns-clause-elsewhere g c = rw c.fill_of-fill.ensures at (rw c.as_slice-only.ensures.value at c.put_report.ensures.elsewhere)
 
-pub returns-in-Err-clause-spares : goal.returns-in-Err-clause-spares
-returns-in-Err-clause-spares g c = record { stays = c.put_report.ensures.stays; outside = c.put_report.ensures.outside; crash = c.put_report.ensures.crash }
+pub returns-clause-spares : goal.returns-clause-spares
+returns-clause-spares g c = record { stays = c.put_report.ensures.stays; outside = c.put_report.ensures.outside; crash = c.put_report.ensures.crash }

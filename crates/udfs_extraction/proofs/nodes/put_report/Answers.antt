@@ -69,8 +69,8 @@ returns-in-Err-OutOfMemory-clause-why g c known =
     let put = c.put_nodes.ensures.put known in
     by_open _ _ c.in-Open.is _ _ (inr (record { heard = put.0; fates = put.1; puts = put.2; why = inl (search rules) }))
 
-pub returns-in-Err-Unread-clause-cut : goal.returns-in-Err-Unread-clause-cut
-returns-in-Err-Unread-clause-cut g c known =
+pub returns-in-Err-Unread-clause-why : goal.returns-in-Err-Unread-clause-why
+returns-in-Err-Unread-clause-why g c known =
     let put = c.put_nodes.ensures.put known in
     by_open _ _ c.in-Open.is _ _ (put.0, put.1, put.2)
 
