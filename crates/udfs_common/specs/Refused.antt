@@ -7,7 +7,7 @@
 --     StoredRefused                  inputs that are read at positions were not taken, and why
 --     IsUnindexed                    the same, or one of them is of another disc
 --     IndexRefused                   the same of the inputs of some paths
-use Rattle.std.specs.Prelude.{◌≡◌, ◌≢◌, ◌⊎◌, ◌<◌, ◌+◌, ℕ, Bool, true, List, ◌∷◌, ◌++◌, Option, None, Some, Err, alloc_error, length}
+use Rattle.std.specs.Prelude.{◌≡◌, ◌≢◌, ◌⊎◌, ◌<◌, ◌≤◌, ◌+◌, ◌-◌, ℕ, Bool, true, List, ◌∷◌, ◌++◌, Option, None, Some, Err, alloc_error, length}
 use Rattle.udfs_lattice.specs.Tables.{Table}
 use Rattle.udfs_index.specs.declared.any_stored.AnyStored.{AnyStored}
 use Rattle.udfs_index.specs.declared.any_stored.AnyStored.TheVariants.{File, Paired, Refused}
@@ -18,13 +18,12 @@ use Rattle.udfs_reading.specs.declared.error.ReadingFault.TheVariants.{Io}
 use Rattle.udfs_reading.specs.declared.inputs.InputError.{InputError}
 use Rattle.udfs_rescue.specs.declared.opening.PairFault.{PairFault}
 use Rattle.udfs_words.specs.declared.input_path.InputPath.{InputPath}
-use Rattle.udfs_common.specs.Blaming.{AreJudgedFor, IsShut, source_reason, stored_reason}
+use Rattle.udfs_common.specs.Blaming.{AreJudgedFor, IsShut, stored_reason}
 use Rattle.udfs_common.specs.Keeping.{Opens}
 use Rattle.udfs_common.specs.OtherDiscs.{IsOtherDisc}
 use Rattle.udfs_common.specs.Refusing.{NamesNoOther, refusal_with}
 use Rattle.udfs_common.specs.declared.refusal.Refusal.{Refusal}
 use Rattle.udfs_common.specs.declared.refusal.Refusal.TheVariants as refusal
-use Rattle.udfs_common.specs.declared.sources.AnySource.{AnySource}
 use Rattle.udfs_common.specs.Indexing.{IsNamed, IsOtherOf}
 
 -- why an input has none, where it is an image with its mapfile and has none
@@ -52,21 +51,33 @@ pub record BlamesOne {R : Type 0} (remaining : R → Option (List ℕ)) (reason 
   pub fails : OneFails remaining all error
   pub told : refusal ≡ refusal_with (reason fails.one) error
 
+-- what an input has, and why it has no reading, if it has none
+pub record Judged : Type 0 where
+  pub content : Option (List ℕ)
+  pub reason : Option PairFault
+
+-- the same, as functions
+abbrev pub content_of : Judged → Option (List ℕ)
+content_of input = input.content
+
+abbrev pub reason_of : Judged → Option PairFault
+reason_of input = input.reason
+
 -- the inputs are those that the paths lead to
-pub record BlamesPath {R : Type 0} (found : List ℕ → Option (Option (List ℕ))) (remaining : R → Option (List ℕ)) (reason : R → Option PairFault) (paths : List InputPath) (refusal : Refusal) : Type 0 where
-  pub sources : List R
-  pub each : length sources ≡ length paths
-  pub opened : Opens found remaining paths sources
-  pub judged : AreJudgedFor found reason paths sources
-  pub blames : BlamesOne remaining reason sources refusal
+pub record BlamesPath (found : List ℕ → Option (Option (List ℕ))) (paths : List InputPath) (refusal : Refusal) : Type 0 where
+  pub all : List Judged
+  pub each : length all ≡ length paths
+  pub opened : Opens found content_of paths all
+  pub judged : AreJudgedFor found reason_of paths all
+  pub blames : BlamesOne content_of reason_of all refusal
 
 -- its device failed, and it is named, counted from 1
 abbrev pub IsUncompared : ℕ → Refusal → Type 0
 IsUncompared count r = (place : ℕ) × (number : ℕ) × (place < count) × (r ≡ refusal.Input (place + 1) (record { fault = Io; number = number }))
 
--- or it has changed since it was begun
+-- or it has changed since it was begun; of no inputs the first would be named, and none is ever read
 abbrev pub IsRereadOf : ℕ → Refusal → Type 0
-IsRereadOf count r = (place : ℕ) × (number : ℕ) × (place < count) × (r ≡ refusal.Reread (place + 1) number)
+IsRereadOf count r = (place : ℕ) × (number : ℕ) × (place ≤ count - 1) × (r ≡ refusal.Reread (place + 1) number)
 
 -- memory ran out, or one of them was not taken, or its bytes could not be compared with those of another
 abbrev pub StoredRefused : {S : Type 0} → (S → Option (List ℕ)) → (S → Option PairFault) → List S → Refusal → Type 0
@@ -77,5 +88,5 @@ abbrev pub IsUnindexed : {S : Type 0} {g : _} → (AnyStored S g → Option (Lis
 IsUnindexed content paths stored force r = (StoredRefused content stored_reason stored r ⊎ IsOtherOf content paths stored r) × (r ≢ refusal.Unkept) × (force ≡ true → NamesNoOther r)
 
 -- memory ran out; or one of the paths is shut, and it is named; or what it leads to has no table, and why; or bytes of an input could not be read again; or, where it is known what the files hold (`tells`), an image among the inputs is of another disc
-pub record IndexRefused {R I : Type 0} (tells : Type 0) (found : List ℕ → Option (Option (List ℕ))) (shut : List ℕ → Type 0) (remaining : AnySource R I → Option (List ℕ)) (paths : List InputPath) (refused : Refusal) : Type 0 where
-  pub why : (refused ≡ refusal.Memory alloc_error) ⊎ IsShut shut paths refused ⊎ BlamesPath found remaining source_reason paths refused ⊎ IsUncompared (length paths) refused ⊎ IsRereadOf (length paths) refused ⊎ (IsNamed refused × (tells → IsOtherDisc found remaining paths refused))
+pub record IndexRefused (tells : Type 0) (found : List ℕ → Option (Option (List ℕ))) (shut : List ℕ → Type 0) (paths : List InputPath) (refused : Refusal) : Type 0 where
+  pub why : (refused ≡ refusal.Memory alloc_error) ⊎ IsShut shut paths refused ⊎ BlamesPath found paths refused ⊎ IsUncompared (length paths) refused ⊎ IsRereadOf (length paths) refused ⊎ (IsNamed refused × (tells → IsOtherDisc found paths refused))

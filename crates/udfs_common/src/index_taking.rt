@@ -1,6 +1,6 @@
 //! What takes inputs that are read at positions, and why one was not taken.
 
-ghost use Rattle.std.specs.Prelude.{◌≡◌, ◌≢◌, ◌⊎◌, ◌-◌, ◌<◌, ◌≤◌, ℕ, List, Option, Err, IfOk, IfErr, OnOk, length, map, slice_get};
+ghost use Rattle.std.specs.Prelude.{◌≡◌, ◌≢◌, ◌⊎◌, ◌-◌, ◌≤◌, ℕ, List, Option, Err, IfOk, IfErr, OnOk, length, map, slice_get};
 ghost use Rattle.udfs_index.specs.Copying.{AreAllTold};
 ghost use Rattle.udfs_index.specs.Placed.{TakesInput};
 ghost use Rattle.udfs_lattice.specs.Tables.{Table, IsTable, conflict_count};
@@ -10,7 +10,7 @@ ghost use Rattle.udfs_common.specs.Refused.{IsRereadOf, IsUncompared, refused_in
 ghost use Rattle.udfs_common.specs.Refusing.{NamesNoOther, refusal_with};
 
 use crate::refusal::Refusal;
-use crate::sources::refused_pair;
+use crate::refused_pairs::refused_pair;
 use std::alloc::{AllocError, Global};
 use udfs_index::{AnyStored, Cursor, Index, Stored, Unread, record_at, take_stored};
 use udfs_reading::{InputError, ReadingError, ReadingFault, Source, Taker};
@@ -60,7 +60,7 @@ fn record_of<S: Stored>(stored: &[S], unread: Unread) -> u32 {
 
 /// What is said of bytes of one of these inputs that could not be read again, or of one that has changed.
 pub fn reread_of<S: Stored>(stored: &[S], unread: Unread) -> Refusal
-    ensures { 0 < length stored.now → IsRereadOf (length stored.now) result }
+    ensures { IsRereadOf (length stored.now) result }
 {
     let number = record_of(stored, unread);
     let place = unread.input.min(stored.len().saturating_sub(1));

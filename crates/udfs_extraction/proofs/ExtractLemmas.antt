@@ -23,7 +23,7 @@ use Rattle.udfs_extraction.specs.Stopping.{IfStopped}
 use Rattle.udfs_extraction.specs.declared.stopping.Stop.{Stop}
 use Rattle.udfs_extraction.specs.declared.stopping.Stop.TheVariants as stops
 
-module _ {F I M S W O : Type 0} (reach : Reach F I M S W) (stream : O → Stream) (r : ExtractRequest) (place : Option (List ℕ)) where
+module _ {F I S W O : Type 0} (reach : Reach F I S W) (stream : O → Stream) (r : ExtractRequest) (place : Option (List ℕ)) where
   abbrev Refuses : F → F → O → O → ℕ → Blocks → Report → Refusal → Type 0
   Refuses old new before after last blocks report = ListedRefused reach stream r place old new before after last blocks report
 

@@ -4,15 +4,16 @@ ghost use Rattle.std.specs.Prelude.{◌≡◌, ◌≢◌, ℕ, List, [], Option,
 ghost use Rattle.udfs_calls.specs.Files.{bytes_of, rest_of, IsAtFront};
 ghost use Rattle.udfs_calls.specs.Log.{AreNamed, IsAt, IsOpen, after_sync, holds, names_folder};
 ghost use Rattle.udfs_host_fs.specs.Disk.{Gone, Moved, Same, SameBut};
-ghost use Rattle.udfs_host_fs.specs.Opened.{contents_of};
+ghost use Rattle.udfs_host_fs.specs.Opened.{IsSized, contents_of};
 ghost use Rattle.udfs_host_fs.specs.Told.{LogGoes, kept_by};
 
-use crate::opened::{MachineImage, MachineInput, MachineStored};
+use crate::opened::{MachineInput, MachinePlaced};
 use crate::output::MachineFile;
 use crate::watch::{Watch, heeded};
 use std::alloc::Global;
 use std::io::{Error, ErrorKind};
 use udfs_calls::{Calls, Opened};
+use udfs_index::{Readable, Spooled, Stored};
 use udfs_reading::DeviceFault;
 
 /// How many bytes the file that a path leads to has, where it is one. A folder is none.
@@ -73,24 +74,29 @@ pub(crate) fn open_input<'a, C: Calls, N: Watch>(
     }
 }
 
-/// Opens the regular file that a path leads to, to be read at positions; `None` where it leads to none.
+/// Opens the regular file that a path leads to, to be read where it is; of anything else what comes from its front on, to be brought into memory.
 pub(crate) fn open_stored<'a, C: Calls, N: Watch>(
     calls: &C,
     watch: &'a N,
+    alloc: Global,
     path: &str,
-) -> Result<Option<MachineStored<'a, C::File, N>>, DeviceFault>
-    ensures bytes { IfOk result (λ found. IfSome found (λ stored. IfSome (holds (C.log calls.now) (C.real calls.now path.now)) (λ held. bytes_of (C.File.state stored.file) ≡ held))) }
-    ensures there { IfOk result (λ found. OnSome found (holds (C.log calls.now) (C.real calls.now path.now) ≢ Some None)) }
+) -> Result<Readable<MachinePlaced<'a, C::File, N>, MachineInput<'a, C::File, N>>, DeviceFault>
+    ensures bytes { IfOk result (λ stored. IfSome (holds (C.log calls.now) (C.real calls.now path.now)) (λ held. ⟦<Readable<MachinePlaced<'a, C::File, N>, MachineInput<'a, C::File, N>> as Stored>⟧.content stored ≡ held)) }
+    ensures there { OnOk result (holds (C.log calls.now) (C.real calls.now path.now) ≢ Some None) }
 {
     let size = size_of(calls, path);
     if size.is_none() {
-        return Ok(None);
+        return match open_input(calls, watch, path) {
+            Ok(input) => Ok(Readable::InMemory(Spooled::new(alloc, input))),
+            Err(fault) => Err(fault),
+        };
     }
     match heeded(watch, open_led(calls, path)) {
-        Some(file) => Ok(Some(MachineStored {
+        Some(file) => Ok(Readable::Placed(MachinePlaced {
             file,
             number: watch.opened(size),
             watch,
+            size: None,
         })),
         None => Err(DeviceFault),
     }
@@ -295,25 +301,39 @@ pub(crate) fn remove<C: Calls>(calls: &mut C, path: &str) -> Result<(), Error>
     }
 }
 
-/// Opens what a path leads to, to be read as an image.
+/// How many bytes an opened device has, where it has positions.
+fn end_of<O: Opened>(file: &mut O) -> Result<u64, Error>
+    ensures size { IfOk result (λ end. IsSized (O.state file.new) (Some end)) }
+    ensures same { bytes_of (O.state file.new) ≡ bytes_of (O.state file.old) }
+{
+    file.go_to(0)?;
+    file.go_to_end()
+}
+
+/// Opens what a path leads to, to be read at positions, where it has some.
 pub(crate) fn open_image<'a, C: Calls, N: Watch>(
     calls: &C,
     watch: &'a N,
     path: &str,
-) -> Result<MachineImage<'a, C::File, N>, DeviceFault>
-    ensures bytes { IfOk result (λ image. IfSome (holds (C.log calls.now) (C.real calls.now path.now)) (λ held. bytes_of (C.File.state image.file) ≡ held)) }
+) -> Result<Readable<MachinePlaced<'a, C::File, N>, MachineInput<'a, C::File, N>>, DeviceFault>
+    ensures bytes { IfOk result (λ image. IfSome (holds (C.log calls.now) (C.real calls.now path.now)) (λ held. ⟦<Readable<MachinePlaced<'a, C::File, N>, MachineInput<'a, C::File, N>> as Stored>⟧.content image ≡ held)) }
     ensures there { OnOk result (holds (C.log calls.now) (C.real calls.now path.now) ≢ Some None) }
 {
+    let size = size_of(calls, path);
     let Some(mut file) = heeded(watch, open_led(calls, path)) else {
         return Err(DeviceFault);
     };
-    match heeded(watch, file.go_to(0)) {
-        Some(()) => Ok(MachineImage {
-            file,
-            number: watch.opened(None),
-            watch,
-            faults: 0,
-        }),
-        None => Err(DeviceFault),
-    }
+    let end = match size {
+        Some(_) => None,
+        None => match heeded(watch, end_of(&mut file)) {
+            Some(end) => Some(end),
+            None => return Err(DeviceFault),
+        },
+    };
+    Ok(Readable::Placed(MachinePlaced {
+        file,
+        number: watch.opened(size),
+        watch,
+        size: end,
+    }))
 }
