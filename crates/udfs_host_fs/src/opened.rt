@@ -65,6 +65,9 @@ impl<'a, O: Opened + Drop, N: Watch> Stored for MachinePlaced<'a, O, N> {
     }
 
     fn changed(&self) -> Option<SystemTime> {
+        if self.size.is_some() {
+            return None;
+        }
         let about = heeded(self.watch, self.file.about())?;
         about.modified
     }
