@@ -3,9 +3,9 @@
 ghost use Rattle.std.specs.Prelude.{⊤};
 ghost use Rattle.udfs_index.specs.AnyStored.{fails_in, stored_in};
 
+use crate::Stored;
 use crate::stamp::Stamp;
 use crate::stored_pair::StoredPair;
-use crate::Stored;
 use std::time::SystemTime;
 use udfs_reading::DeviceFault;
 use udfs_rescue::PairFault;
