@@ -7,7 +7,7 @@ use Rattle.udfs_index.specs.Copying.{AreAllTold}
 use Rattle.udfs_reading.specs.Device.{Stream}
 use Rattle.udfs_lattice.specs.Tables.{Table}
 use Rattle.udfs_reading.specs.Answers.{GivesFault, RefusesFaulty}
-use Rattle.udfs_reading.specs.Several.{TablesAre}
+use Rattle.udfs_reading.specs.Several.{HasTable, TablesAre}
 use Rattle.udfs_reading.specs.declared.inputs.InputError.{InputError}
 use Rattle.udfs_common.specs.Blaming.{AreJudgedFor, IsJudgedFor, IsShut, stored_reason}
 use Rattle.udfs_common.specs.OtherDiscs.{IsOtherDisc}
@@ -45,7 +45,7 @@ pub mapped_tables : {A B : Type 0} (f : A → B) (content : A → Option (List �
 mapped_tables f content has same [] [] are = tt
 mapped_tables f content has same [] (t ∷ ts) are = are
 mapped_tables f content has same (x ∷ xs) [] are = are
-mapped_tables f content has same (x ∷ xs) (t ∷ ts) are = (rw (same x) are.0, mapped_tables f content has same xs ts are.1)
+mapped_tables f content has same (x ∷ xs) (t ∷ ts) are = (subst (λ (o : Option (List ℕ)). IfSome o (λ bytes. HasTable bytes t)) (sym (same x)) are.0, mapped_tables f content has same xs ts are.1)
 
 -- and they come of the same paths
 mapped_opens : {A B : Type 0} (f : A → B) (content : A → Option (List ℕ)) (has : B → Option (List ℕ)) → ((x : A) → has (f x) ≡ content x) → (found : List ℕ → Option (Option (List ℕ))) (paths : List InputPath) (xs : List A) → Opens found content paths xs → Opens found has paths (map f xs)

@@ -107,19 +107,13 @@ fn forget_inputs<F: Files>(
         Ok(stored) => stored,
         Err(refusal) => return Err(refusal),
     };
-    let mut index = match index_of(alloc, stored.as_slice(), paths, request.force) {
+    let inputs = stored.as_slice();
+    let mut index = match index_of(alloc, inputs, paths, request.force) {
         Ok(index) => index,
         Err(refusal) => return Err(refusal),
     };
     forget_in(&mut index, request.conflicts, blocks);
-    match put_index(
-        alloc,
-        &index,
-        stored.as_slice(),
-        Version::Two,
-        request.out,
-        files,
-    ) {
+    match put_index(alloc, &index, inputs, Version::Two, request.out, files) {
         Ok(()) => Ok(()),
         Err(refusal) => Err(refusal),
     }

@@ -143,13 +143,14 @@ fn image_inputs<F: Files>(
         Ok(stored) => stored,
         Err(refusal) => return Err(refusal),
     };
-    let index = match index_of(alloc, stored.as_slice(), paths, request.force) {
+    let inputs = stored.as_slice();
+    let index = match index_of(alloc, inputs, paths, request.force) {
         Ok(index) => index,
         Err(refusal) => return Err(refusal),
     };
     let indexed = Indexed {
         index: &index,
-        stored: stored.as_slice(),
+        stored: inputs,
     };
     match put_imaged(alloc, &indexed, last, request, files) {
         Ok(()) => Ok(()),

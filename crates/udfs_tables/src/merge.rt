@@ -59,14 +59,15 @@ fn merge_inputs<F: Files>(
         Ok(stored) => stored,
         Err(refusal) => return Err(refusal),
     };
-    let mut tally = match indexed(alloc, stored.as_slice(), paths, request.force) {
+    let inputs = stored.as_slice();
+    let mut tally = match indexed(alloc, inputs, paths, request.force) {
         Ok(tally) => tally,
         Err(refusal) => return Err(refusal),
     };
     match put_index(
         alloc,
         tally.index(),
-        stored.as_slice(),
+        inputs,
         request.version,
         request.out,
         files,

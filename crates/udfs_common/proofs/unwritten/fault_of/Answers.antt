@@ -20,3 +20,9 @@ returns-in-Err-index_of-clause-blamed g c =
     let each : length c.in-Ok.stored.items ≡ length c.args.inputs.now = search rules in
     ⊎_elim (λ refused. of_stored (stored_in g.F.Stored.Stored.content) _ _ c.args.inputs.now c.in-Ok.stored.items _ each c.in-Ok.ensures.opened c.in-Ok.ensures.judged refused)
         (λ other. of_other (stored_in g.F.Stored.Stored.content) _ _ c.args.inputs.now c.in-Ok.stored.items _ each c.in-Ok.ensures.opened (any_told g.F.Stored.Stored.content) other) why
+
+pub returns-in-Err-index_of-clause-told : goal.returns-in-Err-index_of-clause-told
+returns-in-Err-index_of-clause-told g c = c.in-Err-index_of.ensures.why.1
+
+pub returns-in-Err-index_of-clause-forced : goal.returns-in-Err-index_of-clause-forced
+returns-in-Err-index_of-clause-forced g c forced = c.in-Err-index_of.ensures.why.2 forced

@@ -22,7 +22,7 @@ returns-in-Ok-put_index-clause-puts g c =
     let value = c.as_slice-paths.ensures.value in
     let each : length c.in-Ok.stored.items ≡ length c.args.request.now.inputs.paths.items = search (rules, value) in
     let opened = rw value at c.in-Ok.ensures.opened in
-    let i = rw c.as_slice.ensures.value at c.in-Ok-index_of.ensures.table in
+    let i = rw c.as_slice-inputs.ensures.value at c.in-Ok-index_of.ensures.table in
     let r = c.args.request.now in
     let blocks = c.args.blocks.now in
     let t = join_all i.tables in
@@ -37,7 +37,7 @@ returns-clause-puts g c =
     let value = c.as_slice-paths.ensures.value in
     let each : length c.in-Ok.stored.items ≡ length c.args.request.now.inputs.paths.items = search (rules, value) in
     let opened = rw value at c.in-Ok.ensures.opened in
-    let i = rw c.as_slice.ensures.value at c.in-Ok-index_of.ensures.table in
+    let i = rw c.as_slice-inputs.ensures.value at c.in-Ok-index_of.ensures.table in
     let r = c.args.request.now in
     let blocks = c.args.blocks.now in
     let t = join_all i.tables in
@@ -52,7 +52,7 @@ returns-in-Err-index_of-clause-why g c =
     let value = c.as_slice-paths.ensures.value in
     let each : length c.in-Ok.stored.items ≡ length c.args.request.now.inputs.paths.items = search (rules, value) in
     not_indexed _ _ _ _ c.args.request.now.inputs.paths.items _ c.in-Ok.stored.items _
-    each (rw value at c.in-Ok.ensures.opened) (rw value at c.in-Ok.ensures.judged) (any_told g.F.Stored.Stored.content) (rw value at (rw c.as_slice.ensures.value at c.in-Err-index_of.ensures.why))
+    each (rw value at c.in-Ok.ensures.opened) (rw value at c.in-Ok.ensures.judged) (any_told g.F.Stored.Stored.content) (rw value at (rw c.as_slice-inputs.ensures.value at c.in-Err-index_of.ensures.why))
 
 pub returns-in-Err-index_of-clause-unkept : goal.returns-in-Err-index_of-clause-unkept
 returns-in-Err-index_of-clause-unkept g c is tells = absurd (c.in-Err-index_of.ensures.why.1 (err_is is refl))
@@ -61,14 +61,14 @@ pub returns-clause-why : goal.returns-clause-why
 returns-clause-why g c =
     let value = c.as_slice-paths.ensures.value in
     let each : length c.in-Ok.stored.items ≡ length c.args.request.now.inputs.paths.items = search (rules, value) in
-    not_put _ _ _ c.args.request.now.inputs.paths.items _ (length c.in-Ok.stored.items) _ each (rw c.as_slice.ensures.value at c.in-Err-put_index.ensures.why)
+    not_put _ _ _ c.args.request.now.inputs.paths.items _ (length c.in-Ok.stored.items) _ each (rw c.as_slice-inputs.ensures.value at c.in-Err-put_index.ensures.why)
 
 pub returns-clause-unkept : goal.returns-clause-unkept
 returns-clause-unkept g c is_unkept tells =
     let value = c.as_slice-paths.ensures.value in
     let each : length c.in-Ok.stored.items ≡ length c.args.request.now.inputs.paths.items = search (rules, value) in
     let opened = rw value at c.in-Ok.ensures.opened in
-    let i = rw c.as_slice.ensures.value at c.in-Ok-index_of.ensures.table in
+    let i = rw c.as_slice-inputs.ensures.value at c.in-Ok-index_of.ensures.table in
     let r = c.args.request.now in
     let blocks = c.args.blocks.now in
     let t = join_all i.tables in

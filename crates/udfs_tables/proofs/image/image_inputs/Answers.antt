@@ -24,7 +24,7 @@ returns-in-Err-index_of-clause-why g c =
     let value = c.as_slice-paths.ensures.value in
     let each : length c.in-Ok.stored.items ≡ length c.args.request.now.inputs.paths.items = search (rules, value) in
     inl (not_taken _ _ _ c.args.request.now.inputs.paths.items _ c.in-Ok.stored.items _
-    each (rw value at c.in-Ok.ensures.opened) (rw value at c.in-Ok.ensures.judged) (any_told g.F.Stored.Stored.content) (rw value at (rw c.as_slice.ensures.value at c.in-Err-index_of.ensures.why)))
+    each (rw value at c.in-Ok.ensures.opened) (rw value at c.in-Ok.ensures.judged) (any_told g.F.Stored.Stored.content) (rw value at (rw c.as_slice-inputs.ensures.value at c.in-Err-index_of.ensures.why)))
 
 pub returns-in-Ok-put_imaged-clause-puts : goal.returns-in-Ok-put_imaged-clause-puts
 returns-in-Ok-put_imaged-clause-puts g c =
@@ -32,7 +32,7 @@ returns-in-Ok-put_imaged-clause-puts g c =
     let each : length c.in-Ok.stored.items ≡ length c.args.request.now.inputs.paths.items = search (rules, value) in
     let opened = rw value at c.in-Ok.ensures.opened in
     let r = c.args.request.now in
-    let i = rw c.as_slice.ensures.value at c.in-Ok-index_of.ensures.table in
+    let i = rw c.as_slice-inputs.ensures.value at c.in-Ok-index_of.ensures.table in
     let t = join_all i.tables in
     let told : g.F.Files.tells → AreAllTold (stored_in g.F.Stored.Stored.content) = λ tells. any_told g.F.Stored.Stored.content (g.met.F.Files.stored_told tells) in
     wider _ _ (λ bytes text is. of_disc _ _ r c.args.last (λ last u. IsImageOf (AreAllTold g.F.Stored.Stored.content) last bytes text u) c.requires
@@ -45,7 +45,7 @@ returns-clause-puts g c =
     let each : length c.in-Ok.stored.items ≡ length c.args.request.now.inputs.paths.items = search (rules, value) in
     let opened = rw value at c.in-Ok.ensures.opened in
     let r = c.args.request.now in
-    let i = rw c.as_slice.ensures.value at c.in-Ok-index_of.ensures.table in
+    let i = rw c.as_slice-inputs.ensures.value at c.in-Ok-index_of.ensures.table in
     let t = join_all i.tables in
     let told : g.F.Files.tells → AreAllTold (stored_in g.F.Stored.Stored.content) = λ tells. any_told g.F.Stored.Stored.content (g.met.F.Files.stored_told tells) in
     wider _ _ (λ bytes text is. of_disc _ _ r c.args.last (λ last u. IsImageOf (AreAllTold g.F.Stored.Stored.content) last bytes text u) c.requires
@@ -58,10 +58,10 @@ returns-clause-why g c =
     let each : length c.in-Ok.stored.items ≡ length c.args.request.now.inputs.paths.items = search (rules, value) in
     let opened = rw value at c.in-Ok.ensures.opened in
     let r = c.args.request.now in
-    let i = rw c.as_slice.ensures.value at c.in-Ok-index_of.ensures.table in
+    let i = rw c.as_slice-inputs.ensures.value at c.in-Ok-index_of.ensures.table in
     let t = join_all i.tables in
     let told : g.F.Files.tells → AreAllTold (stored_in g.F.Stored.Stored.content) = λ tells. any_told g.F.Stored.Stored.content (g.met.F.Files.stored_told tells) in
-    ⊎_elim (λ reread. inl (of_unread _ _ r.inputs.paths.items (length c.in-Ok.stored.items) _ each (rw c.as_slice.ensures.value at reread), λ forced. reread_names_none _ _ reread))
+    ⊎_elim (λ reread. inl (of_unread _ _ r.inputs.paths.items (length c.in-Ok.stored.items) _ each (rw c.as_slice-inputs.ensures.value at reread), λ forced. reread_names_none _ _ reread))
     (λ unput. inr (of_unput _ _ r c.args.last c.in-Err-put_imaged.refusal c.requires
     (of_indexed _ _ r.inputs r.force _ _ c.in-Ok.stored.items _ _ value each opened told i
     (unput t (λ all. (any_told g.F.Stored.Stored.content all, all_fit _ c.in-Ok.stored.items i.tables (tell_all _ c.in-Ok.stored.items i.tables (any_told g.F.Stored.Stored.content all) i.are), i.took))))))
