@@ -125,6 +125,7 @@ fails_of {S} content reason ss error fails =
       have_tables = mapped_tables (judged_as content reason) content content_of (λ s. refl) fails.earlier fails.tables fails.have_tables;
       fault = fails.fault;
       faulty = fails.faulty;
+      cut = fails.cut;
     }
 
 blamed_of : {S : Type 0} (content : S → Option (List ℕ)) (reason : S → Option PairFault) (found : List ℕ → Option (Option (List ℕ))) (paths : List InputPath) (ss : List S) (r : Refusal) → length ss ≡ length paths → Opens found content paths ss → AreJudgedFor found reason paths ss → BlamesOne content reason ss r → BlamesPath found paths r

@@ -11,6 +11,7 @@ use Rattle.std.specs.Prelude.{◌≡◌, ◌≢◌, ◌⊎◌, ◌<◌, ◌≤�
 use Rattle.udfs_lattice.specs.Tables.{Table}
 use Rattle.udfs_index.specs.declared.any_stored.AnyStored.{AnyStored}
 use Rattle.udfs_index.specs.declared.any_stored.AnyStored.TheVariants.{File, Paired, Refused}
+use Rattle.udfs_index.specs.Placed.{IsCut}
 use Rattle.udfs_reading.specs.Answers.{GivesFault, RefusesFaulty}
 use Rattle.udfs_reading.specs.Inputs.{inputs}
 use Rattle.udfs_reading.specs.Several.{TablesAre}
@@ -33,7 +34,7 @@ refused_in (Some (File stored)) = None
 refused_in (Some (Paired pair)) = None
 refused_in (Some (Refused fault)) = Some fault
 
--- those before it have tables; a fault of its bytes, where they are known, is their first one, and where they have one no other is reported of them
+-- those before it have tables; a fault of its bytes, where they are known, is their first one, and where they have one no other is reported of them; and where its device failed, what had come has no fault but a cut at its end
 pub record OneFails {R : Type 0} (remaining : R → Option (List ℕ)) (all : List R) (error : InputError) : Type 0 where
   pub earlier : List R
   pub one : R
@@ -44,6 +45,7 @@ pub record OneFails {R : Type 0} (remaining : R → Option (List ℕ)) (all : Li
   pub have_tables : TablesAre remaining earlier tables
   pub fault : GivesFault inputs (remaining one) (Err error.error)
   pub faulty : RefusesFaulty inputs (remaining one) (Err error.error)
+  pub cut : IsCut (remaining one) error.error
 
 -- it has this error, which is reported with the reason why the input has no reading, if there is one
 pub record BlamesOne {R : Type 0} (remaining : R → Option (List ℕ)) (reason : R → Option PairFault) (all : List R) (refusal : Refusal) : Type 0 where

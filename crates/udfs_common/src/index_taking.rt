@@ -2,7 +2,7 @@
 
 ghost use Rattle.std.specs.Prelude.{◌≡◌, ◌≢◌, ◌⊎◌, ◌-◌, ◌≤◌, ℕ, List, Option, Err, IfOk, IfErr, OnOk, length, map, slice_get};
 ghost use Rattle.udfs_index.specs.Copying.{AreAllTold};
-ghost use Rattle.udfs_index.specs.Placed.{TakesInput};
+ghost use Rattle.udfs_index.specs.Placed.{IsCut, TakesInput};
 ghost use Rattle.udfs_lattice.specs.Tables.{Table, IsTable, conflict_count};
 ghost use Rattle.udfs_reading.specs.Answers.{GivesFault, RefusesFaulty};
 ghost use Rattle.udfs_reading.specs.Inputs.{inputs};
@@ -26,7 +26,8 @@ pub trait IndexTaker<'a, S: Stored + 'a>: Taker<Cursor<'a, S>> {
     fn take_input(&mut self, stored: &'a S) -> Result<(), ReadingError>
         ensures table { OnOk result (TakesInput (S.content stored.now) (Self.took self.old) (Self.took self.new)) }
         ensures fault { IfErr result (λ e. GivesFault inputs (S.content stored.now) (Err e)) }
-        ensures faulty { IfErr result (λ e. RefusesFaulty inputs (S.content stored.now) (Err e)) };
+        ensures faulty { IfErr result (λ e. RefusesFaulty inputs (S.content stored.now) (Err e)) }
+        ensures cut { IfErr result (IsCut (S.content stored.now)) };
 
     /// What could not be looked into, where that is why something was not taken.
     fn unread(&self) -> Option<Unread>;
