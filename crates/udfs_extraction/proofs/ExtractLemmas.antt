@@ -66,7 +66,7 @@ module _ {F I M S W O : Type 0} (reach : Reach F I M S W) (stream : O → Stream
       by : (o : Option (Bor (List ℕ))) → MatchOption o ⊥ (λ folder. LostStops reach.files reach.output folder.now new (stream between) (stream after) blocks report refusal)
           → MatchOption o ⊥ (λ folder. StopsAdding reach stream r place folder.now old new before after blocks report refusal)
       by None never = never
-      by (Some folder) stops = record { one = one; two = two; between = between; good = good; nodes = nodes; lost = stops }
+      by (Some folder) at = record { one = one; two = two; between = between; good = good; nodes = nodes; lost = at }
   adding_stops old one two new before between after last blocks report good stops.Unread nodes lost = inr (inr (inl (by r.lost lost)))
     where
       by : (o : Option (Bor (List ℕ))) → MatchOption o ⊥ (λ folder. LostCut reach.files reach.output folder.now new (stream between) (stream after) blocks report)
@@ -106,11 +106,12 @@ module _ {F I M S W O : Type 0} (reach : Reach F I M S W) (stream : O → Stream
   unfound old before last blocks report told Unread place_is why = inl (refl, refl)
 
   -- what is said of the store's states is said of the table that it holds
-  pub stopped_table : (old new : F) (before after : O) (last : ℕ) (blocks : Blocks) (t : Table) (report : Report) (stop : Stop) → blocks ≡ state_of t → IsReportBy r.volume.profile blocks last report
-      → IfStopped (Refuses old new before after last blocks report) (Cuts old new before after last blocks report) stop
+  pub stopped_table : (old new : F) (before after : O) (listed last : ℕ) (blocks : Blocks) (t : Table) (report : Report) (stop : Stop) → listed ≡ last → blocks ≡ state_of t → IsReportBy r.volume.profile blocks last report
+      → IfStopped (Refuses old new before after listed blocks report) (Cuts old new before after listed blocks report) stop
       → IfStopped (MakingRefused reach stream r place old new before after last t) (MakingCut reach stream r place old new before after last t) stop
-  stopped_table old new before after last blocks t report stop same is why =
-      by stop (subst (λ (bs : Blocks). IfStopped (Refuses old new before after last bs report) (Cuts old new before after last bs report) stop) same why)
+  stopped_table old new before after listed last blocks t report stop ends same is why =
+      by stop (subst (λ (bs : Blocks). IfStopped (Refuses old new before after last bs report) (Cuts old new before after last bs report) stop) same
+      (subst (λ (k : ℕ). IfStopped (Refuses old new before after k blocks report) (Cuts old new before after k blocks report) stop) ends why))
     where
       is_report : IsReportBy r.volume.profile (state_of t) last report
       is_report = subst (λ (bs : Blocks). IsReportBy r.volume.profile bs last report) same is
@@ -122,10 +123,10 @@ module _ {F I M S W O : Type 0} (reach : Reach F I M S W) (stream : O → Stream
       by (stops.Refused refusal) (inr stopped) = inr (report, is_report, inr stopped)
       by stops.Unread cut = inr (report, is_report, inl cut)
 
-  pub made_table : (old new : F) (before after : O) (last : ℕ) (blocks : Blocks) (t : Table) (report : Report) (good : Bool) → blocks ≡ state_of t → IsReportBy r.volume.profile blocks last report
-      → Makes reach stream r place old new before after last blocks report good → (told : Report) × IsReportBy r.volume.profile (state_of t) last told × Makes reach stream r place old new before after last (state_of t) told good
-  made_table old new before after last blocks t report good same is makes = (
+  pub made_table : (old new : F) (before after : O) (listed last : ℕ) (blocks : Blocks) (t : Table) (report : Report) (good : Bool) → listed ≡ last → blocks ≡ state_of t → IsReportBy r.volume.profile blocks last report
+      → Makes reach stream r place old new before after listed blocks report good → (told : Report) × IsReportBy r.volume.profile (state_of t) last told × Makes reach stream r place old new before after last (state_of t) told good
+  made_table old new before after listed last blocks t report good ends same is makes = (
     report,
     subst (λ (bs : Blocks). IsReportBy r.volume.profile bs last report) same is,
-    subst (λ (bs : Blocks). Makes reach stream r place old new before after last bs report good) same makes,
+    subst (λ (bs : Blocks). Makes reach stream r place old new before after last bs report good) same (subst (λ (k : ℕ). Makes reach stream r place old new before after k blocks report good) ends makes),
   )

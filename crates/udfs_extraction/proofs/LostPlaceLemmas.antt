@@ -1,5 +1,5 @@
 -- Where what is lost is looked for.
-use Rattle.std.proofs.Common.{◌≡◌, ◌∙◌, ◌⊎◌, ap, inl, inr, refl, subst, sym, Bool, Bor, List, ℕ, Option, Some, None}
+use Rattle.std.proofs.Common.{◌≡◌, ◌∙◌, ◌⊎◌, ap, inl, inr, refl, subst, sym, Bool, true, Bor, List, ℕ, Option, Some, None}
 use Rattle.std.specs.Prelude.{⊤, Result, Ok, Err, IfErr, IfOk, MatchOption}
 use Rattle.udfs_host_fs.specs.declared.files.Files.{Ghosts}
 use Rattle.udfs_lattice.specs.Volumes.{Blocks}
@@ -17,10 +17,9 @@ use Rattle.udfs_salvage.specs.Listings.{listing_by}
 use Rattle.udfs_salvage.specs.Reports.{Report}
 use Rattle.udfs_salvage.specs.declared.listings.Listing as code_listing
 use Rattle.udfs_words.specs.declared.request.ExtractRequest.{ExtractRequest}
-use Rattle.udfs_common.specs.Reach.{Reach}
-use Rattle.udfs_extraction.specs.ByRequest.{MakesTrees}
+use Rattle.udfs_extraction.specs.LostFiles.{SparesLost}
 use Rattle.udfs_extraction.specs.LostPlaces.{IsPlaceOf, IsStandIn, lost_report, placed_at, report_of, report_unless}
-use Rattle.udfs_extraction.specs.LostTrees.{AreFoundOf, IsUnfoundBy}
+use Rattle.udfs_extraction.specs.LostTrees.{AreFoundOf, IsTreePut, IsUnfoundBy, PutsTrees, tree_lines}
 use Rattle.udfs_extraction.specs.Refused.{TreesCut, TreesStop}
 use Rattle.udfs_extraction.specs.Seats.{FoundAt}
 use Rattle.udfs_extraction.specs.Stopping.{IfStopped}
@@ -50,6 +49,12 @@ pub if_ok : {A E : Type 0} (P Q : A → Type 0) (r : Result A E) → ((x : A) �
 if_ok P Q (Ok x) follows h = follows x h
 if_ok P Q (Err e) follows h = tt
 
+-- the lost folders are made, or not asked for
+abbrev TreesMade : {F I M S W O : Type 0} → Ghosts F I M S W → (W → Stream) → (O → Stream) → ExtractRequest → F → F → O → O → Blocks → Report → Bool → Type 0
+TreesMade files output stream r three new between after blocks report good = MatchOption r.trees ((new ≡ three) × (after ≡ between) × (good ≡ true))
+    (λ folder. ((trees : List LostTree) × (names : List FoundAt) × AreFoundOf r.deleted blocks report trees names ×
+    PutsTrees (IsTreePut files output new blocks report.volume r.short_names folder.now names) (tree_lines blocks report.volume r.short_names) trees (stream between) (stream after) good) × SparesLost files folder.now three new)
+
 -- ---- by what is said of a place, where its blocks are told
 
 module _ (Tells : Type 0) (blocks of : Blocks) (report told : Report) (same : Tells → blocks ≡ of) (is : Tells → report ≡ told) where
@@ -68,10 +73,10 @@ module _ (Tells : Type 0) (blocks of : Blocks) (report told : Report) (same : Te
   moved_unfound deleted (Some folder) Unread h known = tt
 
   -- what is put of it is put of what it stands in for
-  pub moved_made : {F I M S W O : Type 0} (reach : Reach F I M S W) (stream : O → Stream) (r : ExtractRequest) (three new : F) (between after : O) (result : Result Bool Stop)
-      → IfOk result (λ good. Tells → MakesTrees reach stream r three new between after blocks report good) → IfOk result (λ good. Tells → MakesTrees reach stream r three new between after of told good)
-  moved_made reach stream r three new between after (Ok good) h = λ known. subst (λ (bs : Blocks). MakesTrees reach stream r three new between after bs told good) (same known) (subst (λ (m : Report). MakesTrees reach stream r three new between after blocks m good) (is known) (h known))
-  moved_made reach stream r three new between after (Err stop) h = tt
+  pub moved_made : {F I M S W O : Type 0} (files : Ghosts F I M S W) (output : W → Stream) (stream : O → Stream) (r : ExtractRequest) (three new : F) (between after : O) (result : Result Bool Stop)
+      → IfOk result (λ good. Tells → TreesMade files output stream r three new between after blocks report good) → IfOk result (λ good. Tells → TreesMade files output stream r three new between after of told good)
+  moved_made files output stream r three new between after (Ok good) h = λ known. subst (λ (bs : Blocks). TreesMade files output stream r three new between after bs told good) (same known) (subst (λ (m : Report). TreesMade files output stream r three new between after blocks m good) (is known) (h known))
+  moved_made files output stream r three new between after (Err stop) h = tt
 
   -- and until it stopped
   pub moved_stop : {F I M S W : Type 0} (files : Ghosts F I M S W) (output : W → Stream) (deleted short : Bool) (new : F) (between after : Stream) (trees : Option (Bor (List ℕ))) (result : Result Bool Stop)

@@ -168,7 +168,7 @@ listed reach r blocks report old one two before after good place text digest is 
         → PutsBy volume (PutsListed (texts r.only.items) (node_line [] r.short_names report) (IsNodePut reach r one blocks report) (PutsManifest reach r place one two report) report.nodes before after good)
         (PutsNone old one report.volume before after good × (two ≡ one))
     by (found f) p = with_text reach r blocks report old one two before after good place text digest is p put
-    by (holes blocks) n = (n.0, without_text reach r blocks report old one two before after good place text n.1 put)
+    by (holes needed) n = (n.0, without_text reach r blocks report old one two before after good place text n.1 put)
     by (faulty fault) n = (n.0, without_text reach r blocks report old one two before after good place text n.1 put)
 
 -- what may be at its place is a manifest of the files

@@ -17,13 +17,13 @@ use Rattle.udfs_extraction.specs.declared.stopping.Stop.TheVariants.{Refused, Un
 
 -- ---- which it is
 
-pub refused_is : {A : Type 0} (a b : Refusal) → IsErrOf {A} (Err (Refused a)) (Refused b) → a ≡ b
+pub refused_is : {A : Type 0} (a b : Refusal) → IsErrOf {T = A} (Err (Refused a)) (Refused b) → a ≡ b
 refused_is a b is = let same : a ≡ b = cc in same
 
-pub refused_of : {A : Type 0} (s : Stop) (a b : Refusal) → s ≡ Refused a → a ≡ b → IsErrOf {A} (Err s) (Refused b)
+pub refused_of : {A : Type 0} (s : Stop) (a b : Refusal) → s ≡ Refused a → a ≡ b → IsErrOf {T = A} (Err s) (Refused b)
 refused_of s a b is same = ap Err (is ∙ ap Refused same)
 
-pub unread_is : {A : Type 0} (s : Stop) → s ≡ Unread → IsErrOf {A} (Err s) Unread
+pub unread_is : {A : Type 0} (s : Stop) → s ≡ Unread → IsErrOf {T = A} (Err s) Unread
 unread_is s is = ap Err is
 
 pub refused_at : (P : Refusal → Type 0) (C : Type 0) (s : Stop) (refusal : Refusal) → s ≡ Refused refusal → IfStopped P C s → P refusal

@@ -19,7 +19,7 @@ pub returns-in-Ok-clause-spares : goal.returns-in-Ok-clause-spares
 returns-in-Ok-clause-spares g c = rw c.in-Some.is (lost_on _ _ _ _ _ (lost_same _ _ _ _ c.make_if_open.ensures.others c.make_if_open.ensures.crash) c.put_trees.ensures.spares)
 
 pub returns-clause-why : goal.returns-clause-why
-returns-clause-why g c known = rw c.in-Some.is (stopped_in _ _ _ _ _ _ _ _ _ _ _ c.in-Err.stop ((rw c.in-Some.is at c.requires) known) (c.in-Err.ensures.why known))
+returns-clause-why g c known = rw c.in-Some.is (stopped_in _ _ _ _ _ _ _ _ _ _ _ _ c.in-Err.stop ((rw c.in-Some.is at c.requires) known) (c.in-Err.ensures.why known))
 
 pub returns-clause-spares : goal.returns-clause-spares
 returns-clause-spares g c = rw c.in-Some.is (lost_on _ _ _ _ _ (lost_same _ _ _ _ c.make_if_open.ensures.others c.make_if_open.ensures.crash) c.put_trees.ensures.spares)

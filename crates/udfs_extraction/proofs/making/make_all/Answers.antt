@@ -1,7 +1,10 @@
-use Rattle.std.proofs.Common.{◌≡◌, ◌∙◌, ap, inl, inr, refl}
+use Rattle.std.proofs.Common.{◌≡◌, ◌∙◌, ap, inl, inr, refl, rules, subst, sym}
 use Rattle.udfs_lattice.specs.Tables.{state_of}
+use Rattle.udfs_lattice.specs.Volumes.{Blocks}
 use Rattle.udfs_salvage.proofs.StoreAnswers.{states_same}
 use Rattle.udfs_salvage.specs.Listings.{listing_by}
+use Rattle.udfs_salvage.specs.Reports.{IsReportBy}
+use Rattle.udfs_remarks.specs.NoReports.{salvage_refusal_of}
 use Rattle.udfs_extraction.proofs.ExtractLemmas.{made_table, stopped_table}
 use Rattle.udfs_extraction.proofs.StoredLemmas.{untold_store}
 use Rattle.udfs_extraction.proofs.making.make_all.Goals as goal
@@ -9,7 +12,8 @@ use Rattle.udfs_extraction.proofs.making.make_all.Goals as goal
 pub returns-in-Err-Salvage-clause-why : goal.returns-in-Err-Salvage-clause-why
 returns-in-Err-Salvage-clause-why g c known t holds =
     let same = states_same (g.B.BlockStore.states c.args.blocks.now) t (g.met.B.ReportStore.held c.args.blocks.now t holds) in
-    inl (refl, refl, untold_store _ _ t _ c.in-Err-Salvage.field-0 c.in-Err-Salvage.error _ same c.in-Err-Salvage.field-0-is c.refused_report.ensures (c.in-Err-Salvage.ensures.refused known))
+    let told : c.refused_report.result ≡ salvage_refusal_of c.in-Err-Salvage.error = search rules in
+    inl (refl, refl, untold_store _ _ t _ c.in-Err-Salvage.field-0 c.in-Err-Salvage.error c.refused_report.result same c.in-Err-Salvage.field-0-is told (c.in-Err-Salvage.ensures.refused known))
 
 pub returns-in-Err-Salvage-clause-no_node : goal.returns-in-Err-Salvage-clause-no_node
 returns-in-Err-Salvage-clause-no_node g c i is = refl
@@ -29,9 +33,8 @@ returns-in-Err-clause-why g c known t holds =
     let states = g.B.BlockStore.states in
     let same = states_same (states c.args.blocks.now) t (g.met.B.ReportStore.held c.args.blocks.now t holds) in
     let listed : states l.table.now ≡ state_of t = ap states c.in-Ok.ensures.of.0 ∙ same in
-    let why = rw c.in-Ok.ensures.of.1 at (c.in-Err.ensures.why known) in
-    let is_report = rw (← c.in-Ok.ensures.of.0) (c.in-Ok.ensures.report known) in
-    stopped_table _ _ c.args.request.now _ _ _ _ _ c.args.last (states l.table.now) t (listing_by states l) c.in-Err.stop listed is_report why
+    let is_report = subst (λ (bs : Blocks). IsReportBy c.args.request.now.volume.profile bs c.args.last (listing_by states l)) (sym (ap states c.in-Ok.ensures.of.0)) (c.in-Ok.ensures.report known) in
+    stopped_table _ g.O.Sink.stream c.args.request.now _ _ _ _ _ l.last c.args.last (states l.table.now) t (listing_by states l) c.in-Err.stop c.in-Ok.ensures.of.1 listed is_report (c.in-Err.ensures.why known)
 
 pub returns-then-not-is_steady-clause-why : goal.returns-then-not-is_steady-clause-why
 returns-then-not-is_steady-clause-why g c known t holds =
@@ -39,9 +42,8 @@ returns-then-not-is_steady-clause-why g c known t holds =
     let states = g.B.BlockStore.states in
     let same = states_same (states c.args.blocks.now) t (g.met.B.ReportStore.held c.args.blocks.now t holds) in
     let listed : states l.table.now ≡ state_of t = ap states c.in-Ok.ensures.of.0 ∙ same in
-    let makes = rw c.in-Ok.ensures.of.1 at (c.in-Ok-make_listed.ensures.made known) in
-    let is_report = rw (← c.in-Ok.ensures.of.0) (c.in-Ok.ensures.report known) in
-    let told = made_table _ _ c.args.request.now _ _ _ _ _ c.args.last (states l.table.now) t (listing_by states l) _ listed is_report makes in
+    let is_report = subst (λ (bs : Blocks). IsReportBy c.args.request.now.volume.profile bs c.args.last (listing_by states l)) (sym (ap states c.in-Ok.ensures.of.0)) (c.in-Ok.ensures.report known) in
+    let told = made_table _ g.O.Sink.stream c.args.request.now _ _ _ _ _ l.last c.args.last (states l.table.now) t (listing_by states l) _ c.in-Ok.ensures.of.1 listed is_report (c.in-Ok-make_listed.ensures.made known) in
     inr (told.0, told.1, inr (c.in-Ok-make_listed.good, told.2))
 
 pub returns-clause-made : goal.returns-clause-made
@@ -50,6 +52,5 @@ returns-clause-made g c known t holds =
     let states = g.B.BlockStore.states in
     let same = states_same (states c.args.blocks.now) t (g.met.B.ReportStore.held c.args.blocks.now t holds) in
     let listed : states l.table.now ≡ state_of t = ap states c.in-Ok.ensures.of.0 ∙ same in
-    let makes = rw c.in-Ok.ensures.of.1 at (c.in-Ok-make_listed.ensures.made known) in
-    let is_report = rw (← c.in-Ok.ensures.of.0) (c.in-Ok.ensures.report known) in
-    made_table _ _ c.args.request.now _ _ _ _ _ c.args.last (states l.table.now) t (listing_by states l) _ listed is_report makes
+    let is_report = subst (λ (bs : Blocks). IsReportBy c.args.request.now.volume.profile bs c.args.last (listing_by states l)) (sym (ap states c.in-Ok.ensures.of.0)) (c.in-Ok.ensures.report known) in
+    made_table _ g.O.Sink.stream c.args.request.now _ _ _ _ _ l.last c.args.last (states l.table.now) t (listing_by states l) _ c.in-Ok.ensures.of.1 listed is_report (c.in-Ok-make_listed.ensures.made known)

@@ -8,10 +8,10 @@ use Rattle.udfs_extraction.proofs.making.make_listed.Goals as goal
 
 pub returns-in-Err-clause-why : goal.returns-in-Err-clause-why
 returns-in-Err-clause-why g c known =
-    let states = g.B.ReportStore.BlockStore.states in
+    let states = g.B.BlockStore.states in
     let l = c.args.listing in
     stopped_is _ _ _ _ c.unsearched.ensures
-    (unfound _ _ c.args.request.now _ _ _ l.last (states l.table.now) (listing_by states l) _ c.in-Err.error (ap (λ p. lost_report p (states l.table.now) l.last (listing_by states l)) c.requires.rules) (c.in-Err.ensures.refused known))
+    (unfound _ g.O.Sink.stream c.args.request.now _ _ _ l.last (states l.table.now) (listing_by states l) _ c.in-Err.error (ap (λ p. lost_report p (states l.table.now) l.last (listing_by states l)) c.requires.rules) (c.in-Err.ensures.refused known))
 
 pub returns-in-Err-clause-no_node : goal.returns-in-Err-clause-no_node
 returns-in-Err-clause-no_node g c i is = refl
@@ -21,7 +21,7 @@ returns-in-Err-clause-spares g c = inl refl
 
 pub returns-in-Err-list_report-clause-why : goal.returns-in-Err-list_report-clause-why
 returns-in-Err-list_report-clause-why g c known =
-    listing_stops _ _ _ _ _ _ _ _ _ _ _ c.in-Err-list_report.stop (λ is. c.in-Err-list_report.ensures.still (unread_is _ is)) (c.in-Err-list_report.ensures.why known)
+    listing_stops _ g.O.Sink.stream c.args.request.now _ _ _ _ _ _ _ _ c.in-Err-list_report.stop (λ is. c.in-Err-list_report.ensures.still (unread_is _ is)) (c.in-Err-list_report.ensures.why known)
 
 pub returns-in-Err-list_report-clause-no_node : goal.returns-in-Err-list_report-clause-no_node
 returns-in-Err-list_report-clause-no_node g c = c.in-Err-list_report.ensures.no_node
@@ -38,7 +38,7 @@ returns-in-Err-list_report-clause-spares g c = inr (record {
 pub returns-in-Err-add_lost-clause-why : goal.returns-in-Err-add_lost-clause-why
 returns-in-Err-add_lost-clause-why g c known =
     let nodes = c.in-Ok-list_report.ensures.made known in
-    adding_stops _ _ _ _ _ nodes.0 _ _ _ _ _ _ _ _ _ c.in-Err-add_lost.stop nodes.1 (c.in-Err-add_lost.ensures.why known)
+    adding_stops _ g.O.Sink.stream c.args.request.now _ _ nodes.0 c.list_report.new.files c.add_lost.new.files c.args.out.now c.list_report.new.out c.add_lost.new.out _ _ _ _ c.in-Err-add_lost.stop nodes.1 (c.in-Err-add_lost.ensures.why known)
 
 pub returns-in-Err-add_lost-clause-no_node : goal.returns-in-Err-add_lost-clause-no_node
 returns-in-Err-add_lost-clause-no_node g c i is = absurd (c.in-Err-add_lost.ensures.no_node i is)
@@ -54,10 +54,10 @@ returns-in-Err-add_lost-clause-spares g c = inr (record {
 
 pub returns-in-Ok-put_lost-clause-made : goal.returns-in-Ok-put_lost-clause-made
 returns-in-Ok-put_lost-clause-made g c known =
-    let states = g.B.ReportStore.BlockStore.states in
+    let states = g.B.BlockStore.states in
     let l = c.args.listing in
     let nodes = c.in-Ok-list_report.ensures.made known in
-    made _ _ _ _ _ nodes.0 _ _ _ _ _ _ _ l.last (states l.table.now) (listing_by states l) _ _ _ _ _ _ (ap (λ p. lost_report p (states l.table.now) l.last (listing_by states l)) c.requires.rules) nodes.1 (c.in-Ok-add_lost.ensures.made known) (c.in-Ok-put_lost.ensures.made known) c.is_all_good.ensures c.is_all_good-in-Ok-put_lost.ensures
+    made _ g.O.Sink.stream c.args.request.now _ _ nodes.0 c.list_report.new.files c.add_lost.new.files c.put_lost.new.files c.args.out.now c.list_report.new.out c.add_lost.new.out c.put_lost.new.out l.last (states l.table.now) (listing_by states l) _ _ _ _ _ _ (ap (λ p. lost_report p (states l.table.now) l.last (listing_by states l)) c.requires.rules) nodes.1 (c.in-Ok-add_lost.ensures.made known) (c.in-Ok-put_lost.ensures.made known) c.is_all_good.ensures c.is_all_good-in-Ok-put_lost.ensures
 
 pub returns-in-Ok-put_lost-clause-spares : goal.returns-in-Ok-put_lost-clause-spares
 returns-in-Ok-put_lost-clause-spares g c = inr (record {
@@ -79,10 +79,10 @@ returns-clause-spares g c = inr (record {
 
 pub returns-clause-why : goal.returns-clause-why
 returns-clause-why g c known =
-    let states = g.B.ReportStore.BlockStore.states in
+    let states = g.B.BlockStore.states in
     let l = c.args.listing in
     let nodes = c.in-Ok-list_report.ensures.made known in
-    beyond_stops _ _ _ _ _ nodes.0 _ _ _ _ _ _ _ l.last (states l.table.now) (listing_by states l) _ _ _ c.in-Err-put_lost.stop (ap (λ p. lost_report p (states l.table.now) l.last (listing_by states l)) c.requires.rules) nodes.1 (c.in-Ok-add_lost.ensures.made known) (c.in-Err-put_lost.ensures.why known)
+    beyond_stops _ g.O.Sink.stream c.args.request.now _ _ nodes.0 c.list_report.new.files c.add_lost.new.files c.put_lost.new.files c.args.out.now c.list_report.new.out c.add_lost.new.out c.put_lost.new.out l.last (states l.table.now) (listing_by states l) _ _ _ c.in-Err-put_lost.stop (ap (λ p. lost_report p (states l.table.now) l.last (listing_by states l)) c.requires.rules) nodes.1 (c.in-Ok-add_lost.ensures.made known) (c.in-Err-put_lost.ensures.why known)
 
 pub returns-clause-no_node : goal.returns-clause-no_node
 returns-clause-no_node g c i is = absurd (c.in-Err-put_lost.ensures.no_node i is)

@@ -34,8 +34,8 @@ returns-in-Err-Refused-clause-why g c =
 pub returns-in-Err-Refused-clause-no_node : goal.returns-in-Err-Refused-clause-no_node
 returns-in-Err-Refused-clause-no_node g c i is = c.in-Err-Refused.ensures.no_node i (refused_of _ _ _ c.in-Err-Refused.field-0-is is)
 
-pub returns-in-Err-Unread-clause-why : goal.returns-in-Err-Unread-clause-why
-returns-in-Err-Unread-clause-why g c =
+pub returns-clause-why : goal.returns-clause-why
+returns-clause-why g c =
     let r = c.args.request.now in
     let is = c.requires in
     let reread = rw c.as_slice-inputs.ensures.value at (c.reread_of.ensures (rw c.as_slice-inputs.ensures.value (subst (λ n. 0 < n) (sym is.each) is.some))) in
@@ -45,8 +45,8 @@ returns-in-Err-Unread-clause-why g c =
           (λ told table fits took. cut_at _ _ _ c.in-Err-Unread.field-0-is (c.in-Err-Unread.ensures.why told table (c.new-blocks.ensures table told fits took))),
     ))
 
-pub returns-in-Err-Unread-clause-no_node : goal.returns-in-Err-Unread-clause-no_node
-returns-in-Err-Unread-clause-no_node g c i named =
+pub returns-clause-no_node : goal.returns-clause-no_node
+returns-clause-no_node g c i named =
     let is = c.requires in
     let reread = rw c.as_slice-inputs.ensures.value at (c.reread_of.ensures (rw c.as_slice-inputs.ensures.value (subst (λ n. 0 < n) (sym is.each) is.some))) in
     absurd (reread_no_node _ _ i named reread)
