@@ -17,7 +17,7 @@ module _ (log : Option Log) (real : List ℕ → List ℕ) (identity : Node → 
   led_on target same leads = record {
     path_is = leads.path_is ∙ same;
     absent = λ is. subst (λ p. Names log p None) same (leads.absent is);
-    regular = λ is. subst (λ p. NamesSome log p) same (leads.regular is);
+    regular = λ is. subst (λ p. holds log p ≢ Some None) same (leads.regular is);
     other = λ is. let found = leads.other is in (found.0, found.1 ∙ same, found.2);
     file = λ other. leads.file other ∙ ap (identity_by log identity) same;
     no_file = leads.no_file;
@@ -47,6 +47,13 @@ pub led_absent : {E A : Type 0} (log : Option Log) (real : List ℕ → List ℕ
 led_absent log real identity in_place path told known (Ok (Ok target)) leads = λ is tells. absent_held log (real path) (known tells) ((leads tells).absent is)
 led_absent log real identity in_place path told known (Ok (Err fault)) leads = tt
 led_absent log real identity in_place path told known (Err error) leads = tt
+
+-- where a path is said to lead to a regular file, one is there
+pub led_regular : {E A : Type 0} (log : Option Log) (real : List ℕ → List ℕ) (identity : Node → ℕ × ℕ) (in_place : List ℕ → Type 0) (path : List ℕ) (told : Type 0) (found : Result (Result Target E) A)
+    → IfOk found (λ one. IfOk one (λ target. told → LeadsTo log real identity in_place path target)) → IfOk found (λ one. IfOk one (λ target. target.kind ≡ Regular → told → holds log (real path) ≢ Some None))
+led_regular log real identity in_place path told (Ok (Ok target)) leads = λ is tells. (leads tells).regular is
+led_regular log real identity in_place path told (Ok (Err fault)) leads = tt
+led_regular log real identity in_place path told (Err error) leads = tt
 
 -- an identity is said of what is said to be a regular file, or nothing
 apart : (kind : Kind) (said there : Option Identity) → (kind ≢ Other → said ≡ there) → (kind ≡ Other → said ≡ None) → (i : Identity) → said ≡ Some i → there ≡ Some i

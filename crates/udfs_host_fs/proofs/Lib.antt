@@ -1,6 +1,8 @@
+pub mod Failing
 pub mod Going
 pub mod Leading
 pub mod Logs
 pub mod Meeting
 pub mod Slashes
 pub mod Taken
+mod Walks

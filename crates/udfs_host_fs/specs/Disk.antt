@@ -3,10 +3,8 @@
 --     Same, SameBut, Moved, Gone      steps from one disk to another
 --     Replaced path bytes             a file was put in the place of another, or not yet
 --     Goes .. old new step            from old to new, each moment leaves what old might have left, after this step
---     Fails faults                    some call failed: a count of faults went up by one
---     SinkFails stream                some write failed: the count of faults of its sink went up by one
+--     Fails faults                    some read failed: a count of faults went up by one
 use Rattle.std.specs.Prelude.{◌≡◌, ◌≢◌, ◌⊎◌, ℕ, ◌+◌, ◌%◌, ◌^◌, ◌≤◌, List, [], ◌∷◌, ◌++◌, Bool, Option, Some, None, codes, nat_eq, true, false, if◌then◌else◌}
-use Rattle.udfs_reading.specs.Device.{Stream}
 
 -- what is at each path after a crash: bytes, or nothing
 abbrev pub Disk : Type 0
@@ -54,13 +52,9 @@ pub record Goes {F : Type 0} (moment : F → ℕ) (may_leave : F → Disk → Ty
   pub since : (t : ℕ) (c : Disk) → t ≤ moment old → left_since new t c → left_since old t c ⊎ After (may_leave old) step c
   pub keeps : (t : ℕ) (c : Disk) → t ≤ moment old → left_since old t c → left_since new t c
 
--- some call failed: a count of faults went up by one, modulo 2 ^ 64
+-- some read failed: a count of faults went up by one, modulo 2 ^ 64
 abbrev pub Fails : {X : Type 0} → (X → ℕ) → Type 0
 Fails {X} faults = (before : X) × (after : X) × (faults after ≡ (faults before + 1) % 2 ^ 64)
-
--- some write failed: the count of faults of its sink went up by one, modulo 2 ^ 64
-abbrev pub SinkFails : {X : Type 0} → (X → Stream) → Type 0
-SinkFails stream = Fails (λ x. (stream x).faults)
 
 -- whether a path has a separator
 abbrev pub has_slash : List ℕ → Bool

@@ -1,5 +1,6 @@
 -- What comes of a job whose file is put in the place of another.
 --     IsJobLeft error                 the new file could not be removed
+--     IsRefused error                 the job failed
 --     JobBlames .. error              what an error says that failed
 --     EndsNew error                   why a new file was not made
 --     GivesUp refusal error           the error, once the new file was removed or could not be
@@ -19,6 +20,12 @@ abbrev pub IsJobLeft : {X : Type 0} → JobError X → Type 0
 IsJobLeft {X} (Files e) = e ≡ LeftBehind
 IsJobLeft {X} (Refused x) = ⊥
 IsJobLeft {X} (RefusedLeft x) = Unit {0}
+
+-- the job failed
+abbrev pub IsRefused : {X : Type 0} → JobError X → Type 0
+IsRefused {X} (Files e) = ⊥
+IsRefused {X} (Refused x) = Unit {0}
+IsRefused {X} (RefusedLeft x) = Unit {0}
 
 -- `Failed` holds, unless memory ran out before anything was tried, or the job failed with an error that does not blame the sink
 abbrev pub JobBlames : {X : Type 0} → (X → Type 0) → Type 0 → JobError X → Type 0

@@ -1,4 +1,5 @@
 pub mod Disk
+pub mod Failing
 pub mod Identities
 pub mod Jobs
 pub mod Leading

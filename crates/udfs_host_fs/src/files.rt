@@ -3,6 +3,7 @@
 ghost use Rattle.std.specs.Prelude.{◌≡◌, ◌≢◌, ◌+◌, ◌%◌, ◌^◌, ℕ, ◌≤◌, ◌<◌, List, Option, length, IfOk, IfSome, OnOk, OnErr, Some, None, [], string_bytes};
 ghost use Rattle.std.specs.Io.KnownBytes.{WriteAppends};
 ghost use Rattle.udfs_host_fs.specs.Disk.{Disk, Gone, Same, SameBut, Moved, Goes, folder_of};
+ghost use Rattle.udfs_host_fs.specs.Failing.{Counts, CountsAt, Discards};
 ghost use Rattle.udfs_host_fs.specs.Identities.{IsFileOf};
 ghost use Rattle.udfs_host_fs.specs.Telling.{ToldOrSilent};
 ghost use Rattle.udfs_host_fs.specs.declared.files.Identity.{Identity};
@@ -129,8 +130,10 @@ pub trait Files {
     /// What a crash at some moment from that one on might have left, during a call or between two.
     ghost left_since: { Self → ℕ → Disk → Type 0 };
 
-    /// How many of the calls that change files failed, and how often a file was given up because what was to be in it could not be read again, modulo 2 ^ 64.
-    ghost faults: { Self → ℕ };
+    /// How many of the calls that change files failed in this run, by the path that they were made for: that of the folder, with the slash at its end, where the
+    /// names in it could not be brought to the disk, and the new one where a file could not be moved. A write counts for the path of its output, where that is
+    /// discarded. And how many outputs were discarded.
+    ghost failures: { Self → Counts };
 
     /// Opens a file to be read from its beginning, which changes none. Links are followed.
     ///
@@ -179,16 +182,18 @@ pub trait Files {
         ensures same { IfOk result (λ found. IfOk found (λ target. tells → IsFileOf (identity self.now (real self.now path.now)) (in_place self.now path.now) target.identity)) }
         ensures other { IfOk result (λ found. IfOk found (λ target. target.kind ≡ Kind.Other → in_place self.now path.now)) }
         ensures absent { IfOk result (λ found. IfOk found (λ target. target.kind ≡ Kind.Absent → tells → holds self.now (real self.now path.now) ≡ Some None)) }
+        ensures regular { IfOk result (λ found. IfOk found (λ target. target.kind ≡ Kind.Regular → tells → holds self.now (real self.now path.now) ≢ Some None)) }
         ensures fails { IfOk result (λ found. OnErr found (shut self.now path.now)) };
 
     /// Makes a file to be written, at a path that nothing has. Until it is handed to `sync`, a crash may leave anything there.
     ///
     /// # Errors
     ///
-    /// `DeviceFault`, exactly where the count of faults goes up by one: also where something has the path. No path holds anything else then.
+    /// `DeviceFault`, exactly where the count of its path goes up by one: also where something has the path. No path holds anything else then.
     fn make_new(&mut self, path: &str) -> Result<Self::Output, DeviceFault>
         ensures number { IfOk result (λ output. tells → Self.Output.number output ≢ None) }
         ensures at { IfOk result (λ output. is_at self.new path.now (Self.Output.number output)) }
+        ensures fresh { IfOk result (λ output. (Self.Output.stream output).faults ≡ 0) }
         ensures empty { IfOk result (λ output. tells → (Self.Output.stream output).contents ≡ Some []) }
         ensures absent { OnOk result (tells → holds self.old path.now ≡ Some None) }
         ensures link { OnOk result (is_no_link self.new path.now) }
@@ -197,7 +202,7 @@ pub trait Files {
         ensures others { (q : List ℕ) → q ≢ path.now → holds self.new q ≡ holds self.old q }
         ensures kept { (q : List ℕ) (c : Option (List ℕ)) → q ≢ path.now → kept self.new q c → kept self.old q c }
         ensures real { real self.new ≡ real self.old }
-        ensures count { CountsFault (faults self.old) (faults self.new) result }
+        ensures counts { CountsAt path.now (failures self.old) (failures self.new) result }
         ensures crash { Goes moment may_leave left_since self.old self.new (SameBut path.now) }
         // What is there stays, whatever crashes.
         ensures stays { tells → holds self.old path.now ≢ Some None → Goes moment may_leave left_since self.old self.new Same };
@@ -207,16 +212,17 @@ pub trait Files {
     ///
     /// # Errors
     ///
-    /// `DeviceFault`, exactly where the count of faults goes up by one. No path holds anything else then.
+    /// `DeviceFault`, exactly where the count of its path goes up by one. No path holds anything else then.
     fn make(&mut self, path: &str) -> Result<Self::Output, DeviceFault>
         ensures at { IfOk result (λ output. is_at self.new path.now (Self.Output.number output)) }
+        ensures fresh { IfOk result (λ output. (Self.Output.stream output).faults ≡ 0) }
         ensures empty { IfOk result (λ output. tells → (Self.Output.stream output).contents ≡ Some []) }
         ensures written { OnOk result (holds self.new path.now ≡ None) }
         ensures failed { OnErr result ((q : List ℕ) → holds self.new q ≡ holds self.old q) }
         ensures others { (q : List ℕ) → q ≢ path.now → holds self.new q ≡ holds self.old q }
         ensures kept { (q : List ℕ) (c : Option (List ℕ)) → q ≢ path.now → kept self.new q c → kept self.old q c }
         ensures real { real self.new ≡ real self.old }
-        ensures count { CountsFault (faults self.old) (faults self.new) result }
+        ensures counts { CountsAt path.now (failures self.old) (failures self.new) result }
         ensures crash { Goes moment may_leave left_since self.old self.new (SameBut path.now) };
 
     /// The bytes that were written to the file of this path are on the disk, and it is closed. Its name may not be there yet. What was written to what is
@@ -224,7 +230,7 @@ pub trait Files {
     ///
     /// # Errors
     ///
-    /// `DeviceFault`, exactly where the count of faults goes up by one. It is not specified what the path holds then.
+    /// `DeviceFault`, exactly where the count of its path goes up by one. It is not specified what the path holds then.
     fn sync(&mut self, path: &str, output: Self::Output) -> Result<(), DeviceFault>
         requires at { is_at self.old path.now (Self.Output.number output) }
         requires open { holds self.old path.now ≡ None }
@@ -234,14 +240,14 @@ pub trait Files {
         ensures kept { (q : List ℕ) (c : Option (List ℕ)) → q ≢ path.now → kept self.new q c → kept self.old q c }
         ensures links { (q : List ℕ) → is_no_link self.old q → is_no_link self.new q }
         ensures real { real self.new ≡ real self.old }
-        ensures count { CountsFault (faults self.old) (faults self.new) result }
+        ensures counts { CountsAt path.now (failures self.old) (failures self.new) result }
         ensures crash { Goes moment may_leave left_since self.old self.new (SameBut path.now) };
 
     /// Moves a file over another path of its folder. A crash may leave what was there until the folder is synced, and never less than one of the two.
     ///
     /// # Errors
     ///
-    /// `DeviceFault`, exactly where the count of faults goes up by one. No path holds anything else then; a crash may still show the file moved.
+    /// `DeviceFault`, exactly where the count of its new path goes up by one. No path holds anything else then; a crash may still show the file moved.
     fn rename(&mut self, from: &str, to: &str) -> Result<(), DeviceFault>
         requires { from.now ≢ to.now }
         ensures moved { OnOk result (holds self.new to.now ≡ holds self.old from.now) }
@@ -252,27 +258,27 @@ pub trait Files {
         ensures kept { (q : List ℕ) (c : Option (List ℕ)) → q ≢ from.now → q ≢ to.now → kept self.new q c → kept self.old q c }
         ensures links { OnErr result ((q : List ℕ) → is_no_link self.old q → is_no_link self.new q) }
         ensures real { real self.new ≡ real self.old }
-        ensures count { CountsFault (faults self.old) (faults self.new) result }
+        ensures counts { CountsAt to.now (failures self.old) (failures self.new) result }
         ensures crash { Goes moment may_leave left_since self.old self.new (Moved from.now to.now (kept self.old from.now)) };
 
     /// All names in the folder that has this path are on the disk.
     ///
     /// # Errors
     ///
-    /// `DeviceFault`, exactly where the count of faults goes up by one.
+    /// `DeviceFault`, exactly where the count of the folder goes up by one.
     fn sync_folder(&mut self, path: &str) -> Result<(), DeviceFault>
         ensures durable { OnOk result ((c : Disk) (q : List ℕ) → may_leave self.new c → folder_of q ≡ folder_of path.now → kept self.old q (c q)) }
         ensures others { (q : List ℕ) → holds self.new q ≡ holds self.old q }
         ensures kept { (q : List ℕ) (c : Option (List ℕ)) → kept self.new q c → kept self.old q c }
         ensures real { real self.new ≡ real self.old }
-        ensures count { CountsFault (faults self.old) (faults self.new) result }
+        ensures counts { CountsAt (folder_of path.now) (failures self.old) (failures self.new) result }
         ensures crash { Goes moment may_leave left_since self.old self.new Same };
 
     /// Removes a file, and follows no link. A crash may leave it until the folder is synced, whole.
     ///
     /// # Errors
     ///
-    /// `DeviceFault`, exactly where the count of faults goes up by one. No path holds anything else then; a crash may still show the file removed.
+    /// `DeviceFault`, exactly where the count of its path goes up by one. No path holds anything else then; a crash may still show the file removed.
     fn remove(&mut self, path: &str) -> Result<(), DeviceFault>
         ensures gone { OnOk result (tells → holds self.new path.now ≡ Some None) }
         ensures failed { OnErr result ((q : List ℕ) → holds self.new q ≡ holds self.old q) }
@@ -280,7 +286,7 @@ pub trait Files {
         ensures kept { (q : List ℕ) (c : Option (List ℕ)) → q ≢ path.now → kept self.new q c → kept self.old q c }
         // Where a link is removed, paths lead elsewhere.
         ensures real { is_no_link self.old path.now → real self.new ≡ real self.old }
-        ensures count { CountsFault (faults self.old) (faults self.new) result }
+        ensures counts { CountsAt path.now (failures self.old) (failures self.new) result }
         ensures crash { Goes moment may_leave left_since self.old self.new (SameBut path.now) }
         ensures either { Goes moment may_leave left_since self.old self.new (Gone path.now) };
 
@@ -309,23 +315,23 @@ pub trait Files {
     ///
     /// # Errors
     ///
-    /// `DeviceFault`, exactly where the count of faults goes up by one: also where something has the path.
+    /// `DeviceFault`, exactly where the count of its path goes up by one: also where something has the path.
     fn make_folder(&mut self, path: &str) -> Result<(), DeviceFault>
         ensures others { (q : List ℕ) → holds self.new q ≡ holds self.old q }
         ensures kept { (q : List ℕ) (c : Option (List ℕ)) → kept self.new q c → kept self.old q c }
         ensures real { real self.new ≡ real self.old }
-        ensures count { CountsFault (faults self.old) (faults self.new) result }
+        ensures counts { CountsAt path.now (failures self.old) (failures self.new) result }
         ensures crash { Goes moment may_leave left_since self.old self.new Same };
 
-    /// Counts a fault of none of these calls: a file that was begun was given up, because what was to be in it could not be read again. Nothing else changes.
-    fn count_fault(&mut self)
-        ensures count { faults self.new ≡ (faults self.old + 1) % 2 ^ 64 }
+    /// Closes an output whose file is given up, which is counted, and as a call for its path too where a write to it failed. Nothing else changes.
+    fn discard(&mut self, path: &str, output: Self::Output)
+        requires at { is_at self.old path.now (Self.Output.number output) }
+        ensures counts { Discards path.now (Self.Output.stream output).faults (failures self.old) (failures self.new) }
         ensures holds { holds self.new ≡ holds self.old }
         ensures kept { (q : List ℕ) (c : Option (List ℕ)) → kept self.new q c → kept self.old q c }
+        ensures links { (q : List ℕ) → is_no_link self.old q → is_no_link self.new q }
         ensures real { real self.new ≡ real self.old }
-        ensures moment { moment self.new ≡ moment self.old }
-        ensures may_leave { (c : Disk) → may_leave self.new c → may_leave self.old c }
-        ensures left_since { (t : ℕ) (c : Disk) → left_since self.new t c → left_since self.old t c };
+        ensures crash { Goes moment may_leave left_since self.old self.new Same };
 
     /// How many whole seconds have passed since some moment, by the machine's clock, or 0 where it has none. Nothing is promised of it.
     fn seconds(&self) -> u64;

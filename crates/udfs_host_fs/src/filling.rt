@@ -1,8 +1,7 @@
 //! A content is written to an output by code that knows only sinks, and the output stays the same.
 
-ghost use Rattle.std.specs.Prelude.{◌≡◌, ℕ, List, Option, IfOk, IfErr, OnOk, OnErr, ⊤};
+ghost use Rattle.std.specs.Prelude.{◌≡◌, ◌≢◌, ℕ, List, Option, IfOk, IfErr, OnOk, ⊤};
 ghost use Rattle.std.specs.Io.KnownBytes.{Appends};
-ghost use Rattle.udfs_host_fs.specs.Disk.{SinkFails};
 ghost use Rattle.udfs_reading.specs.Writing.{Writes};
 
 use crate::Handle;
@@ -68,37 +67,51 @@ pub trait Job {
     /// As the job says. Then the sink may have taken a part.
     fn write_to<W: Sink>(&self, sink: &mut W) -> Result<(), Self::Refusal>
         ensures wrote { OnOk result (wrote self.now (W.stream sink.old).contents (W.stream sink.new).contents) }
-        ensures cause { IfErr result (λ refusal. blames_sink self.now refusal → SinkFails W.stream) };
+        ensures moved { IfErr result (λ refusal. blames_sink self.now refusal → (W.stream sink.new).faults ≢ (W.stream sink.old).faults) };
+}
+
+/// An output of which a job was given up, and why.
+#[derive(Drop)]
+pub struct GivenUp<H: Handle + Drop, X: Drop> {
+    /// The output, which may have taken a part.
+    pub handle: H,
+    /// Why it was given up.
+    pub refusal: X,
 }
 
 /// Does a job on a handle of this number.
-fn do_at<K: Numbered, H: Handle + Drop, J: Job>(handle: H, job: &J) -> Result<H, J::Refusal>
+fn do_at<K: Numbered, H: Handle + Drop, J: Job>(
+    handle: H,
+    job: &J,
+) -> Result<H, GivenUp<H, J::Refusal>>
     requires { H.number handle ≡ K.number }
     ensures number { IfOk result (λ full. H.number full ≡ K.number) }
+    ensures back { IfErr result (λ given_up. H.number given_up.handle ≡ K.number) }
     ensures wrote { IfOk result (λ full. J.wrote job.now (H.stream handle).contents (H.stream full).contents) }
-    ensures cause { IfErr result (λ refusal. J.blames_sink job.now refusal → SinkFails H.stream) }
+    ensures moved { IfErr result (λ given_up. J.blames_sink job.now given_up.refusal → (H.stream given_up.handle).faults ≢ (H.stream handle).faults) }
 {
     let mut placed: Placed<K, H> = Placed {
         handle,
         of: PhantomData,
     };
-    match job.write_to(&mut placed) {
-        Ok(()) => {}
-        Err(refusal) => return Err(refusal),
-    }
+    let outcome = job.write_to(&mut placed);
     let Placed { handle, of: _ } = placed;
-    Ok(handle)
+    match outcome {
+        Ok(()) => Ok(handle),
+        Err(refusal) => Err(GivenUp { handle, refusal }),
+    }
 }
 
 /// Does a job on an output, and returns the output, which has taken all of it.
 ///
 /// # Errors
 ///
-/// The job's error. Then the output is closed.
-pub fn fill_by<H: Handle + Drop, J: Job>(handle: H, job: &J) -> Result<H, J::Refusal>
+/// The job's error, with the output.
+pub fn fill_by<H: Handle + Drop, J: Job>(handle: H, job: &J) -> Result<H, GivenUp<H, J::Refusal>>
     ensures number { IfOk result (λ full. H.number full ≡ H.number handle) }
+    ensures back { IfErr result (λ given_up. H.number given_up.handle ≡ H.number handle) }
     ensures wrote { IfOk result (λ full. J.wrote job.now (H.stream handle).contents (H.stream full).contents) }
-    ensures cause { IfErr result (λ refusal. J.blames_sink job.now refusal → SinkFails H.stream) }
+    ensures moved { IfErr result (λ given_up. J.blames_sink job.now given_up.refusal → (H.stream given_up.handle).faults ≢ (H.stream handle).faults) }
 {
     do_at::<Brand, H, J>(handle, job)
 }
@@ -125,11 +138,20 @@ impl<'a, C: Content> Job for ContentJob<'a, C> {
 ///
 /// # Errors
 ///
-/// `WriteFault` where the output failed, and it is closed.
-pub fn fill<H: Handle + Drop, C: Content>(handle: H, content: &C) -> Result<H, WriteFault>
+/// The output, where it failed.
+pub fn fill<H: Handle + Drop, C: Content>(handle: H, content: &C) -> Result<H, H>
     ensures number { IfOk result (λ full. H.number full ≡ H.number handle) }
+    ensures back { IfErr result (λ left. H.number left ≡ H.number handle) }
     ensures written { IfOk result (λ full. Appends (H.stream handle).contents (H.stream full).contents (C.bytes content.now)) }
-    ensures cause { OnErr result (SinkFails H.stream) }
+    ensures moved { IfErr result (λ left. (H.stream left).faults ≢ (H.stream handle).faults) }
 {
-    fill_by(handle, &ContentJob { content })
+    match fill_by(handle, &ContentJob { content }) {
+        Ok(full) => Ok(full),
+        Err(
+            GivenUp {
+                handle,
+                refusal: WriteFault,
+            },
+        ) => Err(handle),
+    }
 }

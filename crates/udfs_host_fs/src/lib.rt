@@ -5,6 +5,7 @@
 //! by itself. A local one is what a clock showed at an offset that was not written down, and the time zone of a clock, a [`Zone`], tells when that was.
 #![tactic(auto)]
 
+mod failures;
 mod files;
 mod filling;
 mod folders;
@@ -23,7 +24,7 @@ mod zones;
 
 pub use files::{Aim, Files, Handle, Identity, Kind, Target};
 pub(crate) use filling::ContentJob;
-pub use filling::{Content, Job, fill, fill_by};
+pub use filling::{Content, GivenUp, Job, fill, fill_by};
 pub use keeping::Times;
 pub use machine::Machine;
 pub use moments::moment_in;

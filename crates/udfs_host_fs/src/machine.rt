@@ -2,11 +2,12 @@
 
 ghost use Rattle.std.proofs.Common.{inl, inr, refl, ⊎_elim};
 ghost use Rattle.udfs_calls.specs.Log.{AreNamed, IsAt, IsFresh, holds, moment_of};
+ghost use Rattle.udfs_host_fs.specs.Failing.{CountsAt, counted_for, counts_of};
 ghost use Rattle.udfs_host_fs.specs.Opened.{all_before, contents_of, told_bytes, told_contents, untold_contents};
 ghost use Rattle.udfs_host_fs.specs.Told.{AreNamed-prop, IsLedInPlace, identity_by, kept_by, kept_held, kept_none, left_by, left_since_by, log_counts_now, log_only_now, path_of, some_left};
-ghost use Rattle.udfs_reading.specs.Device.{CountsFault};
 ghost use Rattle.std.specs.Prelude.{◌≡◌, Some, None, Ok, IfOk, IsErr, OnErr, ⊤};
 
+use crate::failures::{Failing, Failures};
 use crate::files::{Aim, Files, Target};
 use crate::folders::{LastFolder, make_folder, sync_names};
 use crate::opened::{MachineImage, MachineInput, MachineStored};
@@ -31,7 +32,8 @@ pub struct Machine<'a, C: Calls, R: std::rt::Files + Env + Clock + AllocGlobal, 
     calls: C,
     rt: &'a R,
     watch: &'a N,
-    faults: u64,
+    failures: Failures,
+    given_up: Failures,
     times: Times,
     /// The folder that was made last, where its name may not be on the disk.
     unnamed: LastFolder,
@@ -48,7 +50,8 @@ impl<'a, C: Calls, R: std::rt::Files + Env + Clock + AllocGlobal, N: Watch> Mach
             calls,
             rt,
             watch,
-            faults: 0,
+            failures: Failures::new(),
+            given_up: Failures::new(),
             times: Times::new(),
             unnamed: LastFolder {
                 path: room,
@@ -68,17 +71,22 @@ fn changed<C: Calls>(calls: &C, path: &str, micros: u64) -> Result<(), Error> {
 
 impl<'a, C: Calls, R: std::rt::Files + Env + Clock + AllocGlobal, N: Watch> Machine<'a, C, R, N> {
     /// The outcome of a call that changes files, counted. Why it failed is kept.
-    fn heeded<T: Drop>(&mut self, outcome: Result<T, Error>) -> Result<T, DeviceFault>
+    #[tactic(auto, using(crate::proofs::Failing::counted))]
+    fn heeded<T: Drop>(
+        &mut self,
+        call: &Failing<'_>,
+        outcome: Result<T, Error>,
+    ) -> Result<T, DeviceFault>
         ensures value { IfOk result (λ value. outcome ≡ Ok value) }
         ensures none { OnErr result (IsErr outcome) }
         ensures calls { self.new.calls ≡ self.old.calls }
         ensures unnamed { self.new.unnamed ≡ self.old.unnamed }
-        ensures count { CountsFault self.old.faults self.new.faults result }
+        ensures counts { CountsAt (counted_for call.now) (counts_of self.old.failures.paths self.old.given_up.paths) (counts_of self.new.failures.paths self.new.given_up.paths) result }
     {
         match heeded(self.watch, outcome) {
             Some(value) => Ok(value),
             None => {
-                self.faults = self.faults.wrapping_add(1);
+                self.failures = self.failures.then(call);
                 Err(DeviceFault)
             }
         }
@@ -119,7 +127,7 @@ impl<'a, C: Calls, R: std::rt::Files + Env + Clock + AllocGlobal, N: Watch> File
 
     ghost left_since = { λ m. left_since_by (C.log m.calls) };
 
-    ghost faults = { λ m. m.faults };
+    ghost failures = { λ m. counts_of m.failures.paths m.given_up.paths };
 
     ghost stored_told = { λ tells s. told_bytes (C.File.state s.file) (C.files_told tells s.file) };
 
@@ -165,37 +173,73 @@ impl<'a, C: Calls, R: std::rt::Files + Env + Clock + AllocGlobal, N: Watch> File
     #[tactic(auto, using(crate::proofs::Logs::kept_same))]
     fn make_new(&mut self, path: &str) -> Result<Self::Output, DeviceFault> {
         let outcome = create(&mut self.calls, self.watch, path);
-        self.heeded(outcome)
+        self.heeded(
+            &Failing {
+                path,
+                of_folder: false,
+            },
+            outcome,
+        )
     }
 
     #[tactic(auto, using(crate::proofs::Logs::kept_same))]
     fn make(&mut self, path: &str) -> Result<Self::Output, DeviceFault> {
         let outcome = open_in_place(&mut self.calls, self.watch, path);
-        self.heeded(outcome)
+        self.heeded(
+            &Failing {
+                path,
+                of_folder: false,
+            },
+            outcome,
+        )
     }
 
     #[tactic(auto, using(crate::proofs::Logs::kept_same))]
     fn sync(&mut self, path: &str, output: Self::Output) -> Result<(), DeviceFault> {
         let outcome = sync_output(&mut self.calls, path, output);
-        self.heeded(outcome)
+        self.heeded(
+            &Failing {
+                path,
+                of_folder: false,
+            },
+            outcome,
+        )
     }
 
     #[tactic(auto, using(crate::proofs::Logs::kept_same))]
     fn rename(&mut self, from: &str, to: &str) -> Result<(), DeviceFault> {
         let outcome = rename(&mut self.calls, self.rt.alloc(), from, to);
-        self.heeded(outcome)
+        self.heeded(
+            &Failing {
+                path: to,
+                of_folder: false,
+            },
+            outcome,
+        )
     }
 
     #[tactic(auto, using(crate::proofs::Logs::kept_same))]
     fn sync_folder(&mut self, path: &str) -> Result<(), DeviceFault> {
         let outcome = sync_names(&mut self.calls, &mut self.unnamed, path);
-        self.heeded(outcome)
+        self.heeded(
+            &Failing {
+                path,
+                of_folder: true,
+            },
+            outcome,
+        )
     }
 
     #[tactic(auto, using(crate::proofs::Logs::kept_same))]
     fn remove(&mut self, path: &str) -> Result<(), DeviceFault> {
         let outcome = remove(&mut self.calls, path);
-        self.heeded(outcome)
+        self.heeded(
+            &Failing {
+                path,
+                of_folder: false,
+            },
+            outcome,
+        )
     }
 
     fn copy_permissions(&self, from: &str, to: &str) {
@@ -222,11 +266,26 @@ impl<'a, C: Calls, R: std::rt::Files + Env + Clock + AllocGlobal, N: Watch> File
     #[tactic(auto, using(crate::proofs::Logs::kept_same))]
     fn make_folder(&mut self, path: &str) -> Result<(), DeviceFault> {
         let outcome = make_folder(&mut self.calls, &mut self.unnamed, path);
-        self.heeded(outcome)
+        self.heeded(
+            &Failing {
+                path,
+                of_folder: false,
+            },
+            outcome,
+        )
     }
 
-    fn count_fault(&mut self) {
-        self.faults = self.faults.wrapping_add(1);
+    #[tactic(auto, using(crate::proofs::Failing::given_up_failing, crate::proofs::Failing::given_up_sound))]
+    fn discard(&mut self, path: &str, output: Self::Output) {
+        let call = Failing {
+            path,
+            of_folder: false,
+        };
+        self.given_up = self.given_up.then(&call);
+        if output.faults == 0 {
+            return;
+        }
+        self.failures = self.failures.then(&call);
     }
 
     fn seconds(&self) -> u64 {

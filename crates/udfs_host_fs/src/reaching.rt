@@ -105,6 +105,7 @@ pub(crate) fn create<'a, C: Calls, N: Watch>(
 ) -> Result<MachineFile<'a, C::File, N>, Error>
     ensures number { IfOk result (λ output. C.tells → C.File.number output.file ≢ None) }
     ensures at { IfOk result (λ output. IsAt (C.log calls.new) path.now (C.File.number output.file)) }
+    ensures fresh { IfOk result (λ output. output.faults ≡ 0) }
     ensures empty { IfOk result (λ output. C.tells → contents_of (C.File.state output.file) output.size ≡ Some []) }
     ensures absent { OnOk result (C.tells → holds (C.log calls.old) path.now ≡ Some None) }
     ensures link { OnOk result (C.link_at calls.new path.now ≡ None) }
@@ -137,6 +138,7 @@ pub(crate) fn open_in_place<'a, C: Calls, N: Watch>(
     path: &str,
 ) -> Result<MachineFile<'a, C::File, N>, Error>
     ensures at { IfOk result (λ output. IsAt (C.log calls.new) path.now (C.File.number output.file)) }
+    ensures fresh { IfOk result (λ output. output.faults ≡ 0) }
     ensures empty { IfOk result (λ output. C.tells → contents_of (C.File.state output.file) output.size ≡ Some []) }
     ensures written { OnOk result (holds (C.log calls.new) path.now ≡ None) }
     ensures failed { OnErr result ((q : List ℕ) → holds (C.log calls.new) q ≡ holds (C.log calls.old) q) }

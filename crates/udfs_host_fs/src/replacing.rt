@@ -1,10 +1,11 @@
 //! One file in the place of another, whole or not at all.
 
 ghost use Rattle.std.specs.Prelude.{◌≡◌, ◌≢◌, ◌⊎◌, ◌<◌, ◌++◌, ℕ, List, Option, All, [], length, codes, string_bytes, vec_len, IfErr, IfOk, OnOk, OnErr, IsErrOf, Some, None};
-ghost use Rattle.udfs_host_fs.specs.Disk.{Disk, SameBut, SameButOwn, IsOwn, Replaced, After, Goes, Fails, SinkFails};
-ghost use Rattle.udfs_host_fs.specs.Jobs.{EndsNew, GivesUp, HoldsSome, IsJobLeft, JobBlames, LeavesSome, ReplacedBySome, content_error};
+ghost use Rattle.udfs_host_fs.specs.Disk.{Disk, SameBut, SameButOwn, IsOwn, Replaced, After, Goes};
+ghost use Rattle.udfs_host_fs.specs.Failing.{GaveUp, Grow, SomeFailed};
+ghost use Rattle.udfs_host_fs.specs.Jobs.{EndsNew, GivesUp, HoldsSome, IsJobLeft, IsRefused, JobBlames, LeavesSome, ReplacedBySome, content_error};
 
-use crate::{Content, ContentJob, Files, Job, fill_by};
+use crate::{Content, ContentJob, Files, GivenUp, Job, fill_by};
 use std::alloc::{AllocError, Global};
 use udfs_reading::{DeviceFault, WriteFault};
 
@@ -77,6 +78,7 @@ fn own_names(alloc: Global, path: &str) -> Result<Vec<String>, AllocError>
 }
 
 /// Makes a new file and does a job on it, and all of it is on the disk, but for its name. It has the permissions of the file at `path`, where there is one.
+#[tactic(auto, using(crate::proofs::Failing::failed_before, crate::proofs::Failing::failed_call, crate::proofs::Failing::failed_later, crate::proofs::Failing::failed_write, crate::proofs::Failing::gave_up, crate::proofs::Failing::gave_up_later, crate::proofs::Failing::grow_discard, crate::proofs::Failing::grow_done, crate::proofs::Failing::grow_failed, crate::proofs::Failing::grow_on))]
 fn write_new<F: Files, J: Job>(
     files: &mut F,
     own: &str,
@@ -90,7 +92,9 @@ fn write_new<F: Files, J: Job>(
     ensures absent { OnOk result (F.tells → F.holds files.old own.now ≡ Some None) }
     ensures ours { IfErr result (λ e. e ≢ JobError.Files ReplaceError.NotMade → F.tells → F.holds files.old own.now ≡ Some None) }
     ensures refused { IfErr result (λ e. EndsNew e) }
-    ensures cause { IfErr result (λ e. JobBlames (J.blames_sink job.now) (Fails F.faults ⊎ SinkFails F.Output.stream) e) }
+    ensures failed { IfErr result (λ e. JobBlames (J.blames_sink job.now) (SomeFailed (F.failures files.old) (F.failures files.new)) e) }
+    ensures given_up { IfErr result (λ e. IsRefused e → GaveUp (F.failures files.old) (F.failures files.new)) }
+    ensures grow { Grow (F.failures files.old) (F.failures files.new) }
     ensures link { OnOk result (F.is_no_link files.new own.now) }
     ensures begun { IfErr result (λ e. e ≢ JobError.Files ReplaceError.NotMade → F.is_no_link files.new own.now) }
     ensures real { F.real files.new ≡ F.real files.old }
@@ -101,7 +105,10 @@ fn write_new<F: Files, J: Job>(
     };
     let output = match fill_by(output, job) {
         Ok(output) => output,
-        Err(refusal) => return Err(JobError::Refused(refusal)),
+        Err(GivenUp { handle, refusal }) => {
+            files.discard(own, handle);
+            return Err(JobError::Refused(refusal));
+        }
     };
     files.copy_permissions(path, own);
     match files.sync(own, output) {
@@ -111,11 +118,13 @@ fn write_new<F: Files, J: Job>(
 }
 
 /// Removes the new file after the job failed with `refusal`, or a call failed, and returns the error.
+#[tactic(auto, using(crate::proofs::Failing::failed_call, crate::proofs::Failing::grow_call, crate::proofs::Failing::grow_done, crate::proofs::Failing::grow_failed))]
 fn give_up<F: Files, X>(files: &mut F, own: &str, refusal: Option<X>) -> JobError<X>
     ensures gone { (¬ IsJobLeft result) → F.tells → F.holds files.new own.now ≡ Some None }
     ensures others { (q : List ℕ) → q ≢ own.now → F.holds files.new q ≡ F.holds files.old q }
     ensures told { GivesUp refusal result }
-    ensures cause { IsJobLeft result → Fails F.faults }
+    ensures failed { IsJobLeft result → SomeFailed (F.failures files.old) (F.failures files.new) }
+    ensures grow { Grow (F.failures files.old) (F.failures files.new) }
     ensures real { F.is_no_link files.old own.now → F.real files.new ≡ F.real files.old }
     ensures crash { Goes F.moment F.may_leave F.left_since files.old files.new (SameBut own.now) }
 {
@@ -128,6 +137,7 @@ fn give_up<F: Files, X>(files: &mut F, own: &str, refusal: Option<X>) -> JobErro
 }
 
 /// Puts a file that a job writes at the path, by way of a new file at a path of its own in the same folder.
+#[tactic(auto, using(crate::proofs::Failing::blames_before, crate::proofs::Failing::blames_later, crate::proofs::Failing::failed_before, crate::proofs::Failing::failed_call, crate::proofs::Failing::failed_later, crate::proofs::Failing::gave_up_before, crate::proofs::Failing::grow_done, crate::proofs::Failing::grow_failed, crate::proofs::Failing::grow_on))]
 fn replace_by<F: Files, J: Job>(
     files: &mut F,
     own: &str,
@@ -147,7 +157,9 @@ fn replace_by<F: Files, J: Job>(
     ensures not_tried { IsErrOf result (JobError.Files ReplaceError.NotMade) → Goes F.moment F.may_leave F.left_since files.old files.new (SameButOwn path.now) }
     ensures not_kept { IsErrOf result (JobError.Files ReplaceError.NotKept) → F.tells → HoldsSome (λ bytes. J.wrote job.now (Some []) (Some bytes)) (F.holds files.new path.now) }
     ensures memory { IfErr result (λ e. e ≢ JobError.Files ReplaceError.OutOfMemory) }
-    ensures cause { IfErr result (λ e. JobBlames (J.blames_sink job.now) (Fails F.faults ⊎ SinkFails F.Output.stream) e) }
+    ensures failed { IfErr result (λ e. JobBlames (J.blames_sink job.now) (SomeFailed (F.failures files.old) (F.failures files.new)) e) }
+    ensures given_up { IfErr result (λ e. IsRefused e → GaveUp (F.failures files.old) (F.failures files.new)) }
+    ensures grow { Grow (F.failures files.old) (F.failures files.new) }
     ensures real { F.real files.new ≡ F.real files.old }
 {
     match write_new(files, own, path, job) {
@@ -169,6 +181,7 @@ fn replace_by<F: Files, J: Job>(
 }
 
 /// The same, by way of the first of some paths at which a new file can be made.
+#[tactic(auto, using(crate::proofs::Failing::blames_later, crate::proofs::Failing::failed_later, crate::proofs::Failing::gave_up_later, crate::proofs::Failing::grow_on))]
 fn replace_by_one<F: Files, J: Job>(
     files: &mut F,
     names: &[String],
@@ -186,7 +199,9 @@ fn replace_by_one<F: Files, J: Job>(
     ensures refused { IfErr result (λ e. e ≢ JobError.Files ReplaceError.NotKept → F.holds files.new path.now ≡ F.holds files.old path.now) }
     ensures not_kept { IsErrOf result (JobError.Files ReplaceError.NotKept) → F.tells → HoldsSome (λ bytes. J.wrote job.now (Some []) (Some bytes)) (F.holds files.new path.now) }
     ensures memory { IfErr result (λ e. e ≢ JobError.Files ReplaceError.OutOfMemory) }
-    ensures cause { IfErr result (λ e. JobBlames (J.blames_sink job.now) (Fails F.faults ⊎ SinkFails F.Output.stream) e) }
+    ensures failed { IfErr result (λ e. JobBlames (J.blames_sink job.now) (SomeFailed (F.failures files.old) (F.failures files.new)) e) }
+    ensures given_up { IfErr result (λ e. IsRefused e → GaveUp (F.failures files.old) (F.failures files.new)) }
+    ensures grow { Grow (F.failures files.old) (F.failures files.new) }
     ensures real { F.real files.new ≡ F.real files.old }
 {
     for name in names {
@@ -205,6 +220,7 @@ fn replace_by_one<F: Files, J: Job>(
 ///
 /// `Files` as of [`replace`]. `Refused` and `RefusedLeft` where the job failed: the path holds what it held, and only at
 /// `RefusedLeft` is the new file still there, possibly incomplete.
+#[tactic(auto, using(crate::proofs::Failing::grow_done))]
 pub fn replace_by_job<F: Files, J: Job>(
     alloc: Global,
     files: &mut F,
@@ -226,7 +242,9 @@ pub fn replace_by_job<F: Files, J: Job>(
     ensures not_kept { IsErrOf result (JobError.Files ReplaceError.NotKept) → F.tells → HoldsSome (λ bytes. J.wrote job.now (Some []) (Some bytes)) (F.holds files.new path.now) }
     ensures memory { IsErrOf result (JobError.Files ReplaceError.OutOfMemory) → files.new ≡ files.old }
     // It does not give up by itself.
-    ensures cause { IfErr result (λ e. JobBlames (J.blames_sink job.now) (Fails F.faults ⊎ SinkFails F.Output.stream) e) }
+    ensures failed { IfErr result (λ e. JobBlames (J.blames_sink job.now) (SomeFailed (F.failures files.old) (F.failures files.new)) e) }
+    ensures given_up { IfErr result (λ e. IsRefused e → GaveUp (F.failures files.old) (F.failures files.new)) }
+    ensures grow { Grow (F.failures files.old) (F.failures files.new) }
     ensures real { F.real files.new ≡ F.real files.old }
 {
     let Ok(names) = own_names(alloc, path) else {
@@ -278,7 +296,8 @@ pub fn replace<F: Files, C: Content>(
     ensures not_kept { IsErrOf result ReplaceError.NotKept → F.tells → F.holds files.new path.now ≡ Some (Some (C.bytes content.now)) }
     ensures memory { IsErrOf result ReplaceError.OutOfMemory → files.new ≡ files.old }
     // It does not give up by itself.
-    ensures cause { IfErr result (λ e. e ≢ ReplaceError.OutOfMemory → Fails F.faults ⊎ SinkFails F.Output.stream) }
+    ensures failed { IfErr result (λ e. e ≢ ReplaceError.OutOfMemory → SomeFailed (F.failures files.old) (F.failures files.new)) }
+    ensures grow { Grow (F.failures files.old) (F.failures files.new) }
     ensures real { F.real files.new ≡ F.real files.old }
 {
     match replace_by_job(alloc, files, path, &ContentJob { content }) {

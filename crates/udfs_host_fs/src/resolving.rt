@@ -1,7 +1,7 @@
 //! Where a path leads, every link followed, and what is there, as the machine's calls tell it.
 
-ghost use Rattle.std.specs.Prelude.{◌≡◌, ◌≢◌, None, IfOk, IfSome, IsNone, OnErr, string_bytes};
-ghost use Rattle.udfs_calls.specs.Log.{Names, NamesSome};
+ghost use Rattle.std.specs.Prelude.{◌≡◌, ◌≢◌, None, Some, IfOk, IfSome, IsNone, OnErr, string_bytes};
+ghost use Rattle.udfs_calls.specs.Log.{Names, holds};
 ghost use Rattle.udfs_host_fs.specs.Leading.{LeadsTo};
 ghost use Rattle.udfs_host_fs.specs.Told.{identity_by};
 ghost use Rattle.udfs_host_fs.specs.declared.files.Kind.{Kind};
@@ -40,7 +40,7 @@ fn serves<C: Calls, N: Watch>(calls: &C, watch: &N, path: &str, aim: Aim) -> Res
 }
 
 /// What is at a path. A regular file that may not be written is a fault where it is to be.
-#[tactic(auto, using(crate::proofs::Leading::no_file))]
+#[tactic(auto, using(crate::proofs::Leading::no_file, crate::proofs::Logs::there_held))]
 fn what_is_at<C: Calls, N: Watch>(
     calls: &C,
     watch: &N,
@@ -48,7 +48,7 @@ fn what_is_at<C: Calls, N: Watch>(
     aim: Aim,
 ) -> Result<There, DeviceFault>
     ensures absent { IfOk result (λ there. there.kind ≡ Kind.Absent → Names (C.log calls.now) (C.real calls.now path.now) None) }
-    ensures regular { IfOk result (λ there. there.kind ≡ Kind.Regular → NamesSome (C.log calls.now) (C.real calls.now path.now)) }
+    ensures regular { IfOk result (λ there. there.kind ≡ Kind.Regular → holds (C.log calls.now) (C.real calls.now path.now) ≢ Some None) }
     ensures other { IfOk result (λ there. there.kind ≡ Kind.Other → C.in_place calls.now path.now) }
     ensures file { IfOk result (λ there. there.kind ≢ Kind.Other → C.tells → there.identity ≡ identity_by (C.log calls.now) (C.identity calls.now) (C.real calls.now path.now)) }
     ensures no_file { IfOk result (λ there. there.kind ≡ Kind.Other → there.identity ≡ None) }

@@ -1,6 +1,7 @@
 -- So far no path holds anything else, and a crash leaves anything at those of new files alone.
-use Rattle.std.proofs.Common.{◌≡◌, ◌⊎◌, ◌<◌, ℕ, List}
-use Rattle.udfs_host_fs.specs.Disk.{Goes, SameButOwn, Fails, SinkFails}
+use Rattle.std.proofs.Common.{◌≡◌, ◌<◌, ℕ, List}
+use Rattle.udfs_host_fs.specs.Disk.{Goes, SameButOwn}
+use Rattle.udfs_host_fs.specs.Failing.{Grow, SomeFailed}
 use Rattle.udfs_host_fs.proofs.replacing.replace_by_one.Given as goal
 
 abbrev pub invariant-loop-name : goal.invariant-loop-name
@@ -10,5 +11,6 @@ invariant-loop-name g l =
       holds : (q : List ℕ) → F.holds l.files q ≡ F.holds l.initial.files q;
       goes : Goes F.moment F.may_leave F.left_since l.initial.files l.files (SameButOwn l.path);
       real : F.real l.files ≡ F.real l.initial.files;
-      cause : 0 < l.name-index → Fails F.faults ⊎ SinkFails g.F.Output.Sink.stream;
+      failed : 0 < l.name-index → SomeFailed (F.failures l.initial.files) (F.failures l.files);
+      grow : Grow (F.failures l.initial.files) (F.failures l.files);
     }
