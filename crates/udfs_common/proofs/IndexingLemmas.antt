@@ -1,10 +1,13 @@
 -- Inputs are taken into an index one after the other, and an image may be compared with those before it.
-use Rattle.std.proofs.Common.{◌≡◌, ◌<◌, ◌+◌, ◌-◌, ◌∙◌, arith, ap, sym, refl, subst, ℕ, zero, suc, Bool, true, false, List, [], ◌∷◌, ◌++◌, Option, Some, IfSome, Err, length, map, slice_get, take, drop}
+use Rattle.std.proofs.Common.{◌≡◌, ◌≢◌, ◌<◌, ◌+◌, ◌-◌, ◌∙◌, arith, ap, sym, refl, subst, ℕ, zero, suc, Bool, true, false, List, [], ◌∷◌, ◌++◌, Option, Some, IfSome, Err, length, map, slice_get, take, drop}
 use Rattle.std.specs.Borrow.{Bor}
 use Rattle.udfs_index.specs.Comparing.{disagreeing, is_other_disc, shared}
 use Rattle.udfs_index.proofs.IndexLemmas.{told_all}
 use Rattle.udfs_index.proofs.StoreLemmas.{took_states}
-use Rattle.udfs_index.specs.Copying.{AreAllTold}
+use Rattle.udfs_host_fs.proofs.Failing.{moved_on}
+use Rattle.udfs_index.specs.Copying.{AreAllTold, CountsSink}
+use Rattle.udfs_index.specs.declared.fault.CopyFault.{CopyFault}
+use Rattle.udfs_index.specs.declared.fault.CopyFault.TheVariants.{Sink, Input}
 use Rattle.udfs_index.specs.Index.{Took, contents_of}
 use Rattle.udfs_index.specs.Placed.{TakesInput}
 use Rattle.udfs_index.specs.Stores.{states_of}
@@ -22,7 +25,7 @@ use Rattle.udfs_common.specs.Taking.{Takes}
 use Rattle.udfs_common.specs.declared.refusal.Refusal.{Refusal}
 use Rattle.udfs_common.specs.declared.refusal.Refusal.TheVariants.{OtherDisc}
 use Rattle.udfs_common.proofs.CountingLemmas.{comes_into_conflict, few_are_one, has_table}
-use Rattle.udfs_common.specs.Indexing.{Indexed, IsNamed, IsOtherOf, OfTold}
+use Rattle.udfs_common.specs.Indexing.{Indexed, IsNamed, IsOtherOf, IsSinkFault, OfTold}
 use Rattle.udfs_common.specs.Refused.{OneFails}
 use Rattle.udfs_words.specs.declared.input_path.InputPath.{InputPath}
 
@@ -166,3 +169,8 @@ fails_at {R} content sources n one it ts error at same are fault faulty = record
 -- ---- an input that was
 pub taken_at : {R : Type 0} (content : R → Option (List ℕ)) (one it : R) (Old New : Table → Type 0) → it ≡ one → TakesInput (content it) Old New → Takes content one Old New ⊥
 taken_at {R} content one it Old New same takes = record { own = takes.table; has = subst (λ (r : R). IfSome (content r) (λ bytes. HasTable bytes takes.table)) same takes.has; took = takes.took; one = λ no t old. absurd no }
+
+-- a sink that is blamed has failed
+pub sink_moved : {X : Type 0} (i j : ℕ) (fault : CopyFault) → CountsSink {X = X} i j (Err fault) → IsSinkFault fault → j ≢ i
+sink_moved {X} i j (Sink e) count blamed = moved_on i j count
+sink_moved {X} i j (Input unread) count blamed = absurd blamed

@@ -1,5 +1,5 @@
 -- What a job's file leaves where only some bytes can be in it.
-use Rattle.std.proofs.Common.{◌≡◌, ◌≢◌, IfOk, OnErr, Result, Ok, Err, ◌⊎◌, ℕ, List, Option, Some, inl, inr, refl, ap, subst, ◌∙◌, ⊎_elim, le_refl}
+use Rattle.std.proofs.Common.{◌≡◌, ◌≢◌, IfErr, IfOk, OnErr, Result, Ok, Err, ◌⊎◌, ℕ, List, Option, Some, inl, inr, refl, ap, subst, ◌∙◌, ⊎_elim, le_refl}
 use Rattle.udfs_host_fs.specs.Disk.{Disk, After, Goes, IsOwn, Replaced}
 use Rattle.udfs_host_fs.specs.Jobs.{HoldsSome, LeavesSome, ReplacedBySome}
 use Rattle.udfs_common.specs.Jobs.{AreOnly}
@@ -37,9 +37,9 @@ pub else_at : {path real : List ℕ} (Same : List ℕ → Type 0) → path ≡ r
 else_at {path} {real} Same leads others q apart other = others q (λ e. apart (e ∙ leads)) (λ own. other (subst (λ (p : List ℕ). IsOwn p q) leads own))
 
 -- what follows from a fault inside
-pub inside_as : {U X E A B : Type 0} (result : Result (Result U X) E) → (A → B) → IfOk result (λ done. OnErr done A) → IfOk result (λ done. OnErr done B)
+pub inside_as : {U X E : Type 0} {A B : X → Type 0} (result : Result (Result U X) E) → ((x : X) → A x → B x) → IfOk result (λ done. IfErr done A) → IfOk result (λ done. IfErr done B)
 inside_as (Ok (Ok u)) f h = tt
-inside_as (Ok (Err x)) f h = f h
+inside_as (Ok (Err x)) f h = f x h
 inside_as (Err e) f h = tt
 
 -- and from one outside

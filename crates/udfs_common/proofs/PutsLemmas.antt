@@ -4,7 +4,7 @@ use Rattle.udfs_host_fs.specs.Disk.{After, Disk, Replaced}
 use Rattle.udfs_common.specs.declared.refusal.Refusal.{Refusal}
 use Rattle.udfs_common.specs.Reach.{Reach}
 use Rattle.udfs_common.specs.Keeping.{IsKept, IsTaken, RefusedOut}
-use Rattle.udfs_common.specs.Puts.{HasPut, IsPut, KeepsOthers, Left, MayPut, PutFails, Puts, PutsAs, Spares}
+use Rattle.udfs_common.specs.Puts.{HasPut, IsBroken, IsPut, KeepsOthers, Left, MayPut, PutFails, PutStops, Puts, PutsAs, Spares}
 
 left_wider : {F I M S W : Type 0} (reach : Reach F I M S W) (out : List ℕ) (old new : F) (Is Wider : List ℕ → Type 0) → ((bytes : List ℕ) → Is bytes → Wider bytes) → (refusal : Refusal) → Left reach Is out old new refusal → Left reach Wider out old new refusal
 left_wider reach out old new Is Wider widen refusal (inl same) = inl same
@@ -36,7 +36,7 @@ stands_by : {F I M S W : Type 0} (reach : Reach F I M S W) (out : List ℕ) (old
     reach.files.tells → (reach.files.in_place old out → ⊥) → (reach.files.holds new (reach.files.real old out) ≡ reach.files.holds old (reach.files.real old out)) ⊎ HasPut reach Is out old new
 stands_by reach out old new Is (Ok a) put left tells place = ⊎_elim (λ kept. inr (put.bytes, put.is, (kept tells).held)) (λ at. absurd (place at.0)) put.put
 stands_by {F = F} reach out old new Is (Err e) put (inl same) tells place = inl (ap (λ (f : F). reach.files.holds f (reach.files.real old out)) same)
-stands_by reach out old new Is (Err e) put (inr (inl failed)) tells place = inl (failed.2 tells place)
+stands_by reach out old new Is (Err e) put (inr (inl failed)) tells place = inl (failed.1 tells place)
 stands_by reach out old new Is (Err e) put (inr (inr unkept)) tells place = inr (unkept.2 tells)
 
 -- whatever came of it
@@ -53,9 +53,14 @@ unbegun reach Is out at refusal only_now = record {
   elsewhere = λ tells place q other own. refl;
 }
 
--- a refusal that has changed a file comes of a call that failed
-pub may_fail : {F I M S W : Type 0} {reach : Reach F I M S W} {out : List ℕ} {old new : F} {A : Type 0} {refusal : Refusal} (Is : List ℕ → Type 0) → Puts {A = A} reach Is out old new (Err refusal) → (new ≡ old) ⊎ PutFails reach out old
-may_fail Is puts = ⊎_elim (λ same. inl same) (λ other. inr (⊎_elim (λ failed. failed.1) (λ unkept. unkept.1) other)) puts.left
+-- so a call failed, or an output was given up
+pub broken : {F I M S W : Type 0} (reach : Reach F I M S W) (out : List ℕ) (old new : F) (refusal : Refusal) → IsBroken reach out old new refusal → PutStops reach out old new
+broken reach out old new refusal (inl failed) = inl failed.1
+broken reach out old new refusal (inr reread) = inr reread.3
+
+-- a refusal that has changed a file comes of a call that failed, or of an output that was given up
+pub may_fail : {F I M S W : Type 0} {reach : Reach F I M S W} {out : List ℕ} {old new : F} {A : Type 0} {refusal : Refusal} (Is : List ℕ → Type 0) → Puts {A = A} reach Is out old new (Err refusal) → (new ≡ old) ⊎ PutStops reach out old new
+may_fail {reach = reach} {out = out} {old = old} {new = new} {refusal = refusal} Is puts = ⊎_elim (λ same. inl same) (λ other. inr (⊎_elim (λ failed. broken reach out old new refusal failed.0) (λ unkept. inl unkept.1) other)) puts.left
 
 -- the same of more bytes
 pub spares_wider : {F I M S W : Type 0} {reach : Reach F I M S W} {out : List ℕ} {old new : F} (Is Wider : List ℕ → Type 0) → ((bytes : List ℕ) → Is bytes → Wider bytes) → Spares reach Is out old new → Spares reach Wider out old new
@@ -127,18 +132,18 @@ has_put reach Says out text old new a is put any_moment elsewhere = record {
 }
 
 -- and one that failed
-pub has_not_put : {A F I M S W : Type 0} (reach : Reach F I M S W) (Says : A → List ℕ → Type 0) (out text : List ℕ) (old new : F) (a : A) (refusal : Refusal) → Says a text →
-    RefusedOut reach.files.tells reach.files.holds reach.files.real reach.files.in_place (PutFails reach out old) out old new (λ Put. Put text) →
+pub has_not_put : {A F I M S W : Type 0} {Failed : Type 0} (reach : Reach F I M S W) (Says : A → List ℕ → Type 0) (out text : List ℕ) (old new : F) (a : A) (refusal : Refusal) → (Failed → PutStops reach out old new) → Says a text →
+    RefusedOut reach.files.tells reach.files.holds reach.files.real reach.files.in_place Failed out old new (λ Put. Put text) →
     (reach.files.tells → (reach.files.in_place old out → ⊥) → (c : Disk) → reach.files.left_since new (reach.files.moment old) c → After (reach.files.may_leave old) (Replaced (reach.files.real old out) text) c) → KeepsOthers reach out old new →
     PutsAs {A = A} reach Says out old new (Err refusal)
-has_not_put {F = F} reach Says out text old new a refusal is left any_moment elsewhere = record {
+has_not_put {F = F} reach Says out text old new a refusal stops is left any_moment elsewhere = record {
   put = tt;
   spares = record {
     any_moment = λ tells place c since. let d = any_moment tells place c since in (d.0, d.1, inr (text, (a, is), d.2));
     stands = λ tells place. ⊎_elim (λ same. inl (ap (λ (f : F). reach.files.holds f (reach.files.real old out)) same)) (λ failed. ⊎_elim (λ held. inl held) (λ put. inr (text, (a, is), put)) (failed.stands tells place)) left;
     elsewhere = elsewhere;
   };
-  failed = ⊎_elim (λ same. inl same) (λ failed. inr failed.failed) left;
+  failed = ⊎_elim (λ same. inl same) (λ failed. inr (stops failed.failed)) left;
 }
 
 -- nothing was begun

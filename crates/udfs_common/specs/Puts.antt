@@ -1,26 +1,32 @@
 -- What comes of a path where a file is put. `Is` says which bytes are to be there.
---     PutFails        a call that puts the file failed
+--     PutFails        its path may fail to open, or a call failed meanwhile
+--     PutStops        the same, or an output was given up meanwhile
 --     KeepsOut        the path holds what it held
 --     KeepsOthers     no other path changes, but for those of new files that are to go in its place
 --     IsPut           such bytes are there, and each crash leaves them; or what is no file has taken them
 --     HasPut          such bytes are there
---     IsBroken        the file was begun and not put
+--     IsBroken        the file was begun and not put, and why
 --     Left            what an error leaves
 --     MayPut          what a crash in the middle shows: what was there, or such bytes in its place
 --     Puts            all of these: what a call with this result does with the path
 --     Spares          the same, whatever the call returned
 --     PutsAs          what a call does with the path whose result says more of the bytes
 use Rattle.std.specs.Prelude.{◌≡◌, ◌≢◌, ◌⊎◌, ℕ, List, Some, Result, IfErr, IfOk, OnErr, OnOk}
-use Rattle.udfs_host_fs.specs.Disk.{Disk, After, Fails, IsOwn, Replaced, Same, SinkFails}
+use Rattle.udfs_host_fs.specs.Disk.{Disk, After, IsOwn, Replaced, Same}
+use Rattle.udfs_host_fs.specs.Failing.{GaveUp, SomeFailed}
 use Rattle.udfs_common.specs.Keeping.{IsKept, IsTaken}
 use Rattle.udfs_common.specs.Reach.{Reach}
 use Rattle.udfs_common.specs.declared.refusal.Refusal.{Refusal}
 use Rattle.udfs_common.specs.declared.refusal.Refusal.TheVariants.{Output, Reread, Unkept}
 
 module _ {F I M S W : Type 0} (reach : Reach F I M S W) where
-  -- its path is shut, or a call on the files or on an output may fail
-  abbrev pub PutFails : List ℕ → F → Type 0
-  PutFails out old = reach.files.shut old out ⊎ Fails reach.files.faults ⊎ SinkFails reach.output
+  -- its path is shut, or a call failed meanwhile
+  abbrev pub PutFails : List ℕ → F → F → Type 0
+  PutFails out old new = reach.files.shut old out ⊎ SomeFailed (reach.files.failures old) (reach.files.failures new)
+
+  -- the same, or an output was given up meanwhile: memory ran out, or an input could not be read a second time
+  abbrev pub PutStops : List ℕ → F → F → Type 0
+  PutStops out old new = PutFails out old new ⊎ GaveUp (reach.files.failures old) (reach.files.failures new)
 
   -- unless it is a device or a pipe
   abbrev pub KeepsOut : List ℕ → F → F → Type 0
@@ -40,14 +46,14 @@ pub record IsPut {F I M S W : Type 0} (reach : Reach F I M S W) (Is : List ℕ �
 abbrev pub HasPut : {F I M S W : Type 0} → Reach F I M S W → (List ℕ → Type 0) → List ℕ → F → F → Type 0
 HasPut reach Is out old new = (bytes : List ℕ) × Is bytes × (reach.files.holds new (reach.files.real old out) ≡ Some (Some bytes))
 
--- the file could not be written, or an input could not be read a second time
-abbrev pub IsBroken : Refusal → Type 0
-IsBroken refusal = (refusal ≡ Output) ⊎ ((input number : ℕ) × (refusal ≡ Reread input number))
+-- the file could not be written, since a call failed; or it was given up, since an input could not be read a second time
+abbrev pub IsBroken : {F I M S W : Type 0} → Reach F I M S W → List ℕ → F → F → Refusal → Type 0
+IsBroken reach out old new refusal = ((refusal ≡ Output) × PutFails reach out old new) ⊎ ((input number : ℕ) × (refusal ≡ Reread input number) × GaveUp (reach.files.failures old) (reach.files.failures new))
 
--- nothing has changed; or a call failed, and the path holds what it held, or, with `Unkept`, such bytes
+-- nothing has changed; or a call failed or an output was given up, and the path holds what it held, or, with `Unkept`, such bytes
 abbrev pub Left : {F I M S W : Type 0} → Reach F I M S W → (List ℕ → Type 0) → List ℕ → F → F → Refusal → Type 0
-Left reach Is out old new refusal = (new ≡ old) ⊎ (IsBroken refusal × PutFails reach out old × KeepsOut reach out old new) ⊎
-    ((refusal ≡ Unkept) × PutFails reach out old × (reach.files.tells → HasPut reach Is out old new))
+Left reach Is out old new refusal = (new ≡ old) ⊎ (IsBroken reach out old new refusal × KeepsOut reach out old new) ⊎
+    ((refusal ≡ Unkept) × PutFails reach out old new × (reach.files.tells → HasPut reach Is out old new))
 
 -- the disk is as it was, or such bytes may be in the place of what was at the path
 abbrev pub MayPut : {F I M S W : Type 0} → Reach F I M S W → (List ℕ → Type 0) → List ℕ → F → Disk → Disk → Type 0
@@ -66,8 +72,8 @@ pub record Spares {F I M S W : Type 0} (reach : Reach F I M S W) (Is : List ℕ 
   pub stands : reach.files.tells → (reach.files.in_place old out → ⊥) → (reach.files.holds new (reach.files.real old out) ≡ reach.files.holds old (reach.files.real old out)) ⊎ HasPut reach Is out old new
   pub elsewhere : KeepsOthers reach out old new
 
--- what a call with this result does with the path, where `Says` is what a result says of the bytes; after an error nothing has changed, or a call failed
+-- what a call with this result does with the path, where `Says` is what a result says of the bytes; after an error nothing has changed, or a call failed or an output was given up
 pub record PutsAs {A : Type 0} {F I M S W : Type 0} (reach : Reach F I M S W) (Says : A → List ℕ → Type 0) (out : List ℕ) (old new : F) (result : Result A Refusal) : Type 0 where
   pub put : IfOk result (λ said. IsPut reach (Says said) out old new)
   pub spares : Spares reach (λ bytes. (said : A) × Says said bytes) out old new
-  pub failed : OnErr result ((new ≡ old) ⊎ PutFails reach out old)
+  pub failed : OnErr result ((new ≡ old) ⊎ PutStops reach out old new)

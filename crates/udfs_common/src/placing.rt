@@ -1,7 +1,7 @@
 //! Where an image and its mapfile go: two paths, neither in the other's way, that take the place of nothing that is to stay.
 
 ghost use Rattle.std.specs.Prelude.{◌≡◌, ◌≢◌, ◌⊎◌, ◌++◌, ◌≤◌, ℕ, List, true, false, Some, None, IfOk, IfErr, OnOk, IsErrOf, length, map, string_bytes, alloc_error};
-ghost use Rattle.udfs_host_fs.specs.Disk.{Fails, IsOwn};
+ghost use Rattle.udfs_host_fs.specs.Disk.{IsOwn};
 ghost use Rattle.udfs_host_fs.specs.Identities.{HaveOne, IsFileOf};
 ghost use Rattle.udfs_host_fs.specs.declared.files.Kind.{Kind};
 ghost use Rattle.udfs_common.specs.Guarding.{AreInTheWay, AreTwo, HaveNoPlace, NoneLeads, IsApart, IsFreePair, IsSparedPair, OfFollowed, SomeLeads, SomeShut};

@@ -1,7 +1,8 @@
 //! A file is put at a path, or written to what is there and is no file.
 
 ghost use Rattle.std.specs.Prelude.{◌≡◌, ◌≢◌, ◌⊎◌, ℕ, List, Some, IfErr, OnOk, OnErr, IsErrOf};
-ghost use Rattle.udfs_host_fs.specs.Disk.{Disk, After, IsOwn, Replaced, Fails, SinkFails};
+ghost use Rattle.udfs_host_fs.specs.Disk.{Disk, After, IsOwn, Replaced};
+ghost use Rattle.udfs_host_fs.specs.Failing.{SomeFailed};
 ghost use Rattle.udfs_common.specs.Keeping.{IsKept, IsTaken, RefusedOut};
 ghost use Rattle.udfs_common.specs.Puts.{Puts};
 ghost use Rattle.udfs_common.specs.Refusing.{IsUnput};
@@ -30,11 +31,10 @@ pub fn put_file<F: Files, C: Content>(
     ensures unkept { IsErrOf result Refusal.Unkept → F.tells → F.holds files.new (F.real files.old out.now) ≡ Some (Some (C.bytes content.now)) }
     // No other path changes, but for those of new files that are to go in its place.
     ensures elsewhere { F.tells → (F.in_place files.old out.now → ⊥) → (q : List ℕ) → q ≢ F.real files.old out.now → (¬ IsOwn (F.real files.old out.now) q) → F.holds files.new q ≡ F.holds files.old q }
-    ensures cause { IfErr result (λ refusal. (refusal ≡ Refusal.Output) ⊎ (refusal ≡ Refusal.Unkept) → F.shut files.old out.now ⊎ Fails F.faults ⊎ SinkFails F.Output.stream) }
     // After an error nothing has changed; or a call failed, and the path, unless a device or a pipe, holds what it held or the new file, whole.
-    ensures left { OnErr result (RefusedOut F.tells F.holds F.real F.in_place (F.shut files.old out.now ⊎ Fails F.faults ⊎ SinkFails F.Output.stream) out.now files.old files.new (λ Put. Put (C.bytes content.now))) }
+    ensures left { OnErr result (RefusedOut F.tells F.holds F.real F.in_place (F.shut files.old out.now ⊎ SomeFailed (F.failures files.old) (F.failures files.new)) out.now files.old files.new (λ Put. Put (C.bytes content.now))) }
     ensures told { IfErr result (λ refusal. refusal ≢ Refusal.Spared) }
-    ensures why { IfErr result (IsUnput (F.shut files.old out.now ⊎ Fails F.faults ⊎ SinkFails F.Output.stream)) }
+    ensures why { IfErr result (IsUnput (F.shut files.old out.now ⊎ SomeFailed (F.failures files.old) (F.failures files.new))) }
     // All of it as one fact.
     ensures puts { Puts ⟦<F as Known>⟧.reach (λ bytes. bytes ≡ C.bytes content.now) out.now files.old files.new result }
 {
@@ -56,6 +56,7 @@ pub fn put_file<F: Files, C: Content>(
 }
 
 /// Writes a content to what is no file: a device or a pipe.
+#[tactic(auto, using(udfs_host_fs::proofs::Failing::failed_call, udfs_host_fs::proofs::Failing::failed_later, udfs_host_fs::proofs::Failing::failed_write, udfs_host_fs::proofs::Failing::grow_done))]
 fn write_in_place<F: Files, C: Content>(
     files: &mut F,
     path: &str,
@@ -63,13 +64,17 @@ fn write_in_place<F: Files, C: Content>(
 ) -> Result<(), Refusal>
     ensures taken { OnOk result (IsTaken F.Output.stream (C.bytes content.now)) }
     ensures refused { IfErr result (λ refusal. refusal ≡ Refusal.Output) }
-    ensures cause { OnErr result (Fails F.faults ⊎ SinkFails F.Output.stream) }
+    ensures failed { OnErr result (SomeFailed (F.failures files.old) (F.failures files.new)) }
 {
     let Ok(output) = files.make(path) else {
         return Err(Refusal::Output);
     };
-    let Ok(output) = fill(output, content) else {
-        return Err(Refusal::Output);
+    let output = match fill(output, content) {
+        Ok(output) => output,
+        Err(output) => {
+            files.discard(path, output);
+            return Err(Refusal::Output);
+        }
     };
     match files.sync(path, output) {
         Ok(()) => Ok(()),

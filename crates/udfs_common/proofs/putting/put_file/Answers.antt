@@ -11,10 +11,10 @@ returns-in-Other-clause-left g c =
     let here : g.F.Files.in_place c.args.files.now c.args.out.now = search rules in
     on_err_weaker c.write_in_place.result
     (λ failed. inr (record { failed = inr failed; stands = λ tells file. absurd (file here); elsewhere = λ tells file. absurd (file here) }))
-    c.write_in_place.ensures.cause
+    c.write_in_place.ensures.failed
 
 pub returns-clause-left : goal.returns-clause-left
-returns-clause-left g c = inr (record { failed = inr (c.in-Err-replace.ensures.cause (search rules)); stands = λ tells file. inl (search rules); elsewhere = search rules })
+returns-clause-left g c = inr (record { failed = inr (c.in-Err-replace.ensures.failed (search rules)); stands = λ tells file. inl (search rules); elsewhere = search rules })
 
 pub returns-in-Err-NotKept-clause-puts : goal.returns-in-Err-NotKept-clause-puts
 returns-in-Err-NotKept-clause-puts g c =
@@ -35,7 +35,7 @@ returns-clause-puts g c =
     let bytes = g.C.Content.bytes c.args.content.now in
     record {
       put = tt;
-      left = inr (inl (inl refl, inr (c.in-Err-replace.ensures.cause (search rules)), search rules));
+      left = inr (inl (inl (refl, inr (c.in-Err-replace.ensures.failed (search rules))), search rules));
       any_moment = λ tells place d since.
           let a : After (F.may_leave c.args.files.now) (Replaced (F.real c.args.files.now c.args.out.now) bytes) d = search rules in
           (a.0, a.1, inr (bytes, refl, a.2));
