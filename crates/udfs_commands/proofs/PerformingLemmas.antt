@@ -7,7 +7,7 @@ use Rattle.udfs_words.specs.declared.request.Request.{Request}
 use Rattle.udfs_words.specs.declared.request.Request.TheVariants.{Reread}
 use Rattle.udfs_words.specs.declared.request.RereadRequest.{RereadRequest}
 use Rattle.udfs_common.proofs.PutsLemmas.{may_fail, spares_wider}
-use Rattle.udfs_common.specs.Puts.{PutFails, Puts, Spares}
+use Rattle.udfs_common.specs.Puts.{PutStops, Puts, Spares}
 use Rattle.udfs_common.specs.Reach.{Reach}
 use Rattle.udfs_common.specs.declared.refusal.Refusal.{Refusal}
 use Rattle.udfs_commands.specs.Doing.{said_of}
@@ -42,8 +42,8 @@ pub all_done : {A E : Type 0} (outcome : Result A E) (P Q : Type 0) → OnOk out
 all_done (Ok done) P Q p q = (refl, p, q)
 all_done (Err e) P Q p q = tt
 
--- and where it was not, nothing has changed or a call failed
-pub all_failed : {A F I M S W : Type 0} {reach : Reach F I M S W} {out : List ℕ} {old new : F} (outcome : Result A Refusal) (Is : List ℕ → Type 0) → Puts reach Is out old new outcome → OnErr (said_of outcome) ((new ≡ old) ⊎ PutFails reach out old)
+-- and where it was not, nothing has changed, or a call failed or an output was given up
+pub all_failed : {A F I M S W : Type 0} {reach : Reach F I M S W} {out : List ℕ} {old new : F} (outcome : Result A Refusal) (Is : List ℕ → Type 0) → Puts reach Is out old new outcome → OnErr (said_of outcome) ((new ≡ old) ⊎ PutStops reach out old new)
 all_failed (Ok done) Is puts = tt
 all_failed (Err refusal) Is puts = may_fail Is puts
 

@@ -10,7 +10,7 @@ use Rattle.udfs_overview.specs.declared.node_list.ListForm.{ListForm}
 use Rattle.udfs_words.specs.declared.request.ListRequest.{ListRequest}
 use Rattle.udfs_words.specs.declared.request.Request.{Request}
 use Rattle.udfs_words.specs.declared.request.Request.TheVariants as request
-use Rattle.udfs_common.specs.Puts.{IsPut, PutFails, Spares}
+use Rattle.udfs_common.specs.Puts.{IsPut, PutStops, Spares}
 use Rattle.udfs_common.specs.Reach.{Reach}
 use Rattle.udfs_tables.specs.Forgetting.{IsForgotten}
 use Rattle.udfs_tables.specs.Imaging.{IsImaged, IsPairFree}
@@ -61,12 +61,12 @@ module _ {F I M S W : Type 0} (reach : Reach F I M S W) (old : F) where
   Leaves (request.Page r) new = Spares reach (λ bytes. (whole : Bool) × IsPage reach old r whole bytes) r.out.now old new
   Leaves (request.Extract r) new = LeavesExtract reach old r new
 
-  -- a call failed where a file has changed and the request was refused
+  -- a call failed or an output was given up where a file has changed and the request was refused
   abbrev pub MayFail : Request → F → Type 0
-  MayFail (request.Merge r) new = PutFails reach r.out.now old
-  MayFail (request.Forget r) new = PutFails reach r.out.now old
-  MayFail (request.Reread r) new = MatchOption r.mapfile ⊥ (λ path. PutFails reach path.now old)
-  MayFail (request.Page r) new = PutFails reach r.out.now old
+  MayFail (request.Merge r) new = PutStops reach r.out.now old new
+  MayFail (request.Forget r) new = PutStops reach r.out.now old new
+  MayFail (request.Reread r) new = MatchOption r.mapfile ⊥ (λ path. PutStops reach path.now old new)
+  MayFail (request.Page r) new = PutStops reach r.out.now old new
   MayFail (request.Image r) new = ⊤
   MayFail (request.Extract r) new = ⊤
   MayFail (request.Report r) new = ⊥

@@ -46,7 +46,7 @@ pub fn run<F: Files, O: Sink, E: Sink>(
     ensures done { GrammarTakes (map string_bytes words.now) → result ≢ 2 → (whole : Bool) × (result ≡ cond whole 0 1) × (request : Request) × Asked (map string_bytes words.now) request × Does ⟦<F as Known>⟧.reach files.old O.stream request files.new out.old out.new whole }
     // What is there stays, whatever the status, and through a crash at any moment, but for what was asked for.
     ensures left { (files.new ≡ files.old) ⊎ ((request : Request) × Asked (map string_bytes words.now) request × Leaves ⟦<F as Known>⟧.reach files.old request files.new) }
-    // With status 2 nothing has changed, or a call failed.
+    // With status 2 nothing has changed, or a call failed or an output was given up.
     ensures failed { result ≡ 2 → (files.new ≡ files.old) ⊎ ((request : Request) × Asked (map string_bytes words.now) request × MayFail ⟦<F as Known>⟧.reach files.old request files.new) }
     // Arguments in which clap finds a fault change nothing, nor do those that ask for help.
     ensures faulty { fault_of (program_app (given_in (map string_bytes words.now))) (map string_bytes words.now) ≢ [] → files.new ≡ files.old }

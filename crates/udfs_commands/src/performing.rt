@@ -59,7 +59,7 @@ pub fn perform<F: Files, O: Sink>(
     ensures done { IfOk result (Does ⟦<F as Known>⟧.reach files.old O.stream request.now files.new out.old out.new) }
     // What is there stays, whatever the result, and through a crash at any moment.
     ensures left { Leaves ⟦<F as Known>⟧.reach files.old request.now files.new }
-    // After an error nothing has changed, or a call failed.
+    // After an error nothing has changed, or a call failed or an output was given up.
     ensures failed { OnErr result ((files.new ≡ files.old) ⊎ MayFail ⟦<F as Known>⟧.reach files.old request.now files.new) }
 {
     match request {

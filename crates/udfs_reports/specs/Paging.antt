@@ -67,7 +67,7 @@ module _ {F I M S W : Type 0} (reach : Reach F I M S W) (old : F) where
   -- the disc's end is not known or the inputs were not joined, and nothing has changed; or the inputs were not taken, or not read again; or there is no report, or the page was not put
   abbrev pub IsNotPaged : F → PageRequest → Refusal → Type 0
   IsNotPaged new r refusal = ((new ≡ old) × IsNoVolume reach old r.volume refusal) ⊎ IsVolumeUnread reach old r.volume refusal ⊎
-      OfToldVolume reach old r.volume (λ last. IsRefusedPut (PutFails reach r.out.now old) r.volume.profile last refusal)
+      OfToldVolume reach old r.volume (λ last. IsRefusedPut (PutFails reach r.out.now old new) r.volume.profile last refusal)
 
   -- nothing has changed, and memory ran out, or what is there is spared or could not be looked at; or the page was not put
   abbrev pub PageRefused : F → PageRequest → Refusal → Type 0

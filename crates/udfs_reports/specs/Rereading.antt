@@ -159,7 +159,7 @@ module _ {F I M S W : Type 0} (reach : Reach F I M S W) (old : F) where
   -- nothing has changed or was printed, and the disc's end is not known, or the inputs were not joined, or not read again; or there is no report, or the line was not printed, or the mapfile was not put
   abbrev pub IsNotMapped : F → RereadRequest → List ℕ → Stream → Stream → Refusal → Type 0
   IsNotMapped new r path before after refusal = ((new ≡ old) × (after ≡ before) × (IsNoVolume reach old r.volume refusal ⊎ IsVolumeUnread reach old r.volume refusal)) ⊎
-      OfToldVolume reach old r.volume (λ last. IsRefusedDomain (PutFails reach path old) r last before after refusal)
+      OfToldVolume reach old r.volume (λ last. IsRefusedDomain (PutFails reach path old new) r last before after refusal)
 
   -- nothing has changed or was printed, and memory ran out, or what is there is spared or could not be looked at, or the disc's end is not known or the inputs were not joined; or it was not put where it may take its place
   abbrev pub MapRefused : F → RereadRequest → List ℕ → Stream → Stream → Refusal → Type 0

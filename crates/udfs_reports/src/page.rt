@@ -1,6 +1,6 @@
 //! The command `page`: readings in, the page of their volume out.
 
-ghost use Rattle.std.specs.Prelude.{◌≡◌, ◌⊎◌, Err, IfOk, IfErr, IsErrOf, OnErr, OnOk, alloc_error, map};
+ghost use Rattle.std.specs.Prelude.{◌≡◌, ◌≢◌, ◌⊎◌, Err, IfOk, IfErr, IsErrOf, OnErr, OnOk, alloc_error, map};
 ghost use Rattle.std.specs.Io.KnownBytes.{Appends};
 ghost use Rattle.udfs_host_fs.specs.Disk.{Fails};
 ghost use Rattle.udfs_index.specs.Copying.{AreAllTold};
@@ -66,7 +66,7 @@ struct PageFault<B: SteadyStore> {
 impl<B: SteadyStore> PageFault<B> {
     /// What is said of it, or that a read failed.
     fn refusal(&self) -> Result<Refusal, ReadFault>
-        ensures said { IfOk result (λ refusal. (refusal ≡ Refusal.Memory alloc_error) ⊎ (refusal ≡ Refusal.Output)) }
+        ensures said { IfOk result (λ refusal. (refusal ≡ Refusal.Memory alloc_error) ⊎ ((refusal ≡ Refusal.Output) × (self.now.error ≡ page_error.NotWritten))) }
         ensures fails { OnErr result ((B.fails → ⊥) → ⊥) }
     {
         match self.error {
@@ -92,10 +92,12 @@ struct PageText<'a, 's, B: SteadyStore> {
 
 impl<'a, 's, B: SteadyStore> PageText<'a, 's, B> {
     /// Writes the page, and says at its end whether the store is still as it was.
+    #[tactic(auto, using(udfs_host_fs::proofs::Failing::moved_on))]
     fn write<W: Sink>(&self, sink: &mut W) -> Result<(), PageError>
         ensures wrote { OnOk result (B.tells → (t : Table) → B.holds self.now.judged.now.survey.table.now t → Appends (W.stream sink.old).contents (W.stream sink.new).contents
             (page_html (given_now self.now.given.now) (called_now self.now.called.now) self.now.judged.now.survey.profile t self.now.judged.now.survey.last (survey_by B.states self.now.judged.now.survey) self.now.judged.now.answer)) }
         ensures fails { IsErrOf result PageError.Unread → B.fails }
+        ensures moved { IfErr result (λ error. error ≡ page_error.NotWritten → B.tells → (t : Table) → B.holds self.now.judged.now.survey.table.now t → (W.stream sink.new).faults ≢ (W.stream sink.old).faults) }
     {
         let judged = self.judged;
         match write_page_by(
@@ -125,7 +127,7 @@ impl<'a, 's, B: SteadyStore> Job for PageText<'a, 's, B> {
     ghost wrote = { λ job old new. B.tells → (t : Table) → B.holds job.judged.now.survey.table.now t → Appends old new
         (page_html (given_now job.given.now) (called_now job.called.now) job.judged.now.survey.profile t job.judged.now.survey.last (survey_by B.states job.judged.now.survey) job.judged.now.answer) };
 
-    ghost blames_sink = { λ _ _. ⊥ };
+    ghost blames_sink = { λ job fault. (fault.error ≡ page_error.NotWritten) × B.tells × (t : Table) × B.holds job.judged.now.survey.table.now t };
 
     fn write_to<W: Sink>(&self, sink: &mut W) -> Result<(), PageFault<B>> {
         match self.write(sink) {
@@ -171,7 +173,7 @@ fn put_page<F: Files, B: SteadyStore>(
     // Of each table that it holds where it is known what each file holds that is read at positions.
     ensures puts { (t : Table) → (AreAllTold F.Stored.content → B.tells × B.holds judged.now.survey.table.now t) → (unread : Refusal) →
         PutsAs ⟦<F as Known>⟧.reach (λ said bytes. bytes ≡ page_html (given_now given.now) (called_now called.now) judged.now.survey.profile t judged.now.survey.last (survey_by B.states judged.now.survey) judged.now.answer) path.now files.old files.new (told_as unread result) }
-    ensures why { IfOk result (λ told. IfErr told (IsUnput (PutFails ⟦<F as Known>⟧.reach path.now files.old))) }
+    ensures why { (t : Table) → B.tells → B.holds judged.now.survey.table.now t → IfOk result (λ told. IfErr told (IsUnput (PutFails ⟦<F as Known>⟧.reach path.now files.old files.new))) }
     ensures fails { OnErr result ((B.fails → ⊥) → ⊥) }
 {
     let page = PageText {
@@ -204,7 +206,7 @@ fn page_of<F: Files, B: SteadyStore>(
 ) -> Result<Result<bool, Refusal>, ReadFault>
     ensures puts { (t : Table) → (AreAllTold F.Stored.content → B.tells × B.holds blocks.now t) → (unread : Refusal) →
         PutsAs ⟦<F as Known>⟧.reach (λ whole bytes. AreAllTold F.Stored.content → IsPageOf request.now last whole bytes t) request.now.out.now files.old files.new (told_as unread result) }
-    ensures why { IfOk result (λ told. IfErr told (λ refusal. (t : Table) → (AreAllTold F.Stored.content → B.tells × B.holds blocks.now t) → AreAllTold F.Stored.content → IsRefusedPut (PutFails ⟦<F as Known>⟧.reach request.now.out.now files.old) request.now.volume.profile last refusal t)) }
+    ensures why { IfOk result (λ told. IfErr told (λ refusal. (t : Table) → (AreAllTold F.Stored.content → B.tells × B.holds blocks.now t) → AreAllTold F.Stored.content → IsRefusedPut (PutFails ⟦<F as Known>⟧.reach request.now.out.now files.old files.new) request.now.volume.profile last refusal t)) }
     ensures fails { OnErr result ((B.fails → ⊥) → ⊥) }
 {
     files.begin(Stage::Walking);

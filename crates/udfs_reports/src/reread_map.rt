@@ -184,7 +184,7 @@ fn put_domain<F: Files, O: Sink>(
     requires in_range { last ≤ 4194303 }
     ensures puts { PutsAs ⟦<F as Known>⟧.reach (λ said bytes. (bytes ≡ domain_text asked.now.blocks.items last) × Wrote (O.stream out.old) (O.stream out.new) (domain_line group asked.now.wanted.items (length asked.now.known.items) (length asked.now.blocks.items))) path.now files.old files.new result }
     ensures why { IfErr result (λ refusal. ((O.stream out.new ≡ O.stream out.old) × (refusal ≡ Refusal.Memory alloc_error)) ⊎ ((refusal ≡ Refusal.Output) × Failed (O.stream out.old) (O.stream out.new) (domain_line group asked.now.wanted.items (length asked.now.known.items) (length asked.now.blocks.items))) ⊎
-        (Wrote (O.stream out.old) (O.stream out.new) (domain_line group asked.now.wanted.items (length asked.now.known.items) (length asked.now.blocks.items)) × IsUnput (PutFails ⟦<F as Known>⟧.reach path.now files.old) refusal)) }
+        (Wrote (O.stream out.old) (O.stream out.new) (domain_line group asked.now.wanted.items (length asked.now.known.items) (length asked.now.blocks.items)) × IsUnput (PutFails ⟦<F as Known>⟧.reach path.now files.old files.new) refusal)) }
 {
     let known = asked.known.len();
     let all = asked.blocks.len();
@@ -221,7 +221,7 @@ fn map_of<B: SteadyStore, F: Files, O: Sink>(
     out: &mut O,
 ) -> Result<Result<bool, Refusal>, ReadFault>
     ensures puts { IfOk result (PutsAs ⟦<F as Known>⟧.reach (λ whole bytes. B.tells → (t : Table) → B.holds blocks.now t → IsMapOf request.now last (O.stream out.old) (O.stream out.new) whole bytes t) path.now files.old files.new) }
-    ensures why { IfOk result (λ told. IfErr told (λ refusal. B.tells → (t : Table) → B.holds blocks.now t → IsRefusedDomain (PutFails ⟦<F as Known>⟧.reach path.now files.old) request.now last (O.stream out.old) (O.stream out.new) refusal t)) }
+    ensures why { IfOk result (λ told. IfErr told (λ refusal. B.tells → (t : Table) → B.holds blocks.now t → IsRefusedDomain (PutFails ⟦<F as Known>⟧.reach path.now files.old files.new) request.now last (O.stream out.old) (O.stream out.new) refusal t)) }
     ensures unread { OnErr result ((files.new ≡ files.old) × (O.stream out.new ≡ O.stream out.old)) }
     ensures fails { OnErr result B.fails }
 {

@@ -1,6 +1,6 @@
 -- What a job that writes a table file leaves of the output's path, and that the file is that of what the inputs hold.
 use Rattle.std.proofs.Common.{◌≡◌, ◌≢◌, ◌⊎◌, ◌∙◌, ℕ, Bool, true, List, Option, Ok, Err, Some, alloc_error, inl, inr, length, refl, subst, sym, ⊎_elim}
-use Rattle.udfs_host_fs.specs.Disk.{After, Disk, Fails, Replaced, SinkFails}
+use Rattle.udfs_host_fs.specs.Disk.{After, Disk, Replaced}
 use Rattle.udfs_index.specs.Copying.{AreAllTold}
 use Rattle.udfs_lattice.specs.Records.{join_all}
 use Rattle.udfs_lattice.specs.Tables.{Table}
@@ -36,24 +36,24 @@ pub job_put : {A F I M S W : Type 0} (reach : Reach F I M S W) (Is : List ℕ �
 job_put reach Is out old new a bytes is put any_moment elsewhere = record { put = record { bytes = bytes; is = is; put = put }; left = tt; any_moment = may_put reach Is out old new bytes is any_moment; elsewhere = elsewhere }
 
 -- the job failed on the way
-pub job_broken : {A F I M S W : Type 0} (reach : Reach F I M S W) (Is : List ℕ → Type 0) (out : List ℕ) (old new : F) (refusal : Refusal) (bytes : List ℕ) → Is bytes → IsBroken refusal →
-    FailedOut reach.files.tells reach.files.holds reach.files.real reach.files.in_place (Fails reach.files.faults ⊎ SinkFails reach.output) out old new (λ Put. ⊥) →
+pub job_broken : {A F I M S W : Type 0} {Failed : Type 0} (reach : Reach F I M S W) (Is : List ℕ → Type 0) (out : List ℕ) (old new : F) (refusal : Refusal) (bytes : List ℕ) → Is bytes → (Failed → IsBroken reach out old new refusal) →
+    FailedOut reach.files.tells reach.files.holds reach.files.real reach.files.in_place Failed out old new (λ Put. ⊥) →
     (reach.files.tells → (reach.files.in_place old out → ⊥) → (c : Disk) → reach.files.left_since new (reach.files.moment old) c → After (reach.files.may_leave old) (Replaced (reach.files.real old out) bytes) c) → KeepsOthers reach out old new →
     Puts {A = A} reach Is out old new (Err refusal)
 job_broken reach Is out old new refusal bytes is broken failed any_moment elsewhere = record {
   put = tt;
-  left = inr (inl (broken, inr failed.failed, λ tells place. ⊎_elim (λ same. same) (λ no. absurd no) (failed.stands tells place)));
+  left = inr (inl (broken failed.failed, λ tells place. ⊎_elim (λ same. same) (λ no. absurd no) (failed.stands tells place)));
   any_moment = may_put reach Is out old new bytes is any_moment;
   elsewhere = elsewhere;
 }
 
-left_unput : {F I M S W : Type 0} (reach : Reach F I M S W) (Is : List ℕ → Type 0) (out : List ℕ) (old new : F) (refusal : Refusal) → IsUnput (PutFails reach out old) refusal → (refusal ≢ Output → refusal ≢ Unkept → new ≡ old) →
+left_unput : {F I M S W : Type 0} (reach : Reach F I M S W) (Is : List ℕ → Type 0) (out : List ℕ) (old new : F) (refusal : Refusal) → IsUnput (PutFails reach out old new) refusal → (refusal ≢ Output → refusal ≢ Unkept → new ≡ old) →
     (refusal ≡ Output → KeepsOut reach out old new) → (refusal ≡ Unkept → reach.files.tells → HasPut reach Is out old new) → Left reach Is out old new refusal
 left_unput reach Is out old new refusal (inl memory) untouched refused unkept = inl (untouched (λ e. let bad : Memory alloc_error ≡ Output = sym memory ∙ e in cc) (λ e. let bad : Memory alloc_error ≡ Unkept = sym memory ∙ e in cc))
-left_unput reach Is out old new refusal (inr failed) untouched refused unkept = ⊎_elim (λ is. inr (inl (inl is, failed.1, refused is))) (λ is. inr (inr (is, failed.1, unkept is))) failed.0
+left_unput reach Is out old new refusal (inr failed) untouched refused unkept = ⊎_elim (λ is. inr (inl (inl (is, failed.1), refused is))) (λ is. inr (inr (is, failed.1, unkept is))) failed.0
 
 -- or its file was not put
-pub job_unput : {A F I M S W : Type 0} (reach : Reach F I M S W) (Is : List ℕ → Type 0) (out : List ℕ) (old new : F) (refusal : Refusal) (bytes : List ℕ) → Is bytes → IsUnput (PutFails reach out old) refusal → (refusal ≢ Output → refusal ≢ Unkept → new ≡ old) →
+pub job_unput : {A F I M S W : Type 0} (reach : Reach F I M S W) (Is : List ℕ → Type 0) (out : List ℕ) (old new : F) (refusal : Refusal) (bytes : List ℕ) → Is bytes → IsUnput (PutFails reach out old new) refusal → (refusal ≢ Output → refusal ≢ Unkept → new ≡ old) →
     (refusal ≡ Output → KeepsOut reach out old new) → (refusal ≡ Unkept → reach.files.tells → reach.files.holds new (reach.files.real old out) ≡ Some (Some bytes)) →
     (reach.files.tells → (reach.files.in_place old out → ⊥) → (c : Disk) → reach.files.left_since new (reach.files.moment old) c → After (reach.files.may_leave old) (Replaced (reach.files.real old out) bytes) c) → KeepsOthers reach out old new →
     Puts {A = A} reach Is out old new (Err refusal)

@@ -9,6 +9,8 @@ use Rattle.udfs_common.specs.Guarding.{IsApart}
 use Rattle.udfs_common.specs.Keeping.{IsKept}
 use Rattle.udfs_common.specs.Reach.{Reach, found_at}
 use Rattle.udfs_common.specs.Refusing.{IsUnput}
+use Rattle.udfs_host_fs.specs.Failing.{Counts, Grow, SomeFailed}
+use Rattle.udfs_host_fs.proofs.Failing.{failed_later}
 use Rattle.udfs_common.specs.declared.refusal.Refusal.{Refusal}
 use Rattle.udfs_common.specs.declared.refusal.Refusal.TheVariants.{Memory, Output, Reread, Spared}
 use Rattle.udfs_tables.proofs.ImagingLemmas.{after_clear, after_image, after_mapfile, still_image, still_none}
@@ -155,13 +157,13 @@ of_held_disc reach old request last table Holds end of holds =
     of_disc reach old request last Holds end (record { one_disc = of.one_disc; join = (of.join.0, of.join.1, subst (λ (t : Table). Holds last t) of.join.2 holds) })
 
 -- why the image of the join was not put
-pub of_unput : {F I M S W : Type 0} (reach : Reach F I M S W) (old : F) (request : ImageRequest) (last : ℕ) (refusal : Refusal) → IsEnd (found_at reach old) request.last request.inputs.paths.items last → OfInputs reach old request.inputs request.force (ImageUnput reach old request last refusal) → OfDisc reach old request (λ n. ImageUnput reach old request n refusal)
-of_unput reach old request last refusal end of = (last, end, of)
+pub of_unput : {F I M S W : Type 0} (reach : Reach F I M S W) (old new : F) (request : ImageRequest) (last : ℕ) (refusal : Refusal) → IsEnd (found_at reach old) request.last request.inputs.paths.items last → OfInputs reach old request.inputs request.force (ImageUnput reach old request new last refusal) → OfDisc reach old request (λ n. ImageUnput reach old request new n refusal)
+of_unput reach old new request last refusal end of = (last, end, of)
 
 -- and where the join was held
-pub of_held_unput : {F I M S W : Type 0} (reach : Reach F I M S W) (old : F) (request : ImageRequest) (last : ℕ) (table : Table) (refusal : Refusal) → IsEnd (found_at reach old) request.last request.inputs.paths.items last →
-    OfInputs reach old request.inputs request.force (λ t. table ≡ t) → ImageUnput reach old request last refusal table → OfDisc reach old request (λ n. ImageUnput reach old request n refusal)
-of_held_unput reach old request last table refusal end of unput = of_held_disc reach old request last table (λ n t. ImageUnput reach old request n refusal t) end of unput
+pub of_held_unput : {F I M S W : Type 0} (reach : Reach F I M S W) (old new : F) (request : ImageRequest) (last : ℕ) (table : Table) (refusal : Refusal) → IsEnd (found_at reach old) request.last request.inputs.paths.items last →
+    OfInputs reach old request.inputs request.force (λ t. table ≡ t) → ImageUnput reach old request new last refusal table → OfDisc reach old request (λ n. ImageUnput reach old request new n refusal)
+of_held_unput reach old new request last table refusal end of unput = of_held_disc reach old request last table (λ n t. ImageUnput reach old request new n refusal t) end of unput
 
 -- ---- why they were not put
 
@@ -186,6 +188,15 @@ not_made inputs refusal (inr reread) = inr reread
 pub left_made : {X : Type 0} (inputs : ℕ) (refusal : Refusal) → IsUnput X refusal ⊎ IsRereadOf inputs refusal → IsUnput X refusal ⊎ ((input number : ℕ) × (refusal ≡ Reread input number))
 left_made inputs refusal (inl unput) = inl unput
 left_made inputs refusal (inr reread) = inr (reread.0 + 1, reread.1, reread.3)
+
+-- what failed later has failed since
+pub unput_later : (a b c : Counts) (refusal : Refusal) → Grow a b → IsUnput (SomeFailed b c) refusal → IsUnput (SomeFailed a c) refusal
+unput_later a b c refusal grow (inl memory) = inl memory
+unput_later a b c refusal grow (inr failed) = inr (failed.0, failed_later a b c grow failed.1)
+
+pub unmade_later : (a b c : Counts) (inputs : ℕ) (refusal : Refusal) → Grow a b → IsUnmade inputs (SomeFailed b c) refusal → IsUnmade inputs (SomeFailed a c) refusal
+unmade_later a b c inputs refusal grow (inl unput) = inl (unput_later a b c refusal grow unput)
+unmade_later a b c inputs refusal grow (inr reread) = inr reread
 
 -- where no input is read again, none could not be
 pub no_input : {refusal : Refusal} → IsRereadOf 0 refusal → ⊥

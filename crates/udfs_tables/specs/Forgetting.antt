@@ -69,5 +69,5 @@ module _ {F I M S W : Type 0} (reach : Reach F I M S W) (old : F) (request : For
   IsForgotten bytes = (table : Table) × IsForgottenJoin reach old request table × (bytes ≡ table_file Two table)
 
   -- the output may not be written; or the lists were not read, which are before an input is opened; or the inputs were not joined, or the file was not put
-  abbrev pub ForgetRefused : Refusal → Type 0
-  ForgetRefused refusal = OutRefused reach old request.inputs request.force request.out.now refusal ⊎ ListsRefused reach old (texts request.lists.items) refusal ⊎ IsNotWritten reach old request.inputs request.force request.out.now refusal
+  abbrev pub ForgetRefused : F → Refusal → Type 0
+  ForgetRefused new refusal = OutRefused reach old request.inputs request.force request.out.now refusal ⊎ ListsRefused reach old (texts request.lists.items) refusal ⊎ IsNotWritten reach old request.inputs request.force request.out.now new refusal

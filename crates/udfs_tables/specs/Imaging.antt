@@ -61,15 +61,15 @@ module _ {F I M S W : Type 0} (reach : Reach F I M S W) (old : F) (request : Ima
       IsNotJoined reach old request.inputs request.force refusal
 
   -- it has no image; or the two have no place any more; or they were not put
-  abbrev pub ImageUnput : ℕ → Refusal → Table → Type 0
-  ImageUnput last refusal t = HasNoImage reach.stored_told last refusal t ⊎ ((refusal ≡ Spared) × (reach.files.tells → HaveNoPlace reach.files old request.force request.image.now request.mapfile.now)) ⊎
-      IsUnput (PairFails reach request.image.now request.mapfile.now old) refusal
+  abbrev pub ImageUnput : F → ℕ → Refusal → Table → Type 0
+  ImageUnput new last refusal t = HasNoImage reach.stored_told last refusal t ⊎ ((refusal ≡ Spared) × (reach.files.tells → HaveNoPlace reach.files old request.force request.image.now request.mapfile.now)) ⊎
+      IsUnput (PairFails reach request.image.now request.mapfile.now old new) refusal
 
   -- the inputs were not joined, or not read a second time, and why; by force no image is named as one of another disc
   abbrev pub IsNotTaken : Refusal → Type 0
   IsNotTaken refusal = IndexRefused reach.stored_told (found_at reach old) (reach.files.shut old) reach.remaining request.inputs.paths.items refusal × (request.force ≡ true → NamesNoOther refusal)
 
   -- they may not be written; or no last block is known, or the inputs were not joined; or their image was not put
-  abbrev pub ImageRefused : Refusal → Type 0
-  ImageRefused refusal = PairRefused refusal ⊎ (HasNoLast reach old request.last request.inputs.paths.items refusal × (request.force ≡ true → NamesNoOther refusal)) ⊎ IsNotTaken refusal ⊎
-      OfDisc (λ last. ImageUnput last refusal)
+  abbrev pub ImageRefused : F → Refusal → Type 0
+  ImageRefused new refusal = PairRefused refusal ⊎ (HasNoLast reach old request.last request.inputs.paths.items refusal × (request.force ≡ true → NamesNoOther refusal)) ⊎ IsNotTaken refusal ⊎
+      OfDisc (λ last. ImageUnput new last refusal)

@@ -16,9 +16,9 @@ module _ {F I M S W : Type 0} (reach : Reach F I M S W) (old : F) (request : Mer
   IsMerged bytes = OfInputs reach old request.inputs request.force (λ table. bytes ≡ table_file request.version table)
 
   -- the same of its inputs and its output
-  abbrev pub IsUnmerged : Refusal → Type 0
+  abbrev pub IsUnmerged : F → Refusal → Type 0
   IsUnmerged = IsNotWritten reach old request.inputs request.force request.out.now
 
   -- the output may not be written, or the file was not put
-  abbrev pub MergeFails : Refusal → Type 0
-  MergeFails refusal = OutRefused reach old request.inputs request.force request.out.now refusal ⊎ IsUnmerged refusal
+  abbrev pub MergeFails : F → Refusal → Type 0
+  MergeFails new refusal = OutRefused reach old request.inputs request.force request.out.now refusal ⊎ IsUnmerged new refusal

@@ -31,5 +31,5 @@ module _ {F I M S W : Type 0} (reach : Reach F I M S W) (old : F) (inputs : Inpu
       ((refusal ≡ Output) × MayNotBeSeen (reach.files.shut old) (Fails reach.read_faults) (texts inputs.files.items) (texts inputs.parts.items) out) ⊎ IsNotJoined reach old inputs force refusal
 
   -- by force no image is named as one of another disc
-  abbrev pub IsNotWritten : Refusal → Type 0
-  IsNotWritten refusal = (IndexRefused reach.stored_told (found_at reach old) (reach.files.shut old) reach.remaining inputs.paths.items refusal ⊎ IsUnput (PutFails reach out old) refusal) × (force ≡ true → NamesNoOther refusal)
+  abbrev pub IsNotWritten : F → Refusal → Type 0
+  IsNotWritten new refusal = (IndexRefused reach.stored_told (found_at reach old) (reach.files.shut old) reach.remaining inputs.paths.items refusal ⊎ IsUnput (PutFails reach out old new) refusal) × (force ≡ true → NamesNoOther refusal)

@@ -1,7 +1,7 @@
 -- What comes of the paths of an image and its mapfile, where both are put. `Is` says which bytes the two are to have.
 --     Stands          what is at the two, beside what was there before
 --     BothReplaced    the same on a disk, and nothing else changes
---     PairFails       a call that puts them failed
+--     PairFails       one of their paths may fail to open, or a call failed meanwhile
 --     IsUnmade        an image was not put, and why
 --     IsGone          nothing is at a path, and each crash leaves it so
 --     AreKept         this image and this mapfile are at two places, and each crash leaves them
@@ -12,7 +12,8 @@
 --     SparesPair      what the two paths hold, and that nothing else changes, whatever the call returned
 --     PutsPair        all of these: what a call with this result does with the two paths
 use Rattle.std.specs.Prelude.{◌≡◌, ◌≢◌, ◌⊎◌, ℕ, List, None, Some, Result, IfErr, OnOk}
-use Rattle.udfs_host_fs.specs.Disk.{After, Disk, Fails, Goes, IsOwn, Same, SinkFails}
+use Rattle.udfs_host_fs.specs.Disk.{After, Disk, Goes, IsOwn, Same}
+use Rattle.udfs_host_fs.specs.Failing.{SomeFailed}
 use Rattle.udfs_host_fs.specs.declared.files.Files.{Ghosts}
 use Rattle.udfs_common.specs.Keeping.{IsKept}
 use Rattle.udfs_common.specs.Reach.{Reach}
@@ -30,9 +31,9 @@ pub record BothReplaced (image mapfile bytes text : List ℕ) (d c : Disk) : Typ
   pub stand : Stands None (Some bytes) (Some text) (d image) (d mapfile) (c image) (c mapfile)
   pub others : (q : List ℕ) → (¬ IsOwn image q) → (¬ IsOwn mapfile q) → q ≢ image → q ≢ mapfile → c q ≡ d q
 
--- one of the two paths is shut, or a call on the files or on an output may fail
-abbrev pub PairFails : {F I M S W : Type 0} → Reach F I M S W → List ℕ → List ℕ → F → Type 0
-PairFails reach image mapfile old = reach.files.shut old image ⊎ reach.files.shut old mapfile ⊎ Fails reach.files.faults ⊎ SinkFails reach.output
+-- one of the two paths is shut, or a call failed meanwhile
+abbrev pub PairFails : {F I M S W : Type 0} → Reach F I M S W → List ℕ → List ℕ → F → F → Type 0
+PairFails reach image mapfile old new = reach.files.shut old image ⊎ reach.files.shut old mapfile ⊎ SomeFailed (reach.files.failures old) (reach.files.failures new)
 
 -- an image was not put: memory ran out, or a call failed, or one of this many inputs could not be read a second time
 abbrev pub IsUnmade : ℕ → Type 0 → Refusal → Type 0
@@ -62,7 +63,7 @@ pub record IsPairPut {F I M S W : Type 0} (reach : Reach F I M S W) (Is : List �
 
 -- nothing has changed; or memory ran out, or a call failed, or an input could not be read a second time
 abbrev pub LeftPair : {F I M S W : Type 0} → Reach F I M S W → List ℕ → List ℕ → F → F → Refusal → Type 0
-LeftPair reach image mapfile old new refusal = (new ≡ old) ⊎ IsUnput (PairFails reach image mapfile old) refusal ⊎ ((input number : ℕ) × (refusal ≡ Reread input number))
+LeftPair reach image mapfile old new refusal = (new ≡ old) ⊎ IsUnput (PairFails reach image mapfile old new) refusal ⊎ ((input number : ℕ) × (refusal ≡ Reread input number))
 
 -- the disk is as it was, or such an image and such a mapfile take the places of what was there
 abbrev pub MayPutPair : {F I M S W : Type 0} → Reach F I M S W → (List ℕ → List ℕ → Type 0) → List ℕ → List ℕ → F → Disk → Disk → Type 0

@@ -99,7 +99,7 @@ fn forget_held<F: Files>(
     requires { Lists (found_at ⟦<F as Known>⟧.reach files.now) (texts request.now.lists.items) blocks.now }
     ensures puts { Puts ⟦<F as Known>⟧.reach (IsForgotten ⟦<F as Known>⟧.reach files.old request.now) request.now.out.now files.old files.new result }
     ensures unkept { IsErrOf result Refusal.Unkept → F.tells → HasPut ⟦<F as Known>⟧.reach (IsForgotten ⟦<F as Known>⟧.reach files.old request.now) request.now.out.now files.old files.new }
-    ensures why { IfErr result (IsNotWritten ⟦<F as Known>⟧.reach files.old request.now.inputs request.now.force request.now.out.now) }
+    ensures why { IfErr result (IsNotWritten ⟦<F as Known>⟧.reach files.old request.now.inputs request.now.force request.now.out.now files.new) }
 {
     let mut table = match join_of(alloc, &request.inputs, request.force, files) {
         Ok(table) => table,
@@ -126,7 +126,7 @@ fn forget_inputs<F: Files>(
     requires { Lists (found_at ⟦<F as Known>⟧.reach files.now) (texts request.now.lists.items) blocks.now }
     ensures puts { Puts ⟦<F as Known>⟧.reach (IsForgotten ⟦<F as Known>⟧.reach files.old request.now) request.now.out.now files.old files.new result }
     ensures unkept { IsErrOf result Refusal.Unkept → F.tells → HasPut ⟦<F as Known>⟧.reach (IsForgotten ⟦<F as Known>⟧.reach files.old request.now) request.now.out.now files.old files.new }
-    ensures why { IfErr result (IsNotWritten ⟦<F as Known>⟧.reach files.old request.now.inputs request.now.force request.now.out.now) }
+    ensures why { IfErr result (IsNotWritten ⟦<F as Known>⟧.reach files.old request.now.inputs request.now.force request.now.out.now files.new) }
 {
     let paths = request.inputs.paths.as_slice();
     // Where there is no input, nothing is read again.
@@ -164,7 +164,7 @@ pub fn forget<F: Files>(
     ensures unkept { IsErrOf result Refusal.Unkept → F.tells → HasPut ⟦<F as Known>⟧.reach (IsForgotten ⟦<F as Known>⟧.reach files.old request.now) request.now.out.now files.old files.new }
     // It takes the place of no file but an input, a table file or an empty one, but by force, and never that of an image or a mapfile of the inputs.
     ensures free { OnOk result (IsOutFree ⟦<F as Known>⟧.reach files.old request.now.inputs request.now.force request.now.out.now) }
-    ensures why { IfErr result (ForgetRefused ⟦<F as Known>⟧.reach files.old request.now) }
+    ensures why { IfErr result (ForgetRefused ⟦<F as Known>⟧.reach files.old request.now files.new) }
 {
     match check_out(alloc, &request.inputs, request.force, request.out, files) {
         Ok(()) => {}

@@ -47,7 +47,7 @@ pub fn forget_stored<F: Files>(
     requires listed { Lists (found_at ⟦<F as Known>⟧.reach files.now) (texts request.now.lists.items) blocks.now }
     ensures puts { Puts ⟦<F as Known>⟧.reach (IsForgotten ⟦<F as Known>⟧.reach files.old request.now) request.now.out.now files.old files.new result }
     ensures unkept { IsErrOf result Refusal.Unkept → F.tells → HasPut ⟦<F as Known>⟧.reach (IsForgotten ⟦<F as Known>⟧.reach files.old request.now) request.now.out.now files.old files.new }
-    ensures why { IfErr result (IsNotWritten ⟦<F as Known>⟧.reach files.old request.now.inputs request.now.force request.now.out.now) }
+    ensures why { IfErr result (IsNotWritten ⟦<F as Known>⟧.reach files.old request.now.inputs request.now.force request.now.out.now files.new) }
 {
     let paths = request.inputs.paths.as_slice();
     let mut index = match index_of(alloc, stored, paths, request.force) {

@@ -1,7 +1,7 @@
 //! The command `image`: readings in, the image of their disc and its mapfile out.
 
 ghost use Rattle.std.specs.Prelude.{◌≡◌, ◌⊎◌, ◌<◌, ◌≤◌, ℕ, IfErr, OnOk, Some, None, length, string_bytes};
-ghost use Rattle.udfs_host_fs.specs.Disk.{Fails, SinkFails};
+ghost use Rattle.udfs_host_fs.specs.Failing.{SomeFailed};
 ghost use Rattle.udfs_host_fs.specs.declared.files.Kind.{Kind};
 ghost use Rattle.udfs_index.specs.Copying.{AreAllTold};
 ghost use Rattle.udfs_lattice.specs.Tables.{Table, state_of};
@@ -83,7 +83,7 @@ fn put_at<F: Files, T: Imaged>(
     requires in_range { last ≤ 4194303 }
     ensures kept { OnOk result ((t : Table) → (F.tells → T.shows of.now t) → AreKept F.Files (string_bytes places.now.image.path) (string_bytes places.now.mapfile.path) (image_bytes t last) (map_text (T.Statuses.statuses of.now) last) files.new) }
     ensures goes { (t : Table) → (F.tells → T.shows of.now t) → GoesPair F.Files (string_bytes places.now.image.path) (string_bytes places.now.mapfile.path) (image_bytes t last) (map_text (T.Statuses.statuses of.now) last) files.old files.new }
-    ensures why { IfErr result (IsUnmade (T.inputs of.now) (Fails F.faults ⊎ SinkFails F.Output.stream)) }
+    ensures why { IfErr result (IsUnmade (T.inputs of.now) (SomeFailed (F.failures files.old) (F.failures files.new))) }
 {
     let image = ImageOf { of, last };
     let map = MapOf { of, last };
@@ -110,7 +110,7 @@ fn put_imaged<F: Files, T: Imaged>(
     files: &mut F,
 ) -> Result<(), Refusal>
     ensures puts { (t : Table) → (AreAllTold F.Stored.content → T.shows of.now t) → PutsPair ⟦<F as Known>⟧.reach (λ bytes text. IsImageOf (AreAllTold F.Stored.content) last bytes text t) request.now.image.now request.now.mapfile.now files.old files.new result }
-    ensures why { IfErr result (λ refusal. IsRereadOf (T.inputs of.now) refusal ⊎ ((t : Table) → (AreAllTold F.Stored.content → T.shows of.now t) → ImageUnput ⟦<F as Known>⟧.reach files.old request.now last refusal t)) }
+    ensures why { IfErr result (λ refusal. IsRereadOf (T.inputs of.now) refusal ⊎ ((t : Table) → (AreAllTold F.Stored.content → T.shows of.now t) → ImageUnput ⟦<F as Known>⟧.reach files.old request.now files.new last refusal t)) }
 {
     match check_end(of, last) {
         Ok(()) => {}
@@ -136,7 +136,7 @@ fn image_held<F: Files>(
 ) -> Result<(), Refusal>
     requires { IsEnd (found_at ⟦<F as Known>⟧.reach files.now) request.now.last request.now.inputs.paths.items last }
     ensures puts { PutsPair ⟦<F as Known>⟧.reach (IsImaged ⟦<F as Known>⟧.reach files.old request.now) request.now.image.now request.now.mapfile.now files.old files.new result }
-    ensures why { IfErr result (λ refusal. IsNotTaken ⟦<F as Known>⟧.reach files.old request.now refusal ⊎ OfDisc ⟦<F as Known>⟧.reach files.old request.now (λ n. ImageUnput ⟦<F as Known>⟧.reach files.old request.now n refusal)) }
+    ensures why { IfErr result (λ refusal. IsNotTaken ⟦<F as Known>⟧.reach files.old request.now refusal ⊎ OfDisc ⟦<F as Known>⟧.reach files.old request.now (λ n. ImageUnput ⟦<F as Known>⟧.reach files.old request.now files.new n refusal)) }
 {
     let table = match join_of(alloc, &request.inputs, request.force, files) {
         Ok(table) => table,
@@ -163,7 +163,7 @@ fn image_stored<F: Files>(
     requires judged { AreJudgedFor (found_at ⟦<F as Known>⟧.reach files.now) stored_reason request.now.inputs.paths.items stored.now }
     requires some { 0 < length request.now.inputs.paths.items }
     ensures puts { PutsPair ⟦<F as Known>⟧.reach (IsImaged ⟦<F as Known>⟧.reach files.old request.now) request.now.image.now request.now.mapfile.now files.old files.new result }
-    ensures why { IfErr result (λ refusal. IsNotTaken ⟦<F as Known>⟧.reach files.old request.now refusal ⊎ OfDisc ⟦<F as Known>⟧.reach files.old request.now (λ n. ImageUnput ⟦<F as Known>⟧.reach files.old request.now n refusal)) }
+    ensures why { IfErr result (λ refusal. IsNotTaken ⟦<F as Known>⟧.reach files.old request.now refusal ⊎ OfDisc ⟦<F as Known>⟧.reach files.old request.now (λ n. ImageUnput ⟦<F as Known>⟧.reach files.old request.now files.new n refusal)) }
 {
     let paths = request.inputs.paths.as_slice();
     let index = match index_of(alloc, stored, paths, request.force) {
@@ -189,7 +189,7 @@ fn image_inputs<F: Files>(
 ) -> Result<(), Refusal>
     requires { IsEnd (found_at ⟦<F as Known>⟧.reach files.now) request.now.last request.now.inputs.paths.items last }
     ensures puts { PutsPair ⟦<F as Known>⟧.reach (IsImaged ⟦<F as Known>⟧.reach files.old request.now) request.now.image.now request.now.mapfile.now files.old files.new result }
-    ensures why { IfErr result (λ refusal. IsNotTaken ⟦<F as Known>⟧.reach files.old request.now refusal ⊎ OfDisc ⟦<F as Known>⟧.reach files.old request.now (λ n. ImageUnput ⟦<F as Known>⟧.reach files.old request.now n refusal)) }
+    ensures why { IfErr result (λ refusal. IsNotTaken ⟦<F as Known>⟧.reach files.old request.now refusal ⊎ OfDisc ⟦<F as Known>⟧.reach files.old request.now (λ n. ImageUnput ⟦<F as Known>⟧.reach files.old request.now files.new n refusal)) }
 {
     let paths = request.inputs.paths.as_slice();
     // Where there is no input, nothing is read again.
@@ -247,7 +247,7 @@ pub fn image<F: Files>(
     ensures puts { PutsPair ⟦<F as Known>⟧.reach (IsImaged ⟦<F as Known>⟧.reach files.old request.now) request.now.image.now request.now.mapfile.now files.old files.new result }
     // They take the place of no input, and without `force` of nothing else.
     ensures free { OnOk result (IsPairFree ⟦<F as Known>⟧.reach files.old request.now) }
-    ensures why { IfErr result (ImageRefused ⟦<F as Known>⟧.reach files.old request.now) }
+    ensures why { IfErr result (ImageRefused ⟦<F as Known>⟧.reach files.old request.now files.new) }
 {
     match check_both(alloc, request, files) {
         Ok(()) => {}

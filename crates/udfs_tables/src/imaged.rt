@@ -1,8 +1,7 @@
 //! What an image is written of: the join of the inputs, held in memory or by where its bytes are.
 
-ghost use Rattle.std.specs.Prelude.{◌≡◌, ◌⊎◌, ◌<◌, ◌≤◌, ⊤, ℕ, IfErr, MatchOption, OnOk, length};
+ghost use Rattle.std.specs.Prelude.{◌≡◌, ◌≢◌, ◌⊎◌, ◌<◌, ◌≤◌, ⊤, ℕ, IfErr, MatchOption, OnOk, length};
 ghost use Rattle.std.specs.Io.KnownBytes.{Appends};
-ghost use Rattle.udfs_host_fs.specs.Disk.{SinkFails};
 ghost use Rattle.udfs_index.specs.Copying.{AreAllTold};
 ghost use Rattle.udfs_lattice.specs.Tables.{IsTable, Table, state_of};
 ghost use Rattle.udfs_rescue.specs.Images.{image_bytes};
@@ -47,7 +46,7 @@ pub trait Imaged: Statuses {
     fn write_image_to<W: Sink>(&self, last: u32, sink: &mut W) -> Result<(), Self::Fault>
         requires { last ≤ 4194303 }
         ensures bytes { OnOk result ((t : Table) → shows self.now t → Appends (W.stream sink.old).contents (W.stream sink.new).contents (image_bytes t last)) }
-        ensures cause { IfErr result (λ fault. blames self.now fault → SinkFails W.stream) };
+        ensures moved { IfErr result (λ fault. blames self.now fault → (W.stream sink.new).faults ≢ (W.stream sink.old).faults) };
 
     /// What is said of an image that was not written.
     fn refusal(&self, fault: Self::Fault) -> Refusal
@@ -72,6 +71,7 @@ impl Imaged for BlockTable {
         past_end(self, last)
     }
 
+    #[tactic(auto, using(udfs_host_fs::proofs::Failing::moved_on))]
     fn write_image_to<W: Sink>(&self, last: u32, sink: &mut W) -> Result<(), WriteFault> {
         write_image(self, last, sink)
     }

@@ -88,7 +88,7 @@ pub fn put_index<'a, F: Files>(
         Puts ⟦<F as Known>⟧.reach (λ bytes. bytes ≡ table_file version t) out.now files.old files.new result }
     ensures unkept { IsErrOf result Refusal.Unkept → F.tells → (t : Table) → (AreAllTold ⟦<AnyStored<F::Stored> as Stored>⟧.content → IsTable t) → ⟦<Index<'a, AnyStored<F::Stored>> as Taker<Cursor<'a, AnyStored<F::Stored>>>>⟧.took index.now t →
         F.holds files.new (F.real files.old out.now) ≡ Some (Some (table_file version t)) }
-    ensures why { IfErr result (λ refusal. IsRereadOf (length stored.now) refusal ⊎ IsUnput (PutFails ⟦<F as Known>⟧.reach out.now files.old) refusal) }
+    ensures why { IfErr result (λ refusal. IsRereadOf (length stored.now) refusal ⊎ IsUnput (PutFails ⟦<F as Known>⟧.reach out.now files.old files.new) refusal) }
 {
     let job = IndexedFile {
         index,

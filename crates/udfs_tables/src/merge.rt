@@ -69,7 +69,7 @@ fn merge_held<F: Files>(
 ) -> Result<(), Refusal>
     ensures puts { Puts ⟦<F as Known>⟧.reach (IsMerged ⟦<F as Known>⟧.reach files.old request.now) request.now.out.now files.old files.new result }
     ensures unkept { IsErrOf result Refusal.Unkept → F.tells → HasPut ⟦<F as Known>⟧.reach (IsMerged ⟦<F as Known>⟧.reach files.old request.now) request.now.out.now files.old files.new }
-    ensures why { IfErr result (IsUnmerged ⟦<F as Known>⟧.reach files.old request.now) }
+    ensures why { IfErr result (IsUnmerged ⟦<F as Known>⟧.reach files.old request.now files.new) }
 {
     let mut tally = match tallied(alloc, &request.inputs, request.force, files) {
         Ok(tally) => tally,
@@ -98,7 +98,7 @@ fn merge_inputs<F: Files>(
 ) -> Result<(), Refusal>
     ensures puts { Puts ⟦<F as Known>⟧.reach (IsMerged ⟦<F as Known>⟧.reach files.old request.now) request.now.out.now files.old files.new result }
     ensures unkept { IsErrOf result Refusal.Unkept → F.tells → HasPut ⟦<F as Known>⟧.reach (IsMerged ⟦<F as Known>⟧.reach files.old request.now) request.now.out.now files.old files.new }
-    ensures why { IfErr result (IsUnmerged ⟦<F as Known>⟧.reach files.old request.now) }
+    ensures why { IfErr result (IsUnmerged ⟦<F as Known>⟧.reach files.old request.now files.new) }
 {
     let paths = request.inputs.paths.as_slice();
     // Where there is no input, nothing is read again.
@@ -137,7 +137,7 @@ pub fn merge<F: Files>(
     ensures unkept { IsErrOf result Refusal.Unkept → F.tells → HasPut ⟦<F as Known>⟧.reach (IsMerged ⟦<F as Known>⟧.reach files.old request.now) request.now.out.now files.old files.new }
     // It takes the place of no file but an input, a table file or an empty one, but by force, and never that of an image or a mapfile of the inputs.
     ensures free { OnOk result (IsOutFree ⟦<F as Known>⟧.reach files.old request.now.inputs request.now.force request.now.out.now) }
-    ensures why { IfErr result (MergeFails ⟦<F as Known>⟧.reach files.old request.now) }
+    ensures why { IfErr result (MergeFails ⟦<F as Known>⟧.reach files.old request.now files.new) }
 {
     match check_out(alloc, &request.inputs, request.force, request.out, files) {
         Ok(()) => {}

@@ -57,7 +57,7 @@ pub fn merge_stored<F: Files>(
     requires some { 0 < length request.now.inputs.paths.items }
     ensures puts { Puts ⟦<F as Known>⟧.reach (IsMerged ⟦<F as Known>⟧.reach files.old request.now) request.now.out.now files.old files.new result }
     ensures unkept { IsErrOf result Refusal.Unkept → F.tells → HasPut ⟦<F as Known>⟧.reach (IsMerged ⟦<F as Known>⟧.reach files.old request.now) request.now.out.now files.old files.new }
-    ensures why { IfErr result (IsUnmerged ⟦<F as Known>⟧.reach files.old request.now) }
+    ensures why { IfErr result (IsUnmerged ⟦<F as Known>⟧.reach files.old request.now files.new) }
 {
     let paths = request.inputs.paths.as_slice();
     let mut tally = match indexed(alloc, stored, paths, request.force) {

@@ -2,7 +2,8 @@
 
 ghost use Rattle.std.specs.Prelude.{◌≡◌, ◌≢◌, ◌⊎◌, ◌≤◌, ℕ, List, Some, None, IfErr, OnOk, OnErr};
 ghost use Rattle.std.specs.Io.KnownBytes.{Appends};
-ghost use Rattle.udfs_host_fs.specs.Disk.{Disk, Fails, SinkFails, Goes, Gone, IsOwn, Replaced};
+ghost use Rattle.udfs_host_fs.specs.Disk.{Disk, Goes, Gone, IsOwn, Replaced};
+ghost use Rattle.udfs_host_fs.specs.Failing.{Grow, SomeFailed};
 ghost use Rattle.udfs_host_fs.specs.declared.files.Kind.{Kind};
 ghost use Rattle.udfs_tables.specs.Pairing.{AreKept, GoesPair, IsGone, IsUnmade};
 ghost use Rattle.udfs_common.specs.Guarding.{IsApart};
@@ -39,13 +40,14 @@ impl<'i, T: Imaged> Job for ImageOf<'i, T> {
 }
 
 /// Removes an old mapfile, where there is one.
-#[tactic(auto, using(crate::proofs::ImagingLemmas::goes_nowhere))]
+#[tactic(auto, using(crate::proofs::ImagingLemmas::goes_nowhere, udfs_host_fs::proofs::Failing::failed_call, udfs_host_fs::proofs::Failing::grow_done, udfs_host_fs::proofs::Failing::grow_failed))]
 fn remove_old<F: Files>(files: &mut F, mapfile: &str, kind: Kind) -> Result<(), Refusal>
     requires absent { kind ≡ Kind.Absent → F.tells → F.holds files.old mapfile.now ≡ Some None }
     ensures gone { OnOk result (F.tells → F.holds files.new mapfile.now ≡ Some None) }
     ensures failed { OnErr result ((q : List ℕ) → F.holds files.new q ≡ F.holds files.old q) }
     ensures others { (q : List ℕ) → q ≢ mapfile.now → F.holds files.new q ≡ F.holds files.old q }
-    ensures why { IfErr result (λ refusal. (refusal ≡ Refusal.Output) × Fails F.faults) }
+    ensures why { IfErr result (λ refusal. (refusal ≡ Refusal.Output) × SomeFailed (F.failures files.old) (F.failures files.new)) }
+    ensures grow { Grow (F.failures files.old) (F.failures files.new) }
     ensures crash { Goes F.moment F.may_leave F.left_since files.old files.new (Gone mapfile.now) }
 {
     if kind == Kind::Absent {
@@ -58,12 +60,14 @@ fn remove_old<F: Files>(files: &mut F, mapfile: &str, kind: Kind) -> Result<(), 
 }
 
 /// Removes an old mapfile, and syncs its folder: from now on no crash brings one back.
+#[tactic(auto, using(udfs_host_fs::proofs::Failing::failed_call, udfs_host_fs::proofs::Failing::failed_later, udfs_host_fs::proofs::Failing::grow_done, udfs_host_fs::proofs::Failing::grow_failed, udfs_host_fs::proofs::Failing::grow_on))]
 fn clear<F: Files>(files: &mut F, mapfile: &str, kind: Kind) -> Result<(), Refusal>
     requires absent { kind ≡ Kind.Absent → F.tells → F.holds files.old mapfile.now ≡ Some None }
     ensures gone { OnOk result (IsGone F.Files mapfile.now files.new) }
     ensures either { F.tells → (F.holds files.new mapfile.now ≡ F.holds files.old mapfile.now) ⊎ (F.holds files.new mapfile.now ≡ Some None) }
     ensures others { (q : List ℕ) → q ≢ mapfile.now → F.holds files.new q ≡ F.holds files.old q }
-    ensures why { IfErr result (λ refusal. (refusal ≡ Refusal.Output) × Fails F.faults) }
+    ensures why { IfErr result (λ refusal. (refusal ≡ Refusal.Output) × SomeFailed (F.failures files.old) (F.failures files.new)) }
+    ensures grow { Grow (F.failures files.old) (F.failures files.new) }
     ensures crash { Goes F.moment F.may_leave F.left_since files.old files.new (Gone mapfile.now) }
 {
     match remove_old(files, mapfile, kind) {
@@ -86,7 +90,7 @@ fn put<F: Files, C: Content>(
     ensures kept { OnOk result (F.tells → IsKept (F.holds files.new) (F.may_leave files.new) path.now (C.bytes content.now)) }
     ensures either { F.tells → (F.holds files.new path.now ≡ F.holds files.old path.now) ⊎ (F.holds files.new path.now ≡ Some (Some (C.bytes content.now))) }
     ensures elsewhere { (q : List ℕ) → q ≢ path.now → (¬ IsOwn path.now q) → F.holds files.new q ≡ F.holds files.old q }
-    ensures why { IfErr result (IsUnput (Fails F.faults ⊎ SinkFails F.Output.stream)) }
+    ensures why { IfErr result (IsUnput (SomeFailed (F.failures files.old) (F.failures files.new))) }
     ensures crash { F.tells → Goes F.moment F.may_leave F.left_since files.old files.new (Replaced path.now (C.bytes content.now)) }
 {
     match replace(alloc, files, path, content) {
@@ -107,7 +111,8 @@ fn put_blocks<F: Files, T: Imaged>(
     ensures kept { OnOk result ((t : Table) → (F.tells → T.shows image.now.of.now t) → F.tells → IsKept (F.holds files.new) (F.may_leave files.new) path.now (image_bytes t image.now.last)) }
     ensures either { (t : Table) → (F.tells → T.shows image.now.of.now t) → F.tells → (F.holds files.new path.now ≡ F.holds files.old path.now) ⊎ (F.holds files.new path.now ≡ Some (Some (image_bytes t image.now.last))) }
     ensures elsewhere { (q : List ℕ) → q ≢ path.now → (¬ IsOwn path.now q) → F.holds files.new q ≡ F.holds files.old q }
-    ensures why { IfErr result (IsUnmade (T.inputs image.now.of.now) (Fails F.faults ⊎ SinkFails F.Output.stream)) }
+    ensures why { IfErr result (IsUnmade (T.inputs image.now.of.now) (SomeFailed (F.failures files.old) (F.failures files.new))) }
+    ensures grow { Grow (F.failures files.old) (F.failures files.new) }
     ensures crash { (t : Table) → (F.tells → T.shows image.now.of.now t) → F.tells → Goes F.moment F.may_leave F.left_since files.old files.new (Replaced path.now (image_bytes t image.now.last)) }
 {
     match replace_by_job(alloc, files, path, image) {
@@ -121,6 +126,7 @@ fn put_blocks<F: Files, T: Imaged>(
 }
 
 /// Removes an old mapfile, and puts the image.
+#[tactic(auto, using(udfs_host_fs::proofs::Failing::grow_on))]
 fn put_image<F: Files, T: Imaged>(
     alloc: Global,
     files: &mut F,
@@ -134,7 +140,8 @@ fn put_image<F: Files, T: Imaged>(
     ensures kept { OnOk result ((t : Table) → (F.tells → T.shows blocks.now.of.now t) → F.tells → IsKept (F.holds files.new) (F.may_leave files.new) image.now (image_bytes t blocks.now.last)) }
     ensures gone { OnOk result ((t : Table) → (F.tells → T.shows blocks.now.of.now t) → IsGone F.Files mapfile.now files.new) }
     ensures goes { (t : Table) (text : List ℕ) → (F.tells → T.shows blocks.now.of.now t) → GoesPair F.Files image.now mapfile.now (image_bytes t blocks.now.last) text files.old files.new }
-    ensures why { IfErr result (IsUnmade (T.inputs blocks.now.of.now) (Fails F.faults ⊎ SinkFails F.Output.stream)) }
+    ensures why { IfErr result (IsUnmade (T.inputs blocks.now.of.now) (SomeFailed (F.failures files.old) (F.failures files.new))) }
+    ensures grow { Grow (F.failures files.old) (F.failures files.new) }
 {
     match clear(files, mapfile, kind) {
         Ok(()) => {}
@@ -160,7 +167,7 @@ pub fn put_both<F: Files, T: Imaged, D: Content>(
     requires absent { kind ≡ Kind.Absent → F.tells → F.holds files.old mapfile.now ≡ Some None }
     ensures kept { OnOk result ((t : Table) → (F.tells → T.shows blocks.now.of.now t) → AreKept F.Files image.now mapfile.now (image_bytes t blocks.now.last) (D.bytes runs.now) files.new) }
     ensures goes { (t : Table) → (F.tells → T.shows blocks.now.of.now t) → GoesPair F.Files image.now mapfile.now (image_bytes t blocks.now.last) (D.bytes runs.now) files.old files.new }
-    ensures why { IfErr result (IsUnmade (T.inputs blocks.now.of.now) (Fails F.faults ⊎ SinkFails F.Output.stream)) }
+    ensures why { IfErr result (IsUnmade (T.inputs blocks.now.of.now) (SomeFailed (F.failures files.old) (F.failures files.new))) }
 {
     match put_image(alloc, files, image, blocks, mapfile, kind) {
         Ok(()) => {}

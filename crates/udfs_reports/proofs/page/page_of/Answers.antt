@@ -51,4 +51,7 @@ returns-in-Err-Salvage-clause-why g c t shows told =
     inl (rw same refused)
 
 pub returns-in-Ok-Err-clause-why : goal.returns-in-Ok-Err-clause-why
-returns-in-Ok-Err-clause-why g c t shows told = inr (rw c.in-Ok-Err.field-0-is at c.in-Ok-Err.ensures.why)
+returns-in-Ok-Err-clause-why g c t shows told =
+    let held = shows told in
+    let shown : g.B.ReportStore.holds c.in-Ok.judged.survey.table.now t = rw c.in-Ok.ensures.of.0 held.1 in
+    inr (rw c.in-Ok-Err.field-0-is at (c.in-Ok-Err.ensures.why t held.0 shown))

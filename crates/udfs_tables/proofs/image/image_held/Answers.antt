@@ -24,4 +24,4 @@ returns-in-Err-clause-why g c = inl (of_held _ _ _ _ _ _ c.in-Err.ensures.refuse
 pub returns-clause-why : goal.returns-clause-why
 returns-clause-why g c =
     let r = c.args.request.now in
-    ⊎_elim (λ none. absurd (no_input none)) (λ unput. inr (of_held_unput _ _ r c.args.last c.in-Ok.table c.in-Err-put_imaged.refusal c.requires c.in-Ok.ensures.joined (unput c.in-Ok.table (λ told. refl)))) c.in-Err-put_imaged.ensures.why
+    ⊎_elim (λ none. absurd (no_input none)) (λ unput. inr (of_held_unput _ _ _ r c.args.last c.in-Ok.table c.in-Err-put_imaged.refusal c.requires c.in-Ok.ensures.joined (unput c.in-Ok.table (λ told. refl)))) c.in-Err-put_imaged.ensures.why

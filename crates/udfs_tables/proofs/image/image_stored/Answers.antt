@@ -51,7 +51,7 @@ returns-clause-why g c =
     let told : g.F.Files.tells → AreAllTold (stored_in g.F.Stored.Stored.content) = λ tells. any_told g.F.Stored.Stored.content (g.met.F.Files.stored_told tells) in
     let have = sources_for_any g.F.Input.Source.remaining g.F.Image.Image.bytes g.F.Stored.Stored.content g.met.F.Files.stored_as_input g.met.F.Files.stored_as_image in
     ⊎_elim (λ reread. inl (of_unread _ _ _ r.inputs.paths.items (length c.args.stored.now) _ c.requires.each reread, λ forced. reread_names_none _ _ reread))
-    (λ unput. inr (of_unput _ _ r c.args.last c.in-Err-put_imaged.refusal c.requires.ends
+    (λ unput. inr (of_unput _ _ _ r c.args.last c.in-Err-put_imaged.refusal c.requires.ends
     (of_indexed _ _ r.inputs r.force _ have _ c.args.stored.now _ _ c.as_slice-paths.ensures.value c.requires.each c.requires.opened told i
     (unput t (λ all. (any_told g.F.Stored.Stored.content all, all_fit _ c.args.stored.now i.tables (tell_all _ c.args.stored.now i.tables (any_told g.F.Stored.Stored.content all) i.are), i.took))))))
     c.in-Err-put_imaged.ensures.why

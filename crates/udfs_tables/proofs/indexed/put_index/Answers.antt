@@ -20,7 +20,7 @@ pub returns-in-Ok-Err-Sink-clause-puts : goal.returns-in-Ok-Err-Sink-clause-puts
 returns-in-Ok-Err-Sink-clause-puts g c t is took =
     let bytes = table_file c.args.version t in
     let told : g.F.Files.tells → AreAllTold (stored_in g.F.Stored.Stored.content) = λ tells. any_told g.F.Stored.Stored.content (g.met.F.Files.stored_told tells) in
-    job_broken _ _ _ _ _ _ bytes refl (inl refl) (rw c.in-Ok-Err-Sink.field-0-is at c.in-Ok-Err-Sink.ensures.given_up)
+    job_broken _ _ _ _ _ _ bytes refl (λ why. inl (refl, inr (why.1 tt))) (rw c.in-Ok-Err-Sink.field-0-is at c.in-Ok-Err-Sink.ensures.given_up)
     (c.in-Ok-Err-Sink.ensures.any_moment bytes (λ tells other wrote. wrote t (is (told tells)) (told tells) took)) c.in-Ok-Err-Sink.ensures.elsewhere
 
 pub returns-in-Ok-Err-Input-clause-puts : goal.returns-in-Ok-Err-Input-clause-puts
@@ -28,7 +28,7 @@ returns-in-Ok-Err-Input-clause-puts g c t is took =
     let bytes = table_file c.args.version t in
     let told : g.F.Files.tells → AreAllTold (stored_in g.F.Stored.Stored.content) = λ tells. any_told g.F.Stored.Stored.content (g.met.F.Files.stored_told tells) in
     let reread = c.reread.ensures c.requires in
-    job_broken _ _ _ _ _ _ bytes refl (inr (reread.0 + 1, reread.1, reread.3)) (rw c.in-Ok-Err-Input.field-0-is at c.in-Ok-Err-Input.ensures.given_up)
+    job_broken _ _ _ _ _ _ bytes refl (λ why. inr (reread.0 + 1, reread.1, reread.3, why.0)) (rw c.in-Ok-Err-Input.field-0-is at c.in-Ok-Err-Input.ensures.given_up)
     (c.in-Ok-Err-Input.ensures.any_moment bytes (λ tells other wrote. wrote t (is (told tells)) (told tells) took)) c.in-Ok-Err-Input.ensures.elsewhere
 
 pub returns-in-Err-clause-puts : goal.returns-in-Err-clause-puts
@@ -42,7 +42,7 @@ returns-in-Err-clause-puts g c t is took =
 pub returns-in-Ok-Err-Sink-clause-why : goal.returns-in-Ok-Err-Sink-clause-why
 returns-in-Ok-Err-Sink-clause-why g c =
     let left = rw c.in-Ok-Err-Sink.field-0-is at c.in-Ok-Err-Sink.ensures.given_up in
-    inr (inr (inl refl, inr left.failed))
+    inr (inr (inl refl, inr (left.failed.1 tt)))
 
 pub returns-in-Ok-Err-Input-clause-why : goal.returns-in-Ok-Err-Input-clause-why
 returns-in-Ok-Err-Input-clause-why g c = inl (c.reread.ensures c.requires)

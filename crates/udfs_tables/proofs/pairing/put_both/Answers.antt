@@ -1,6 +1,6 @@
 use Rattle.std.proofs.Common.{inl}
 use Rattle.udfs_rescue.specs.Images.{image_bytes}
-use Rattle.udfs_tables.proofs.PairingLemmas.{goes_both, kept_both}
+use Rattle.udfs_tables.proofs.PairingLemmas.{goes_both, kept_both, unput_later}
 use Rattle.udfs_tables.proofs.pairing.put_both.Goals as goal
 
 pub returns-in-Err-clause-goes : goal.returns-in-Err-clause-goes
@@ -22,4 +22,4 @@ returns-in-Ok-put-clause-kept g c t shows =
     (c.in-Ok.ensures.kept t shows) c.put.ensures.crash c.put.ensures.elsewhere c.in-Ok-put.ensures.kept
 
 pub returns-in-Err-put-clause-why : goal.returns-in-Err-put-clause-why
-returns-in-Err-put-clause-why g c = inl c.in-Err-put.ensures.why
+returns-in-Err-put-clause-why g c = inl (unput_later _ _ _ _ c.put_image.ensures.grow c.in-Err-put.ensures.why)
