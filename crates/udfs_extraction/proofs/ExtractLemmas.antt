@@ -52,24 +52,24 @@ module _ {F I M S W O : Type 0} (reach : Reach F I M S W) (stream : O → Stream
 
   -- the nodes or their manifest were not put, or not all
   pub listing_stops : (old new : F) (before after : O) (last : ℕ) (blocks : Blocks) (report : Report) (stop : Stop) → (stop ≡ stops.Unread → SparesNodes reach.files r.folder.now old new)
-      → IfStopped (ListStops reach r place old new (stream before) (stream after) blocks report) (NodesCut reach.files reach.output (texts r.only.items) r.folder.now (fill_of r.fill) r.short_names new (stream before) (stream after) blocks report) stop
+      → IfStopped (ListStops reach r place old new (stream before) (stream after) blocks report) (NodesCut reach.files old (texts r.only.items) r.folder.now (fill_of r.fill) r.short_names new (stream before) (stream after) blocks report) stop
       → IfStopped (Refuses old new before after last blocks report) (Cuts old new before after last blocks report) stop
   listing_stops old new before after last blocks report (stops.Refused refusal) still why = inr (inl why)
   listing_stops old new before after last blocks report stops.Unread still why = inr (inl (why, still refl))
 
   -- the lost files were not
   pub adding_stops : (old one two new : F) (before between after : O) (last : ℕ) (blocks : Blocks) (report : Report) (good : Bool) (stop : Stop) → MakesNodes reach r place old one two (stream before) (stream between) blocks report good
-      → MatchOption r.lost ⊥ (λ folder. IfStopped (LostStops reach.files reach.output folder.now new (stream between) (stream after) blocks report) (LostCut reach.files reach.output folder.now new (stream between) (stream after) blocks report) stop)
+      → MatchOption r.lost ⊥ (λ folder. IfStopped (LostStops reach.files two folder.now new (stream between) (stream after) blocks report) (LostCut reach.files two folder.now new (stream between) (stream after) blocks report) stop)
       → IfStopped (Refuses old new before after last blocks report) (Cuts old new before after last blocks report) stop
   adding_stops old one two new before between after last blocks report good (stops.Refused refusal) nodes lost = inr (inr (inl (by r.lost lost)))
     where
-      by : (o : Option (Bor (List ℕ))) → MatchOption o ⊥ (λ folder. LostStops reach.files reach.output folder.now new (stream between) (stream after) blocks report refusal)
+      by : (o : Option (Bor (List ℕ))) → MatchOption o ⊥ (λ folder. LostStops reach.files two folder.now new (stream between) (stream after) blocks report refusal)
           → MatchOption o ⊥ (λ folder. StopsAdding reach stream r place folder.now old new before after blocks report refusal)
       by None never = never
       by (Some folder) at = record { one = one; two = two; between = between; good = good; nodes = nodes; lost = at }
   adding_stops old one two new before between after last blocks report good stops.Unread nodes lost = inr (inr (inl (by r.lost lost)))
     where
-      by : (o : Option (Bor (List ℕ))) → MatchOption o ⊥ (λ folder. LostCut reach.files reach.output folder.now new (stream between) (stream after) blocks report)
+      by : (o : Option (Bor (List ℕ))) → MatchOption o ⊥ (λ folder. LostCut reach.files two folder.now new (stream between) (stream after) blocks report)
           → MatchOption o ⊥ (λ folder. CutAdding reach stream r place folder.now old new before after blocks report)
       by None never = never
       by (Some folder) cut = record { one = one; two = two; between = between; good = good; nodes = nodes; lost = cut }
@@ -77,20 +77,20 @@ module _ {F I M S W O : Type 0} (reach : Reach F I M S W) (stream : O → Stream
   -- the lost folders were not
   pub beyond_stops : (old one two three new : F) (before between beyond after : O) (last : ℕ) (blocks : Blocks) (report told : Report) (nodes_good lost_good : Bool) (stop : Stop) → told ≡ lost_report r.volume.profile blocks last report
       → MakesNodes reach r place old one two (stream before) (stream between) blocks report nodes_good → MakesLost reach stream r.lost two three between beyond blocks report lost_good
-      → MatchOption r.trees ⊥ (λ folder. IfStopped (TreesStop reach.files reach.output r.deleted r.short_names folder.now new (stream beyond) (stream after) blocks told) (TreesCut reach.files reach.output r.deleted r.short_names folder.now new (stream beyond) (stream after) blocks told) stop)
+      → MatchOption r.trees ⊥ (λ folder. IfStopped (TreesStop reach.files three r.deleted r.short_names folder.now new (stream beyond) (stream after) blocks told) (TreesCut reach.files three r.deleted r.short_names folder.now new (stream beyond) (stream after) blocks told) stop)
       → IfStopped (Refuses old new before after last blocks report) (Cuts old new before after last blocks report) stop
   beyond_stops old one two three new before between beyond after last blocks report told nodes_good lost_good (stops.Refused refusal) place_is nodes lost trees = inr (inr (inr (by r.trees trees)))
     where
-      by : (o : Option (Bor (List ℕ))) → MatchOption o ⊥ (λ folder. TreesStop reach.files reach.output r.deleted r.short_names folder.now new (stream beyond) (stream after) blocks told refusal)
+      by : (o : Option (Bor (List ℕ))) → MatchOption o ⊥ (λ folder. TreesStop reach.files three r.deleted r.short_names folder.now new (stream beyond) (stream after) blocks told refusal)
           → MatchOption o ⊥ (λ folder. StopsBeyond reach stream r place folder.now old new before after last blocks report refusal)
       by None never = never
-      by (Some folder) at = record { one = one; two = two; three = three; between = between; beyond = beyond; nodes_good = nodes_good; lost_good = lost_good; nodes = nodes; lost = lost; trees = subst (λ (m : Report). TreesStop reach.files reach.output r.deleted r.short_names folder.now new (stream beyond) (stream after) blocks m refusal) place_is at }
+      by (Some folder) at = record { one = one; two = two; three = three; between = between; beyond = beyond; nodes_good = nodes_good; lost_good = lost_good; nodes = nodes; lost = lost; trees = subst (λ (m : Report). TreesStop reach.files three r.deleted r.short_names folder.now new (stream beyond) (stream after) blocks m refusal) place_is at }
   beyond_stops old one two three new before between beyond after last blocks report told nodes_good lost_good stops.Unread place_is nodes lost trees = inr (inr (inr (by r.trees trees)))
     where
-      by : (o : Option (Bor (List ℕ))) → MatchOption o ⊥ (λ folder. TreesCut reach.files reach.output r.deleted r.short_names folder.now new (stream beyond) (stream after) blocks told)
+      by : (o : Option (Bor (List ℕ))) → MatchOption o ⊥ (λ folder. TreesCut reach.files three r.deleted r.short_names folder.now new (stream beyond) (stream after) blocks told)
           → MatchOption o ⊥ (λ folder. CutBeyond reach stream r place folder.now old new before after last blocks report)
       by None never = never
-      by (Some folder) at = record { one = one; two = two; three = three; between = between; beyond = beyond; nodes_good = nodes_good; lost_good = lost_good; nodes = nodes; lost = lost; trees = subst (λ (m : Report). TreesCut reach.files reach.output r.deleted r.short_names folder.now new (stream beyond) (stream after) blocks m) place_is at }
+      by (Some folder) at = record { one = one; two = two; three = three; between = between; beyond = beyond; nodes_good = nodes_good; lost_good = lost_good; nodes = nodes; lost = lost; trees = subst (λ (m : Report). TreesCut reach.files three r.deleted r.short_names folder.now new (stream beyond) (stream after) blocks m) place_is at }
 
   -- nothing was made: memory ran out, or what is lost was not found
   pub unfound : (old : F) (before : O) (last : ℕ) (blocks : Blocks) (report told : Report) (e : NodesGaveUp) → told ≡ lost_report r.volume.profile blocks last report

@@ -7,7 +7,10 @@ use Rattle.udfs_lattice.specs.Volumes.{Blocks}
 use Rattle.udfs_walk.specs.declared.answers.Unnamed.{Unnamed}
 use Rattle.udfs_salvage.specs.Reports.{Report}
 use Rattle.udfs_extraction.specs.Extracting.{IsSafe, TellsLines, all_good}
-use Rattle.udfs_extraction.specs.LostFiles.{EachLost, IsLostPut, IsUnder, PutsLost, SparesLost, SparesUnder, lost_line, lost_lines}
+use Rattle.udfs_host_fs.specs.Failing.{Grow}
+use Rattle.udfs_host_fs.proofs.Failing.{grow_done, grow_on}
+use Rattle.udfs_extraction.proofs.RunLemmas.{fails_since}
+use Rattle.udfs_extraction.specs.LostFiles.{EachLost, IsLostPut, IsLostPutAt, IsUnder, PutsLost, SparesLost, SparesUnder, lost_line, lost_lines}
 use Rattle.udfs_extraction.specs.declared.nodes.Fate.{Fate}
 use Rattle.udfs_extraction.proofs.PutNodes.{goes_on, goes_wider, stay_by}
 use Rattle.udfs_reading.specs.Device.{Stream}
@@ -42,6 +45,7 @@ module _ {F I M S W : Type 0} (known : Ghosts F I M S W) where
       since = λ t c le left. inl left;
       keeps = λ t c le left. left;
     };
+    grow = grow_done _ _ refl;
   }
 
   -- one call after another
@@ -54,23 +58,26 @@ module _ {F I M S W : Type 0} (known : Ghosts F I M S W) where
           outside = λ q out. second.outside q out ∙ first.outside q out;
           there = λ q bytes is. second.there q bytes (one.stays told q bytes is) ∙ first.there q bytes is;
         });
+    grow = grow_on _ _ _ one.grow two.grow;
   }
 
   -- a call that changes no file
-  pub lost_same : (folder : List ℕ) (old new : F) → ((q : List ℕ) → known.holds new q ≡ known.holds old q) → Goes known.moment known.may_leave known.left_since old new Same → Lost folder old new
-  lost_same folder old new others goes = record {
+  pub lost_same : (folder : List ℕ) (old new : F) → Grow (known.failures old) (known.failures new) → ((q : List ℕ) → known.holds new q ≡ known.holds old q) → Goes known.moment known.may_leave known.left_since old new Same → Lost folder old new
+  lost_same folder old new grow others goes = record {
     stays = λ told q bytes is. others q ∙ is;
     outside = λ q out. others q;
     crash = λ told. goes_wider known.moment known.may_leave known.left_since old new _ _ goes (same_under folder (known.holds old));
+    grow = grow;
   }
 
   -- a call at one path of the folder
-  pub lost_at : (folder path : List ℕ) (old new : F) → IsUnder folder path → ((q : List ℕ) → q ≢ path → known.holds new q ≡ known.holds old q) → (known.tells → known.holds old path ≢ Some None → known.holds new path ≡ known.holds old path)
+  pub lost_at : (folder path : List ℕ) (old new : F) → Grow (known.failures old) (known.failures new) → IsUnder folder path → ((q : List ℕ) → q ≢ path → known.holds new q ≡ known.holds old q) → (known.tells → known.holds old path ≢ Some None → known.holds new path ≡ known.holds old path)
       → Goes known.moment known.may_leave known.left_since old new (SameBut path) → (known.tells → known.holds old path ≢ Some None → Goes known.moment known.may_leave known.left_since old new Same) → Lost folder old new
-  lost_at folder path old new is_in others there but same = record {
+  lost_at folder path old new grow is_in others there but same = record {
     stays = λ told. stay_by path (known.holds old) (known.holds new) others (there told);
     outside = λ q out. others q (λ e. out (subst (IsUnder folder) (sym e) is_in));
     crash = λ told. by told (known.holds old path) refl;
+    grow = grow;
   }
     where
       widen : ((bytes : List ℕ) → known.holds old path ≢ Some (Some bytes)) → (d c : Disk) → SameBut path d c → SparesUnder folder (known.holds old) d c
@@ -95,14 +102,18 @@ module _ {F I M S W : Type 0} (known : Ghosts F I M S W) where
         durable = λ c left. ⊎_elim (λ long. s.durable c long) (λ next. next.2.there path bytes s.held ∙ s.durable next.0 (counts_now s.since next.0 s.past next.1)) (goes.since s.since c s.past left);
       }
 
-  -- what was put stays put
-  pub lost_still : (fails : Type 0) (blocks : Blocks) (report : Report) (folder : List ℕ) (two : Bool) (mid new : F) → ((t : ℕ) (c : Disk) → t ≤ known.moment mid → known.may_leave mid c → known.left_since mid t c) → Lost folder mid new
-      → (u : Unnamed) (fate : Fate) → IsLostPut known.tells fails blocks report folder two (known.holds mid) (known.moment mid) (known.left_since mid) u fate → IsLostPut known.tells fails blocks report folder two (known.holds new) (known.moment new) (known.left_since new) u fate
-  lost_still fails blocks report folder two mid new counts_now step u fate put = record {
+  -- what was put stays put, and what failed has failed
+  pub lost_still : (fails more : List ℕ → Type 0) (blocks : Blocks) (report : Report) (folder : List ℕ) (two : Bool) (mid new : F) → ((t : ℕ) (c : Disk) → t ≤ known.moment mid → known.may_leave mid c → known.left_since mid t c) → Lost folder mid new → ((q : List ℕ) → fails q → more q)
+      → (u : Unnamed) (fate : Fate) → IsLostPut known.tells fails blocks report folder two (known.holds mid) (known.moment mid) (known.left_since mid) u fate → IsLostPut known.tells more blocks report folder two (known.holds new) (known.moment new) (known.left_since new) u fate
+  lost_still fails more blocks report folder two mid new counts_now step since u fate put = record {
     done = put.done;
     written = λ is told profile last reported. let w = put.written is told profile last reported in (w.0, w.1, safe_lost folder _ _ mid new counts_now told step w.2);
-    failed = put.failed;
+    failed = λ bad profile last reported. since _ (put.failed bad profile last reported);
   }
+
+  -- since an earlier moment
+  pub lost_since : (early from at : F) (blocks : Blocks) (report : Report) (folder : List ℕ) (two : Bool) → Grow (known.failures early) (known.failures from) → (u : Unnamed) (fate : Fate) → IsLostPutAt known from at blocks report folder two u fate → IsLostPutAt known early at blocks report folder two u fate
+  lost_since early from at blocks report folder two grow u fate put = record { done = put.done; written = put.written; failed = λ bad profile last reported. fails_since known early from at grow _ (put.failed bad profile last reported) }
 
 pub each_lost_map : (P Q : Unnamed → Fate → Type 0) → ((u : Unnamed) (fate : Fate) → P u fate → Q u fate) → (us : List Unnamed) (fates : List Fate) → EachLost P us fates → EachLost Q us fates
 each_lost_map P Q to us [] each = tt

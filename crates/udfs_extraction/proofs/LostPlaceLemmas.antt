@@ -79,10 +79,10 @@ module _ (Tells : Type 0) (blocks of : Blocks) (report told : Report) (same : Te
   moved_made files output stream r three new between after (Err stop) h = tt
 
   -- and until it stopped
-  pub moved_stop : {F I M S W : Type 0} (files : Ghosts F I M S W) (output : W → Stream) (deleted short : Bool) (new : F) (between after : Stream) (trees : Option (Bor (List ℕ))) (result : Result Bool Stop)
-      → IfErr result (λ stop. Tells → MatchOption trees ⊥ (λ folder. IfStopped (TreesStop files output deleted short folder.now new between after blocks report) (TreesCut files output deleted short folder.now new between after blocks report) stop))
-      → IfErr result (λ stop. Tells → MatchOption trees ⊥ (λ folder. IfStopped (TreesStop files output deleted short folder.now new between after of told) (TreesCut files output deleted short folder.now new between after of told) stop))
-  moved_stop files output deleted short new between after trees (Ok good) h = tt
-  moved_stop files output deleted short new between after trees (Err stop) h = λ known.
-      subst (λ (bs : Blocks). MatchOption trees ⊥ (λ folder. IfStopped (TreesStop files output deleted short folder.now new between after bs told) (TreesCut files output deleted short folder.now new between after bs told) stop)) (same known)
-      (subst (λ (m : Report). MatchOption trees ⊥ (λ folder. IfStopped (TreesStop files output deleted short folder.now new between after blocks m) (TreesCut files output deleted short folder.now new between after blocks m) stop)) (is known) (h known))
+  pub moved_stop : {F I M S W : Type 0} (files : Ghosts F I M S W) (from : F) (deleted short : Bool) (new : F) (between after : Stream) (trees : Option (Bor (List ℕ))) (result : Result Bool Stop)
+      → IfErr result (λ stop. Tells → MatchOption trees ⊥ (λ folder. IfStopped (TreesStop files from deleted short folder.now new between after blocks report) (TreesCut files from deleted short folder.now new between after blocks report) stop))
+      → IfErr result (λ stop. Tells → MatchOption trees ⊥ (λ folder. IfStopped (TreesStop files from deleted short folder.now new between after of told) (TreesCut files from deleted short folder.now new between after of told) stop))
+  moved_stop files from deleted short new between after trees (Ok good) h = tt
+  moved_stop files from deleted short new between after trees (Err stop) h = λ known.
+      subst (λ (bs : Blocks). MatchOption trees ⊥ (λ folder. IfStopped (TreesStop files from deleted short folder.now new between after bs told) (TreesCut files from deleted short folder.now new between after bs told) stop)) (same known)
+      (subst (λ (m : Report). MatchOption trees ⊥ (λ folder. IfStopped (TreesStop files from deleted short folder.now new between after blocks m) (TreesCut files from deleted short folder.now new between after blocks m) stop)) (is known) (h known))

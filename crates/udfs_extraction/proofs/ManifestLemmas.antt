@@ -3,7 +3,7 @@ use Rattle.std.proofs.lemmas.List.{append-nil}
 use Rattle.std.proofs.lemmas.List.Concat.{flat_map-append}
 use Rattle.sha2.specs.Sha256.{sha256}
 use Rattle.std.proofs.Common.{◌≡◌, ◌≢◌, ◌⊎◌, inl, inr, ⊎_elim, ℕ, suc, ◌+◌, arith, ◌++◌, List, [], ◌∷◌, Bool, true, false, Option, Some, None, refl, sym, ◌∙◌, subst, length, ap, slice_get, drop, append_assoc, codes}
-use Rattle.udfs_host_fs.specs.Disk.{Fails, SinkFails}
+use Rattle.udfs_host_fs.specs.Failing.{SomeFailed}
 use Rattle.std.specs.Prelude.{◌&&◌, MatchOption, is_some, option_map}
 use Rattle.std.specs.List.{list_all}
 use Rattle.udfs_lattice.specs.Volumes.{Blocks}
@@ -134,15 +134,15 @@ puts_with only lined P Is nodes old new good fates heard nothing_failed whole te
 
 module _ {F I M S W : Type 0} (reach : Reach F I M S W) (r : ExtractRequest) (blocks : Blocks) (report : Report) (old one two : F) (before after : Stream) (good : Bool) where
   abbrev WasNoted : Bool → Option (List ℕ) → Type 0
-  WasNoted digest text = PutsNoted (texts r.only.items) r.short_names (IsNodePut reach r one blocks)
+  WasNoted digest text = PutsNoted (texts r.only.items) r.short_names (IsNodePut reach r old one blocks)
       (λ told fates t. digest ≡ true → reach.files.tells → IsManifest (reach.files.holds one) r.folder.now r.short_names told fates t) old one report before after good text
 
   -- of a volume that opens
   with_text : (place text : Option (List ℕ)) (digest : Bool) → digest ≡ is_some place
-      → PutsWith (texts r.only.items) (node_line [] r.short_names report) (IsNodePut reach r one blocks report)
+      → PutsWith (texts r.only.items) (node_line [] r.short_names report) (IsNodePut reach r old one blocks report)
       (λ fates t. digest ≡ true → reach.files.tells → IsManifest (reach.files.holds one) r.folder.now r.short_names report fates t) report.nodes before after good text
       → ByManifest (two ≡ one) place text (λ there t. reach.files.tells → IsPutLast reach.files there one two t)
-      → PutsListed (texts r.only.items) (node_line [] r.short_names report) (IsNodePut reach r one blocks report) (PutsManifest reach r place one two report) report.nodes before after good
+      → PutsListed (texts r.only.items) (node_line [] r.short_names report) (IsNodePut reach r old one blocks report) (PutsManifest reach r place one two report) report.nodes before after good
   with_text None text digest is puts put = record { puts = puts.puts; listed = put }
   with_text (Some there) None digest is puts put = let bad : None ≡ Some puts.text = puts.has in absurd (let no : ⊥ = cc in no)
   with_text (Some there) (Some t) digest is puts put =
@@ -163,9 +163,9 @@ pub listed : {F I M S W : Type 0} (reach : Reach F I M S W) (r : ExtractRequest)
 listed reach r blocks report old one two before after good place text digest is puts put elsewhere = record { puts = by report.volume puts; elsewhere = elsewhere }
   where
     by : (volume : Answer Found)
-        → PutsBy volume (PutsWith (texts r.only.items) (node_line [] r.short_names report) (IsNodePut reach r one blocks report)
+        → PutsBy volume (PutsWith (texts r.only.items) (node_line [] r.short_names report) (IsNodePut reach r old one blocks report)
         (λ fates t. digest ≡ true → reach.files.tells → IsManifest (reach.files.holds one) r.folder.now r.short_names report fates t) report.nodes before after good text) (PutsNone old one report.volume before after good × (text ≡ None))
-        → PutsBy volume (PutsListed (texts r.only.items) (node_line [] r.short_names report) (IsNodePut reach r one blocks report) (PutsManifest reach r place one two report) report.nodes before after good)
+        → PutsBy volume (PutsListed (texts r.only.items) (node_line [] r.short_names report) (IsNodePut reach r old one blocks report) (PutsManifest reach r place one two report) report.nodes before after good)
         (PutsNone old one report.volume before after good × (two ≡ one))
     by (found f) p = with_text reach r blocks report old one two before after good place text digest is p put
     by (holes needed) n = (n.0, without_text reach r blocks report old one two before after good place text n.1 put)
@@ -182,7 +182,7 @@ spares_listed reach r blocks report old one two before after good place text dig
     by None t is puts may = may
     by (Some there) None is puts may = λ told. inl may
     by (Some there) (Some t) is puts may = λ told.
-        let of = text_of report.volume (texts r.only.items) (node_line [] r.short_names report) (IsNodePut reach r one blocks report) (λ fates x. digest ≡ true → reach.files.tells → IsManifest (reach.files.holds one) r.folder.now r.short_names report fates x) report.nodes before after good (Some t) t _ (puts told) refl in
+        let of = text_of report.volume (texts r.only.items) (node_line [] r.short_names report) (IsNodePut reach r old one blocks report) (λ fates x. digest ≡ true → reach.files.tells → IsManifest (reach.files.holds one) r.folder.now r.short_names report fates x) report.nodes before after good (Some t) t _ (puts told) refl in
         inr (record { report = report; fates = of.0; text = t; is_manifest = of.1 is told; may = may told })
 
 -- nothing was begun of a manifest, if one is asked for
@@ -196,7 +196,7 @@ spares_unlisted reach r place old one nodes = record { one = one; nodes = nodes;
 -- the nodes were put, and their manifest was not
 pub unlisted : {F I M S W : Type 0} (reach : Reach F I M S W) (r : ExtractRequest) (blocks : Blocks) (report : Report) (old one two : F) (before after : Stream) (good : Bool) (place text : Option (List ℕ)) (digest : Bool) (refusal : Refusal)
     → WasNoted reach r blocks report old one two before after good digest text
-    → MatchOption place ⊥ (λ there. IsUnput (Fails reach.files.faults ⊎ SinkFails reach.output) refusal × (refusal ≢ Unkept → reach.files.holds two there ≡ reach.files.holds one there))
+    → MatchOption place ⊥ (λ there. IsUnput (SomeFailed (reach.files.failures one) (reach.files.failures two)) refusal × (refusal ≢ Unkept → reach.files.holds two there ≡ reach.files.holds one there))
     → MatchOption place ⊥ (λ there. Unlisted reach r there old two before after blocks report refusal)
 unlisted reach r blocks report old one two before after good None text digest refusal puts why = why
 unlisted reach r blocks report old one two before after good (Some there) text digest refusal puts why = record {

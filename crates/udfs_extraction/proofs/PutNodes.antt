@@ -124,22 +124,22 @@ module _ {F : Type 0} (moment : F → ℕ) (may_leave : F → Disk → Type 0) (
     durable = λ c left. ⊎_elim (λ long. s.durable c long) (λ next. next.2.there path bytes s.held ∙ s.durable next.0 (counts_now s.since next.0 s.past next.1)) (goes.since s.since c s.past left);
   }
 
-  -- what was put stays put
-  pub put_still : (tells fails : Type 0) (blocks : Blocks) (report : Report) (fill : Fill) (short : Bool) (folder : List ℕ) (mid new : F) (before after : Held) → ((t : ℕ) (c : Disk) → t ≤ moment mid → may_leave mid c → left_since mid t c)
-      → (tells → Stay before after) → (tells → GoesBy mid new (Spares folder before)) → (k : ℕ) (n : NodeFields) (fate : Fate)
-      → IsPut tells fails blocks report fill short folder before (moment mid) (left_since mid) k n fate → IsPut tells fails blocks report fill short folder after (moment new) (left_since new) k n fate
-  put_still tells fails blocks report fill short folder mid new before after counts_now stay goes k n fate put = record {
+  -- what was put stays put, and what failed has failed
+  pub put_still : (tells : Type 0) (fails more : List ℕ → Type 0) (blocks : Blocks) (report : Report) (fill : Fill) (short : Bool) (folder : List ℕ) (mid new : F) (before after : Held) → ((t : ℕ) (c : Disk) → t ≤ moment mid → may_leave mid c → left_since mid t c)
+      → (tells → Stay before after) → (tells → GoesBy mid new (Spares folder before)) → ((q : List ℕ) → fails q → more q) → (k : ℕ) (n : NodeFields) (fate : Fate)
+      → IsPut tells fails blocks report fill short folder before (moment mid) (left_since mid) k n fate → IsPut tells more blocks report fill short folder after (moment new) (left_since new) k n fate
+  put_still tells fails more blocks report fill short folder mid new before after counts_now stay goes since k n fate put = record {
     done = put.done;
     written = λ is told profile last reported. let w = put.written is told profile last reported in (w.0, w.1, safe_still mid new folder _ _ before after counts_now (stay told) (goes told) w.2);
-    failed = put.failed;
+    failed = λ bad profile last reported. since _ (put.failed bad profile last reported);
   }
 
   -- and so did what was done of nodes that are asked for
-  pub done_still : (only : List (List ℕ)) (tells fails : Type 0) (blocks : Blocks) (report : Report) (fill : Fill) (short : Bool) (folder : List ℕ) (mid new : F) (before after : Held) → ((t : ℕ) (c : Disk) → t ≤ moment mid → may_leave mid c → left_since mid t c)
-      → (tells → Stay before after) → (tells → GoesBy mid new (Spares folder before)) → (k : ℕ) (n : NodeFields) (fate : Fate)
-      → IsDone only (IsPut tells fails blocks report fill short folder before (moment mid) (left_since mid)) k n fate → IsDone only (IsPut tells fails blocks report fill short folder after (moment new) (left_since new)) k n fate
-  done_still only tells fails blocks report fill short folder mid new before after counts_now stay goes k n fate done = record {
-    asked = λ is. put_still tells fails blocks report fill short folder mid new before after counts_now stay goes k n fate (done.asked is);
+  pub done_still : (only : List (List ℕ)) (tells : Type 0) (fails more : List ℕ → Type 0) (blocks : Blocks) (report : Report) (fill : Fill) (short : Bool) (folder : List ℕ) (mid new : F) (before after : Held) → ((t : ℕ) (c : Disk) → t ≤ moment mid → may_leave mid c → left_since mid t c)
+      → (tells → Stay before after) → (tells → GoesBy mid new (Spares folder before)) → ((q : List ℕ) → fails q → more q) → (k : ℕ) (n : NodeFields) (fate : Fate)
+      → IsDone only (IsPut tells fails blocks report fill short folder before (moment mid) (left_since mid)) k n fate → IsDone only (IsPut tells more blocks report fill short folder after (moment new) (left_since new)) k n fate
+  done_still only tells fails more blocks report fill short folder mid new before after counts_now stay goes since k n fate done = record {
+    asked = λ is. put_still tells fails more blocks report fill short folder mid new before after counts_now stay goes since k n fate (done.asked is);
     passed = done.passed;
   }
 

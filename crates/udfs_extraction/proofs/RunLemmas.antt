@@ -2,7 +2,9 @@
 use Rattle.std.proofs.Common.{◌≡◌, ◌≢◌, ◌⊎◌, inl, inr, ⊎_elim, ℕ, zero, suc, ◌+◌, ◌<◌, ◌≤◌, arith, ◌++◌, List, [], ◌∷◌, Bool, true, false, Option, Some, None, refl, sym, ◌∙◌, subst, length, ap, slice_get, drop, append_assoc, string_bytes, if◌then◌else◌}
 use Rattle.std.proofs.lemmas.Bool.{cases_Bool}
 use Rattle.udfs_common.specs.Keeping.{IsKept}
-use Rattle.udfs_host_fs.specs.Disk.{Disk, Fails, Goes, Same, SameBut, SinkFails}
+use Rattle.udfs_host_fs.specs.Disk.{Disk, Goes, Same, SameBut, folder_of}
+use Rattle.udfs_host_fs.specs.Failing.{FailedAt, Grow}
+use Rattle.udfs_host_fs.proofs.Failing.{grow_done, grow_on}
 use Rattle.udfs_host_fs.specs.declared.files.Files.{Ghosts}
 use Rattle.udfs_lattice.specs.Volumes.{Blocks}
 use Rattle.udfs_reading.specs.Device.{Stream}
@@ -10,7 +12,7 @@ use Rattle.udfs_salvage.specs.Choosing.{is_chosen}
 use Rattle.udfs_salvage.specs.Reports.{Report}
 use Rattle.udfs_salvage.specs.declared.extraction.Fill.{Fill}
 use Rattle.udfs_walk.specs.NodeFields.{NodeFields}
-use Rattle.udfs_extraction.specs.Extracting.{Each, IsDone, IsElsewhere, IsFateOf, IsIn, IsPutAt, IsPutBy, Puts, Spares, SparesNodes, Stay, TellsLines, TellsOn, all_good, deed, fate_lines, is_good, path_below}
+use Rattle.udfs_extraction.specs.Extracting.{Each, IsDone, IsElsewhere, IsFateOf, IsIn, IsPutAt, IsPutBy, NodeFails, Puts, Spares, SparesNodes, Stay, TellsLines, TellsOn, all_good, deed, fate_lines, is_good, path_below}
 use Rattle.udfs_extraction.specs.Manifests.{AreLines, IsLine, IsManifest, IsNoted}
 use Rattle.udfs_extraction.specs.Runs.{AreFresh, AreHeld, ArePlaced, IsEnd, IsHeld, IsOfPut, IsPlaced, RunsOn, SameButPuts, SparesRun}
 use Rattle.udfs_extraction.specs.ShortNames.{placed}
@@ -19,7 +21,7 @@ use Rattle.udfs_extraction.specs.declared.nodes.Deed.{Deed}
 use Rattle.udfs_extraction.specs.declared.nodes.Deed.TheVariants.{Folder, File, Skip}
 use Rattle.udfs_extraction.specs.declared.nodes.Fate.{Fate}
 use Rattle.udfs_extraction.specs.declared.nodes.Fate.TheVariants.{Made, Written, Failed, Left, Skipped, Passed}
-use Rattle.udfs_extraction.proofs.PutNodes.{goes_on, goes_wider, safe, spares_all, spares_nothing, spares_on, tells_on}
+use Rattle.udfs_extraction.proofs.PutNodes.{each_map, goes_on, goes_wider, safe, spares_all, spares_nothing, spares_on, tells_on}
 
 abbrev Held : Type 0
 Held = List ℕ → Option (Option (List ℕ))
@@ -94,32 +96,47 @@ end_written named before after end written = elim (cases_Bool named) [
 pub unnamed_unwritten : (named : Bool) (before after : Fate) → IsEnd named before after → named ≡ false → after ≢ Written
 unnamed_unwritten named before after end not written = let is = (end_written named before after end written).1 in let bad : true ≡ false = sym is ∙ not in cc
 
+-- ---- what failed
+
+module _ {F I M S W : Type 0} (files : Ghosts F I M S W) where
+  -- since an earlier moment, or until a later one
+  pub fails_on : (early from at late : F) → Grow (files.failures early) (files.failures from) → Grow (files.failures at) (files.failures late) → (q : List ℕ) → NodeFails files from at q → NodeFails files early late q
+  fails_on early from at late before after q (inl here) = inl (let one = before.failed q in let two = after.failed q in omega (arith, one, two, here))
+  fails_on early from at late before after q (inr other) =
+      inr (other.0, let one = before.failed (folder_of other.0) in let two = after.failed (folder_of other.0) in let here = other.1 in omega (arith, one, two, here))
+
+  pub fails_until : (from at late : F) → Grow (files.failures at) (files.failures late) → (q : List ℕ) → NodeFails files from at q → NodeFails files from late q
+  fails_until from at late after q fails = fails_on from from at late (grow_done _ _ refl) after q fails
+
+  pub fails_since : (early from at : F) → Grow (files.failures early) (files.failures from) → (q : List ℕ) → NodeFails files from at q → NodeFails files early at q
+  fails_since early from at before q fails = fails_on early from at at before (grow_done _ _ refl) q fails
+
 -- ---- nodes
 
-module _ (only : List (List ℕ)) (tells fails : Type 0) (blocks : Blocks) (report : Report) (fill : Fill) (short : Bool) (folder : List ℕ) where
-  abbrev DoneBy : (List ℕ → List ℕ → Type 0) → ℕ → NodeFields → Fate → Type 0
-  DoneBy Stands = IsDone only (IsPutBy tells fails blocks report fill short folder Stands)
+module _ (only : List (List ℕ)) (tells : Type 0) (blocks : Blocks) (report : Report) (fill : Fill) (short : Bool) (folder : List ℕ) where
+  abbrev DoneBy : (List ℕ → Type 0) → (List ℕ → List ℕ → Type 0) → ℕ → NodeFields → Fate → Type 0
+  DoneBy fails Stands = IsDone only (IsPutBy tells fails blocks report fill short folder Stands)
 
   -- what was done stays done where what was written stands so too
-  pub done_on : (One Other : List ℕ → List ℕ → Type 0) (k : ℕ) (n : NodeFields) (fate : Fate) → (fate ≡ Written → tells → (bytes : List ℕ) → One (path_below folder (placed short report k n)) bytes → Other (path_below folder (placed short report k n)) bytes)
-      → DoneBy One k n fate → DoneBy Other k n fate
-  done_on One Other k n fate to done = record {
+  pub done_on : (fails more : List ℕ → Type 0) (One Other : List ℕ → List ℕ → Type 0) (k : ℕ) (n : NodeFields) (fate : Fate) → (fate ≡ Written → tells → (bytes : List ℕ) → One (path_below folder (placed short report k n)) bytes → Other (path_below folder (placed short report k n)) bytes)
+      → ((q : List ℕ) → fails q → more q) → DoneBy fails One k n fate → DoneBy more Other k n fate
+  done_on fails more One Other k n fate to since done = record {
     asked = λ is.
         let put = done.asked is in
         record {
           done = put.done;
           written = λ is told f root reported. let w = put.written is told f root reported in (w.0, w.1, to is told _ w.2);
-          failed = put.failed;
+          failed = λ bad f root reported. since _ (put.failed bad f root reported);
         };
     passed = done.passed;
   }
 
   -- what was held is done in the end
-  pub end_done : (One Other : List ℕ → List ℕ → Type 0) (k : ℕ) (n : NodeFields) (named : Bool) (before after : Fate) → IsEnd named before after → (named ≡ false → fails)
+  pub end_done : (fails : List ℕ → Type 0) (One Other : List ℕ → List ℕ → Type 0) (k : ℕ) (n : NodeFields) (named : Bool) (before after : Fate) → IsEnd named before after → (named ≡ false → (q : List ℕ) → fails q)
       → (named ≡ true → before ≡ Written → tells → (bytes : List ℕ) → One (path_below folder (placed short report k n)) bytes → Other (path_below folder (placed short report k n)) bytes)
-      → DoneBy One k n before → DoneBy Other k n after
-  end_done One Other k n named before after end cause to done = elim (cases_Bool named) [
-    | inl is ↦ subst (DoneBy Other k n) (sym (end.same is)) (done_on One Other k n before (λ written told. to is written told) done)
+      → DoneBy fails One k n before → DoneBy fails Other k n after
+  end_done fails One Other k n named before after end cause to done = elim (cases_Bool named) [
+    | inl is ↦ subst (DoneBy fails Other k n) (sym (end.same is)) (done_on fails fails One Other k n before (λ written told. to is written told) (λ q why. why) done)
     | inr not ↦ elim (cases_Written before) [
       | inl was ↦
           let how = end.given_up not was in
@@ -129,11 +146,11 @@ module _ (only : List (List ℕ)) (tells fails : Type 0) (blocks : Blocks) (repo
                 record {
                   done = subst (λ d. IsFateOf d after) (sym file) (fails_file after how);
                   written = λ written. absurd (failed_unwritten after how written);
-                  failed = λ bad f root reported. cause not;
+                  failed = λ bad f root reported. cause not _;
                 };
             passed = λ is. let bad : Written ≡ Passed = sym was ∙ done.passed is in absurd (let no : ⊥ = cc in no);
           }
-      | inr never ↦ subst (DoneBy Other k n) (sym (end.unwritten never)) (done_on One Other k n before (λ written. absurd (never written)) done)
+      | inr never ↦ subst (DoneBy fails Other k n) (sym (end.unwritten never)) (done_on fails fails One Other k n before (λ written. absurd (never written)) (λ q why. why) done)
     ]
   ]
 
@@ -223,14 +240,15 @@ module _ {F I M S W : Type 0} (files : Ghosts F I M S W) (only : List (List ℕ)
   Spared before after = SparesRun files only fill short report folder before after
 
   pub run_nothing : (at : F) → Spared at at
-  run_nothing at = record { stays = λ told q bytes is. is; outside = λ q out. refl; elsewhere = λ q other. refl; crash = λ told. spares_nothing files.moment files.may_leave files.left_since at folder (files.holds at) }
+  run_nothing at = record { stays = λ told q bytes is. is; outside = λ q out. refl; elsewhere = λ q other. refl; crash = λ told. spares_nothing files.moment files.may_leave files.left_since at folder (files.holds at); grow = grow_done _ _ refl }
 
-  pub run_quiet : (before after : F) → ((q : List ℕ) → files.holds after q ≡ files.holds before q) → Goes files.moment files.may_leave files.left_since before after Same → Spared before after
-  run_quiet before after same goes = record {
+  pub run_quiet : (before after : F) → Grow (files.failures before) (files.failures after) → ((q : List ℕ) → files.holds after q ≡ files.holds before q) → Goes files.moment files.may_leave files.left_since before after Same → Spared before after
+  run_quiet before after grow same goes = record {
     stays = λ told q bytes is. same q ∙ is;
     outside = λ q out. same q;
     elsewhere = λ q other. same q;
     crash = λ told. spares_all files.moment files.may_leave files.left_since before after folder (files.holds before) goes;
+    grow = grow;
   }
 
   pub run_on : (before mid after : F) → Spared before mid → Spared mid after → Spared before after
@@ -239,25 +257,27 @@ module _ {F I M S W : Type 0} (files : Ghosts F I M S W) (only : List (List ℕ)
     outside = λ q out. two.outside q out ∙ one.outside q out;
     elsewhere = λ q other. two.elsewhere q other ∙ one.elsewhere q other;
     crash = λ told. spares_on files.moment files.may_leave files.left_since before mid after folder (files.holds before) (files.holds mid) (one.stays told) (one.crash told) (two.crash told);
+    grow = grow_on _ _ _ one.grow two.grow;
   }
 
   -- what is done at the path of a node
-  pub run_step : (before after : F) (index : ℕ) (path : List ℕ) → IsIn folder path → ((n : NodeFields) → slice_get report.nodes index ≡ Some n → path ≡ path_below folder (placed short report index n))
+  pub run_step : (before after : F) (index : ℕ) (path : List ℕ) → Grow (files.failures before) (files.failures after) → IsIn folder path → ((n : NodeFields) → slice_get report.nodes index ≡ Some n → path ≡ path_below folder (placed short report index n))
       → (files.tells → Stay (files.holds before) (files.holds after)) → ((q : List ℕ) → q ≢ path → files.holds after q ≡ files.holds before q)
       → ((q : List ℕ) → ((n : NodeFields) → slice_get report.nodes index ≡ Some n → is_chosen only n.path ≡ true → deed n.kind n.standing n.size fill ≡ File → q ≢ path) → files.holds after q ≡ files.holds before q)
       → (files.tells → (f : List ℕ) → IsIn f path → Goes files.moment files.may_leave files.left_since before after (Spares f (files.holds before))) → Spared before after
-  run_step before after index path is_in here stays others elsewhere crash = record {
+  run_step before after index path grow is_in here stays others elsewhere crash = record {
     stays = stays;
     outside = λ q out. others q (λ e. out (subst (IsIn folder) (sym e) is_in));
     elsewhere = λ q other. elsewhere q (λ n at chosen made e. other index n at chosen made (e ∙ here n at));
     crash = λ told. crash told folder is_in;
+    grow = grow;
   }
 
   -- files of a run are removed
-  pub run_removed : (before mid after : F) (first : ℕ) (puts : List Put) → first + length puts ≤ length report.nodes
+  pub run_removed : (before mid after : F) (first : ℕ) (puts : List Put) → Grow (files.failures mid) (files.failures after) → first + length puts ≤ length report.nodes
       → ArePlaced only report fill short folder first puts → (files.tells → AreFresh (files.holds before) puts) → Spared before mid
       → ((q : List ℕ) → (¬ IsOfPut puts q) → files.holds after q ≡ files.holds mid q) → Goes files.moment files.may_leave files.left_since mid after (SameButPuts puts) → Spared before after
-  run_removed before mid after first puts few are fresh spares others goes = record {
+  run_removed before mid after first puts grow few are fresh spares others goes = record {
     stays = λ told q bytes is. others q (apart told q bytes is) ∙ spares.stays told q bytes is;
     outside = λ q out. others q (away q out) ∙ spares.outside q out;
     elsewhere = λ q other. others q (beside q other) ∙ spares.elsewhere q other;
@@ -266,6 +286,7 @@ module _ {F I M S W : Type 0} (files : Ghosts F I M S W) (only : List (List ℕ)
           outside = λ q out. two q (away q out) ∙ one.outside q out;
           there = λ q bytes is. two q (apart told q bytes is) ∙ one.there q bytes is;
         });
+    grow = grow_on _ _ _ spares.grow grow;
   }
     where
       node : (k : ℕ) (put : Put) → slice_get puts k ≡ Some put → (n : NodeFields) × (slice_get report.nodes (first + k) ≡ Some n)
@@ -283,13 +304,13 @@ module _ {F I M S W : Type 0} (files : Ghosts F I M S W) (only : List (List ℕ)
           let h = are of.0 n.0 of.1 of.2 n.1 in
           other (first + of.0) n.0 n.1 (h.chosen of.3) (h.file of.3) (of.4 ∙ h.path)
 
-  -- what is held stays so
-  pub held_still : (output : W → Stream) (blocks : Blocks) (digest : Bool) (before after : F) (index : ℕ) (n : NodeFields) (put : Put) → (files.tells → Stay (files.holds before) (files.holds after))
-      → IsHeld files output before only blocks report fill short digest folder index n put → IsHeld files output after only blocks report fill short digest folder index n put
-  held_still output blocks digest before after index n put stay held = record {
+  -- what is held stays so, and since an earlier moment
+  pub held_still : (blocks : Blocks) (digest : Bool) (early from before after : F) (index : ℕ) (n : NodeFields) (put : Put) → Grow (files.failures early) (files.failures from) → Grow (files.failures before) (files.failures after) → (files.tells → Stay (files.holds before) (files.holds after))
+      → IsHeld files from before only blocks report fill short digest folder index n put → IsHeld files early after only blocks report fill short digest folder index n put
+  held_still blocks digest early from before after index n put earlier later stay held = record {
     path = held.path;
     own = held.own;
-    done = done_on only files.tells (Fails files.faults ⊎ SinkFails output) blocks report fill short folder _ _ index n put.done.fate (λ written told bytes is. stay told _ bytes is) held.done;
+    done = done_on only files.tells blocks report fill short folder _ _ _ _ index n put.done.fate (λ written told bytes is. stay told _ bytes is) (fails_on files early from before after earlier later) held.done;
     noted = λ written wanted told. let w = held.noted written wanted told in (w.0, stay told _ w.0 w.1, w.2);
   }
 
@@ -327,17 +348,17 @@ put_others holds before after put same others q out = elim (cases_Written put.do
 
 -- ---- what is told stays so where only files that are not told as written are removed
 
-module _ {F I M S W : Type 0} (files : Ghosts F I M S W) (output : W → Stream) (only : List (List ℕ)) (blocks : Blocks) (report : Report) (fill : Fill) (short : Bool) (folder : List ℕ) where
+module _ {F I M S W : Type 0} (files : Ghosts F I M S W) (from : F) (only : List (List ℕ)) (blocks : Blocks) (report : Report) (fill : Fill) (short : Bool) (folder : List ℕ) where
   abbrev DoneAt : F → ℕ → NodeFields → Fate → Type 0
-  DoneAt at = IsDone only (IsPutAt files output at blocks report fill short folder)
+  DoneAt at = IsDone only (IsPutAt files from at blocks report fill short folder)
 
   abbrev ToldAt : F → Bool → ℕ → NodeFields → Fate → Type 0
   ToldAt at named k n fate = DoneAt at k n fate × (named ≡ false → fate ≢ Written)
 
-  pub told_moved : (before after : F) (named : Bool) → (named ≡ true → after ≡ before) → (k : ℕ) (n : NodeFields) (fate : Fate) → ToldAt before named k n fate → DoneAt after k n fate
-  told_moved before after named same k n fate told = elim (cases_Bool named) [
+  pub told_moved : (before after : F) (named : Bool) → Grow (files.failures before) (files.failures after) → (named ≡ true → after ≡ before) → (k : ℕ) (n : NodeFields) (fate : Fate) → ToldAt before named k n fate → DoneAt after k n fate
+  told_moved before after named grow same k n fate told = elim (cases_Bool named) [
     | inl is ↦ subst (λ x. DoneAt x k n fate) (sym (same is)) told.0
-    | inr not ↦ done_on only files.tells (Fails files.faults ⊎ SinkFails output) blocks report fill short folder _ _ k n fate (λ written. absurd (told.1 not written)) told.0
+    | inr not ↦ done_on only files.tells blocks report fill short folder _ _ _ _ k n fate (λ written. absurd (told.1 not written)) (fails_until files from before after grow) told.0
   ]
 
   pub texts_moved : (before after : F) (named : Bool) → (named ≡ true → after ≡ before) → (k : ℕ) (ns : List NodeFields) (fates : List Fate) (text : List ℕ) → Each (ToldAt before named) k ns fates
@@ -348,11 +369,11 @@ module _ {F I M S W : Type 0} (files : Ghosts F I M S W) (output : W → Stream)
   ]
 
   -- what was held is told in the end
-  pub told_of : (digest : Bool) (at : F) (index : ℕ) (n : NodeFields) (put : Put) (named : Bool) (fate : Fate) → ((c : Disk) → files.left_since at (files.moment at) c → files.may_leave at c) → (named ≡ false → Fails files.faults)
+  pub told_of : (digest : Bool) (at : F) (index : ℕ) (n : NodeFields) (put : Put) (named : Bool) (fate : Fate) → ((c : Disk) → files.left_since at (files.moment at) c → files.may_leave at c) → (named ≡ false → (q : List ℕ) × FailedAt (folder_of q) (files.failures from) (files.failures at))
       → (named ≡ true → files.tells → put.done.fate ≡ Written → (bytes : List ℕ) → files.holds at (string_bytes put.path) ≡ Some (Some bytes) → IsKept (files.holds at) (files.may_leave at) (string_bytes put.path) bytes)
-      → IsHeld files output at only blocks report fill short digest folder index n put → IsEnd named put.done.fate fate → ToldAt at named index n fate
+      → IsHeld files from at only blocks report fill short digest folder index n put → IsEnd named put.done.fate fate → ToldAt at named index n fate
   told_of digest at index n put named fate only_now cause kept held end = (
-    end_done only files.tells (Fails files.faults ⊎ SinkFails output) blocks report fill short folder _ _ index n named put.done.fate fate end (λ not. inl (cause not))
+    end_done only files.tells blocks report fill short folder (NodeFails files from at) _ _ index n named put.done.fate fate end (λ not q. inr (cause not))
         (λ is written told bytes there.
         safe files.moment files.may_leave files.left_since at (files.holds at) _ bytes only_now
         (subst (λ p. IsKept (files.holds at) (files.may_leave at) p bytes) held.path (kept is told written bytes (subst (λ p. files.holds at p ≡ Some (Some bytes)) (sym held.path) there)))) held.done,
@@ -365,20 +386,21 @@ noted_of wanted tells holds path named before after digest end noted written = n
 
 -- ---- one more node of a run
 
-module _ {F I M S W : Type 0} (files : Ghosts F I M S W) (output : W → Stream) (only : List (List ℕ)) (blocks : Blocks) (report : Report) (fill : Fill) (short digest : Bool) (folder : List ℕ) where
-  pub are_held_still : (before after : F) (first : ℕ) (puts : List Put) → (files.tells → Stay (files.holds before) (files.holds after))
-      → AreHeld files output before only blocks report fill short digest folder first puts → AreHeld files output after only blocks report fill short digest folder first puts
-  are_held_still before after first puts stay held k n put at there = held_still files only fill short report folder output blocks digest before after (first + k) n put stay (held k n put at there)
+module _ {F I M S W : Type 0} (files : Ghosts F I M S W) (from : F) (only : List (List ℕ)) (blocks : Blocks) (report : Report) (fill : Fill) (short digest : Bool) (folder : List ℕ) where
+  pub are_held_still : (before after : F) (first : ℕ) (puts : List Put) → Grow (files.failures before) (files.failures after) → (files.tells → Stay (files.holds before) (files.holds after))
+      → AreHeld files from before only blocks report fill short digest folder first puts → AreHeld files from after only blocks report fill short digest folder first puts
+  are_held_still before after first puts grow stay held k n put at there = held_still files only fill short report folder blocks digest from from before after (first + k) n put (grow_done _ _ refl) grow stay (held k n put at there)
 
-  pub are_held_more : (before after : F) (first index : ℕ) (puts : List Put) (put : Put) → first + length puts ≡ index → (files.tells → Stay (files.holds before) (files.holds after))
-      → AreHeld files output before only blocks report fill short digest folder first puts → ((n : NodeFields) → slice_get report.nodes index ≡ Some n → IsHeld files output after only blocks report fill short digest folder index n put)
-      → AreHeld files output after only blocks report fill short digest folder first (puts ++ put ∷ [])
-  are_held_more before after first index puts put count stay held one k n p at there = ⊎_elim
-      (λ is. are_held_still before after first puts stay held k n p is there)
+  pub are_held_more : (before after : F) (first index : ℕ) (puts : List Put) (put : Put) → Grow (files.failures from) (files.failures before) → Grow (files.failures before) (files.failures after) → first + length puts ≡ index → (files.tells → Stay (files.holds before) (files.holds after))
+      → AreHeld files from before only blocks report fill short digest folder first puts → ((n : NodeFields) → slice_get report.nodes index ≡ Some n → IsHeld files before after only blocks report fill short digest folder index n put)
+      → AreHeld files from after only blocks report fill short digest folder first (puts ++ put ∷ [])
+  are_held_more before after first index puts put earlier grow count stay held one k n p at there = ⊎_elim
+      (λ is. are_held_still before after first puts grow stay held k n p is there)
       (λ last.
       let here : first + k ≡ index = ap (λ j. first + j) last.0 ∙ count in
-      subst (λ j. IsHeld files output after only blocks report fill short digest folder j n p) (sym here)
-      (subst (IsHeld files output after only blocks report fill short digest folder index n) (sym last.1) (one n (subst (λ j. slice_get report.nodes j ≡ Some n) here there))))
+      subst (λ j. IsHeld files from after only blocks report fill short digest folder j n p) (sym here)
+      (subst (IsHeld files from after only blocks report fill short digest folder index n) (sym last.1)
+      (held_still files only fill short report folder blocks digest from before after after index n put earlier (grow_done _ _ refl) (λ told q bytes is. is) (one n (subst (λ j. slice_get report.nodes j ≡ Some n) here there)))))
       (get_more puts put p k at)
 
 -- one more is placed
@@ -398,6 +420,26 @@ are_fresh_more before held puts put stay fresh none k p bytes at written is = �
     let was = none (subst (λ (x : Put). x.done.fate ≡ Written) last.1 written) in
     let now = stay (string_bytes put.path) bytes (subst (λ (x : Put). before (string_bytes x.path) ≡ Some (Some bytes)) last.1 is) in
     let bad : Some (Some bytes) ≡ Some None = sym now ∙ was in cc) (get_more puts put p k at)
+
+-- ---- what failed has failed since an earlier moment
+
+module _ {F I M S W : Type 0} (files : Ghosts F I M S W) (early from at : F) (blocks : Blocks) (report : Report) (fill : Fill) (short : Bool) (folder : List ℕ) where
+  pub put_since : Grow (files.failures early) (files.failures from) → (k : ℕ) (n : NodeFields) (fate : Fate) → IsPutAt files from at blocks report fill short folder k n fate → IsPutAt files early at blocks report fill short folder k n fate
+  put_since grow k n fate put = record { done = put.done; written = put.written; failed = λ bad f root reported. fails_since files early from at grow _ (put.failed bad f root reported) }
+
+  pub puts_since : {only : List (List ℕ)} {lined : Fate → NodeFields → List ℕ} {nodes : List NodeFields} {heard : Bool} {old new : Stream} {fates : List Fate} → Grow (files.failures early) (files.failures from)
+      → Puts lined (IsDone only (IsPutAt files from at blocks report fill short folder)) nodes old new heard fates → Puts lined (IsDone only (IsPutAt files early at blocks report fill short folder)) nodes old new heard fates
+  puts_since {nodes = nodes} {fates = fates} grow puts = record {
+    each = each_map _ _ (λ k n fate done. record { asked = λ is. put_since grow k n fate (done.asked is); passed = done.passed }) 1 (drop 1 nodes) fates puts.each;
+    lines = puts.lines;
+  }
+
+  pub runs_since : {only : List (List ℕ)} {lined : Fate → NodeFields → List ℕ} {first : ℕ} {nodes : List NodeFields} {heard still : Bool} {old new : Stream} {fates : List Fate} → Grow (files.failures early) (files.failures from)
+      → RunsOn lined (IsDone only (IsPutAt files from at blocks report fill short folder)) first nodes heard still old new fates → RunsOn lined (IsDone only (IsPutAt files early at blocks report fill short folder)) first nodes heard still old new fates
+  runs_since {first = first} {nodes = nodes} {fates = fates} grow runs = record {
+    each = each_map _ _ (λ k n fate done. record { asked = λ is. put_since grow k n fate (done.asked is); passed = done.passed }) first (drop first nodes) fates runs.each;
+    lines = runs.lines;
+  }
 
 -- ---- a run behind those before it
 
@@ -429,10 +471,10 @@ if_both true two rest = refl
 if_both false two rest = refl
 
 -- a file is written, and then its name is brought to the disk, or it is removed
-pub named_spares : {F I M S W : Type 0} (files : Ghosts F I M S W) (folder path : List ℕ) (before mid after : F) (fate : Fate) → IsIn folder path → (files.tells → Stay (files.holds before) (files.holds mid)) → ((q : List ℕ) → q ≢ path → files.holds mid q ≡ files.holds before q)
+pub named_spares : {F I M S W : Type 0} (files : Ghosts F I M S W) (folder path : List ℕ) (before mid after : F) (fate : Fate) → Grow (files.failures before) (files.failures mid) → Grow (files.failures mid) (files.failures after) → IsIn folder path → (files.tells → Stay (files.holds before) (files.holds mid)) → ((q : List ℕ) → q ≢ path → files.holds mid q ≡ files.holds before q)
     → (files.tells → Goes files.moment files.may_leave files.left_since before mid (Spares folder (files.holds before))) → (fate ≡ Written → files.tells → files.holds before path ≡ Some None) → (fate ≢ Written → after ≡ mid)
     → ((q : List ℕ) → q ≢ path → files.holds after q ≡ files.holds mid q) → Goes files.moment files.may_leave files.left_since mid after (SameBut path) → SparesNodes files folder before after
-named_spares files folder path before mid after fate is_in stays one crash fresh unwritten two goes = elim (cases_Written fate) [
+named_spares files folder path before mid after fate first_grow then_grow is_in stays one crash fresh unwritten two goes = elim (cases_Written fate) [
   | inl written ↦
       let apart : files.tells → (q bytes : List ℕ) → files.holds before q ≡ Some (Some bytes) → q ≢ path = λ told q bytes is e. let bad : Some (Some bytes) ≡ Some None = sym (subst (λ p. files.holds before p ≡ Some (Some bytes)) e is) ∙ fresh written told in cc in
       let away : (q : List ℕ) → (¬ IsIn folder q) → q ≢ path = λ q out e. out (subst (IsIn folder) (sym e) is_in) in
@@ -444,11 +486,13 @@ named_spares files folder path before mid after fate is_in stays one crash fresh
               outside = λ q out. second q (away q out) ∙ first.outside q out;
               there = λ q bytes is. second q (apart told q bytes is) ∙ first.there q bytes is;
             });
+        grow = grow_on _ _ _ first_grow then_grow;
       }
   | inr never ↦ subst (SparesNodes files folder before) (sym (unwritten never)) (record {
     stays = stays;
     outside = λ q out. one q (λ e. out (subst (IsIn folder) (sym e) is_in));
     crash = crash;
+    grow = first_grow;
   })
 ]
 

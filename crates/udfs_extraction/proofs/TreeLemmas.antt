@@ -3,7 +3,10 @@ use Rattle.std.proofs.Common.{◌≡◌, ◌⊎◌, inl, inr, refl, sym, ◌∙�
 use Rattle.std.specs.Prelude.{◌&&◌, ⊤}
 use Rattle.std.specs.List.{list_all}
 use Rattle.std.proofs.lemmas.List.{append-nil}
-use Rattle.udfs_host_fs.specs.Disk.{Disk, Fails, SinkFails}
+use Rattle.udfs_host_fs.specs.Disk.{Disk}
+use Rattle.udfs_host_fs.specs.Failing.{Grow}
+use Rattle.udfs_host_fs.proofs.Failing.{grow_done, grow_on}
+use Rattle.udfs_extraction.proofs.RunLemmas.{fails_until, put_since}
 use Rattle.udfs_host_fs.specs.declared.files.Files.{Ghosts}
 use Rattle.udfs_lattice.specs.Volumes.{Blocks}
 use Rattle.udfs_reading.specs.Device.{Stream}
@@ -20,7 +23,7 @@ use Rattle.udfs_common.specs.declared.refusal.Refusal.{Refusal}
 use Rattle.udfs_common.specs.declared.refusal.Refusal.TheVariants.{Memory, Output}
 use Rattle.udfs_extraction.specs.Extracting.{Each, IsDone, IsIn, IsPut, SparesNodes, TellsLines, all_good, fate_lines}
 use Rattle.udfs_extraction.specs.LostFiles.{IsUnder, SparesLost}
-use Rattle.udfs_extraction.specs.LostTrees.{AreFoundOf, CutAt, EachTree, IsAllOf, IsTreePut, StopsAt, TreePut, is_put_well, tree_lines, tree_report, trees_lines}
+use Rattle.udfs_extraction.specs.LostTrees.{AreFoundOf, CutAt, EachTree, IsAllOf, IsTreePut, PutsTrees, StopsAt, TreePut, is_put_well, tree_lines, tree_report, trees_lines}
 use Rattle.udfs_extraction.specs.Refused.{TreesCut, TreesStop}
 use Rattle.udfs_extraction.specs.Seats.{FoundAt, seat_path}
 use Rattle.udfs_extraction.specs.Stopping.{IfStopped}
@@ -68,6 +71,7 @@ module _ {F I M S W : Type 0} (known : Ghosts F I M S W) where
       outside = λ q out. goes.outside q (λ is_in. out (under q is_in));
       there = goes.there;
     });
+    grow = spares.grow;
   }
     where
       under : (q : List ℕ) → IsIn path q → IsUnder folder q
@@ -75,7 +79,7 @@ module _ {F I M S W : Type 0} (known : Ghosts F I M S W) where
 
   -- nothing was begun
   pub spares_still : (folder : List ℕ) (files : F) → SparesNodes known folder files files
-  spares_still folder files = record { stays = λ told q bytes is. is; outside = λ q out. refl; crash = λ told. spares_nothing known.moment known.may_leave known.left_since files folder (known.holds files) }
+  spares_still folder files = record { stays = λ told q bytes is. is; outside = λ q out. refl; crash = λ told. spares_nothing known.moment known.may_leave known.left_since files folder (known.holds files); grow = grow_done _ _ refl }
 
   -- one call after another
   pub spares_nodes_on : (folder : List ℕ) (old mid new : F) → SparesNodes known folder old mid → SparesNodes known folder mid new → SparesNodes known folder old new
@@ -83,26 +87,33 @@ module _ {F I M S W : Type 0} (known : Ghosts F I M S W) where
     stays = λ told q bytes is. two.stays told q bytes (one.stays told q bytes is);
     outside = λ q out. two.outside q out ∙ one.outside q out;
     crash = λ told. spares_on known.moment known.may_leave known.left_since old mid new folder (known.holds old) (known.holds mid) (one.stays told) (one.crash told) (two.crash told);
+    grow = grow_on _ _ _ one.grow two.grow;
   }
 
-  -- what was put stays put
-  pub tree_still : (fails : Type 0) (blocks : Blocks) (report : Report) (fill : Fill) (short : Bool) (within folder : List ℕ) (mid new : F) → ((t : ℕ) (c : Disk) → t ≤ known.moment mid → known.may_leave mid c → known.left_since mid t c) → SparesLost known within mid new
+  -- what was put stays put, and what failed has failed
+  pub tree_still : (fails more : List ℕ → Type 0) (blocks : Blocks) (report : Report) (fill : Fill) (short : Bool) (within folder : List ℕ) (mid new : F) → ((t : ℕ) (c : Disk) → t ≤ known.moment mid → known.may_leave mid c → known.left_since mid t c) → SparesLost known within mid new → ((q : List ℕ) → fails q → more q)
       → (k : ℕ) (n : NodeFields) (fate : Fate) → IsPut known.tells fails blocks report fill short folder (known.holds mid) (known.moment mid) (known.left_since mid) k n fate
-      → IsPut known.tells fails blocks report fill short folder (known.holds new) (known.moment new) (known.left_since new) k n fate
-  tree_still fails blocks report fill short within folder mid new counts_now step k n fate put = record {
+      → IsPut known.tells more blocks report fill short folder (known.holds new) (known.moment new) (known.left_since new) k n fate
+  tree_still fails more blocks report fill short within folder mid new counts_now step since k n fate put = record {
     done = put.done;
     written = λ is told f root from. let w = put.written is told f root from in (w.0, w.1, safe_lost known within _ _ mid new counts_now told step w.2);
-    failed = put.failed;
+    failed = λ bad f root from. since _ (put.failed bad f root from);
   }
 
-module _ {F I M S W : Type 0} (known : Ghosts F I M S W) (output : W → Stream) where
+module _ {F I M S W : Type 0} (known : Ghosts F I M S W) (from : F) where
   -- and so do trees
   pub trees_still : (blocks : Blocks) (volume : Answer Found) (short : Bool) (folder : List ℕ) (names : List FoundAt) (mid new : F) → ((t : ℕ) (c : Disk) → t ≤ known.moment mid → known.may_leave mid c → known.left_since mid t c) → SparesLost known folder mid new
-      → (tree : LostTree) (done : TreePut) → IsTreePut known output mid blocks volume short folder names tree done → IsTreePut known output new blocks volume short folder names tree done
+      → (tree : LostTree) (done : TreePut) → IsTreePut known from mid blocks volume short folder names tree done → IsTreePut known from new blocks volume short folder names tree done
   trees_still blocks volume short folder names mid new counts_now step tree done put = (
     put.0,
-    each_map _ _ (λ k n fate was. tree_still known (Fails known.faults ⊎ SinkFails output) blocks (tree_report blocks volume tree) Refuse short folder (seat_path folder (has_two volume) tree.folder done.seat) mid new counts_now step k n fate was) 0 _ done.fates put.1,
+    each_map _ _ (λ k n fate was. tree_still known _ _ blocks (tree_report blocks volume tree) Refuse short folder (seat_path folder (has_two volume) tree.folder done.seat) mid new counts_now step (fails_until known from mid new step.grow) k n fate was) 0 _ done.fates put.1,
   )
+
+-- since an earlier moment
+pub tree_since : {F I M S W : Type 0} (known : Ghosts F I M S W) (early from at : F) (blocks : Blocks) (volume : Answer Found) (short : Bool) (folder : List ℕ) (names : List FoundAt) → Grow (known.failures early) (known.failures from) → (tree : LostTree) (done : TreePut)
+    → IsTreePut known from at blocks volume short folder names tree done → IsTreePut known early at blocks volume short folder names tree done
+tree_since known early from at blocks volume short folder names grow tree done put =
+    (put.0, each_map _ _ (put_since known early from at blocks (tree_report blocks volume tree) Refuse short (seat_path folder (has_two volume) tree.folder done.seat) grow) 0 _ done.fates put.1)
 
 -- ---- tree after tree
 
@@ -167,12 +178,20 @@ trees_cut P Q lined trees old mid new all k tree heard put (Refused refusal) sti
 trees_cut P Q lined trees old mid new all k tree heard put Unread still count at each lines one more why = let s = trees_stop P Q lined trees old mid new all k tree heard put (Memory alloc_error) still count at each lines one more (inl refl) in
     record { heard = s.heard; puts = s.puts; each = s.each; lines = s.lines }
 
+-- what follows of each
+pub puts_trees_map : (P Q : LostTree → TreePut → Type 0) {lined : LostTree → TreePut → List ℕ} {trees : List LostTree} {old new : Stream} {good : Bool} → ((t : LostTree) (done : TreePut) → P t done → Q t done) → PutsTrees P lined trees old new good → PutsTrees Q lined trees old new good
+puts_trees_map P Q {trees = trees} to put = record { puts = put.puts; each = each_tree_map (IsAllOf P) (IsAllOf Q) (λ t done was. (to t done was.0, was.1)) trees put.puts put.each; all = put.all; lines = put.lines; says = put.says }
+
+pub stopped_map : (P Q : LostTree → TreePut → Type 0) {lined : LostTree → TreePut → List ℕ} {trees : List LostTree} {old new : Stream} (stop : Stop) → ((t : LostTree) (done : TreePut) → P t done → Q t done) → IfStopped (StopsAt P lined trees old new) (CutAt P lined trees old new) stop → IfStopped (StopsAt Q lined trees old new) (CutAt Q lined trees old new) stop
+stopped_map P Q {trees = trees} (Refused refusal) to s = record { heard = s.heard; puts = s.puts; each = each_tree_map P Q to trees s.puts s.each; lines = s.lines; why = s.why }
+stopped_map P Q {trees = trees} Unread to s = record { heard = s.heard; puts = s.puts; each = each_tree_map P Q to trees s.puts s.each; lines = s.lines }
+
 -- the same of the trees that are found
-pub stopped_in : {F I M S W : Type 0} (files : Ghosts F I M S W) (output : W → Stream) (deleted short : Bool) (folder : List ℕ) (new : F) (between after : Stream) (blocks : Blocks) (report : Report) (trees : List LostTree) (names : List FoundAt) (stop : Stop) → AreFoundOf deleted blocks report trees names
-    → IfStopped (StopsAt (IsTreePut files output new blocks report.volume short folder names) (tree_lines blocks report.volume short) trees between after) (CutAt (IsTreePut files output new blocks report.volume short folder names) (tree_lines blocks report.volume short) trees between after) stop
-    → IfStopped (TreesStop files output deleted short folder new between after blocks report) (TreesCut files output deleted short folder new between after blocks report) stop
-stopped_in files output deleted short folder new between after blocks report trees names (Refused refusal) are why = (trees, names, are, inr why)
-stopped_in files output deleted short folder new between after blocks report trees names Unread are why = (trees, names, are, why)
+pub stopped_in : {F I M S W : Type 0} (files : Ghosts F I M S W) (from : F) (deleted short : Bool) (folder : List ℕ) (new : F) (between after : Stream) (blocks : Blocks) (report : Report) (trees : List LostTree) (names : List FoundAt) (stop : Stop) → AreFoundOf deleted blocks report trees names
+    → IfStopped (StopsAt (IsTreePut files from new blocks report.volume short folder names) (tree_lines blocks report.volume short) trees between after) (CutAt (IsTreePut files from new blocks report.volume short folder names) (tree_lines blocks report.volume short) trees between after) stop
+    → IfStopped (TreesStop files from deleted short folder new between after blocks report) (TreesCut files from deleted short folder new between after blocks report) stop
+stopped_in files from deleted short folder new between after blocks report trees names (Refused refusal) are why = (trees, names, are, inr why)
+stopped_in files from deleted short folder new between after blocks report trees names Unread are why = (trees, names, are, why)
 
 pub good_trees_more : (all : List TreePut) (put : TreePut) → (list_all is_put_well all && all_good put.fates) ≡ list_all is_put_well (all ++ put ∷ [])
 good_trees_more [] put = last (all_good put.fates)

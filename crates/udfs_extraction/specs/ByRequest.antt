@@ -84,9 +84,9 @@ module _ {F I M S W : Type 0} (reach : Reach F I M S W) (old : F) (r : ExtractRe
 -- ---- what is made
 
 module _ {F I M S W : Type 0} (reach : Reach F I M S W) where
-  -- what the fate of a node says of its file at some moment
-  abbrev pub IsNodePut : ExtractRequest → F → Blocks → Report → ℕ → NodeFields → Fate → Type 0
-  IsNodePut r at blocks report = IsPutAt reach.files reach.output at blocks report (fill_of r.fill) r.short_names r.folder.now
+  -- what the fate of a node says of its file at some moment, by what failed since another
+  abbrev pub IsNodePut : ExtractRequest → F → F → Blocks → Report → ℕ → NodeFields → Fate → Type 0
+  IsNodePut r from at blocks report = IsPutAt reach.files from at blocks report (fill_of r.fill) r.short_names r.folder.now
 
   -- the manifest of the nodes with these fates, as their files are at moment `one`, is put at its place; or none is asked for
   abbrev pub PutsManifest : ExtractRequest → Option (List ℕ) → F → F → Report → List Fate → Type 0
@@ -97,21 +97,21 @@ module _ {F I M S W : Type 0} (reach : Reach F I M S W) where
 -- has changed by then but those of nodes that are asked for and of which a file is to be written
 pub record MakesNodes {F I M S W : Type 0} (reach : Reach F I M S W) (r : ExtractRequest) (place : Option (List ℕ)) (old one two : F) (before after : Stream) (blocks : Blocks) (report : Report) (good : Bool) : Type 0 where
   pub puts : PutsBy report.volume
-      (PutsListed (texts r.only.items) (node_line [] r.short_names report) (IsNodePut reach r one blocks report) (PutsManifest reach r place one two report) report.nodes before after good)
+      (PutsListed (texts r.only.items) (node_line [] r.short_names report) (IsNodePut reach r old one blocks report) (PutsManifest reach r place one two report) report.nodes before after good)
       (PutsNone old one report.volume before after good × (two ≡ one))
   pub elsewhere : (q : List ℕ) → IsElsewhere (texts r.only.items) (fill_of r.fill) r.short_names report r.folder.now q → reach.files.holds one q ≡ reach.files.holds old q
 
 -- the lost files are made and reported, and nothing outside of their folder changes; or they are not asked for
 abbrev pub MakesLost : {F I M S W O : Type 0} → Reach F I M S W → (O → Stream) → Option (Bor (List ℕ)) → F → F → O → O → Blocks → Report → Bool → Type 0
 MakesLost reach stream lost two new between after blocks report good = MatchOption lost ((new ≡ two) × (after ≡ between) × (good ≡ true))
-    (λ folder. PutsLost (IsLostPutAt reach.files reach.output new blocks report folder.now (has_two report.volume))
+    (λ folder. PutsLost (IsLostPutAt reach.files two new blocks report folder.now (has_two report.volume))
     (has_two report.volume) report.unnamed (stream between) (stream after) good × SparesLost reach.files folder.now two new)
 
 -- the lost folders are made and reported with what is in them, and then lost files, each by its number or by a name that is found for it, and nothing outside of their folder changes; or they are not asked for
 abbrev pub MakesTrees : {F I M S W O : Type 0} → Reach F I M S W → (O → Stream) → ExtractRequest → F → F → O → O → Blocks → Report → Bool → Type 0
 MakesTrees reach stream r three new between after blocks report good = MatchOption r.trees ((new ≡ three) × (after ≡ between) × (good ≡ true))
     (λ folder. ((trees : List LostTree) × (names : List FoundAt) × AreFoundOf r.deleted blocks report trees names ×
-    PutsTrees (IsTreePut reach.files reach.output new blocks report.volume r.short_names folder.now names) (tree_lines blocks report.volume r.short_names) trees (stream between) (stream after) good) ×
+    PutsTrees (IsTreePut reach.files three new blocks report.volume r.short_names folder.now names) (tree_lines blocks report.volume r.short_names) trees (stream between) (stream after) good) ×
     SparesLost reach.files folder.now three new)
 
 -- the nodes and their manifest, then the lost files, and then the lost folders, of which a volume that does not open may have some too; it is good where all are

@@ -5,6 +5,7 @@
 --     IsIn folder q                    a path below a folder by escaped names
 --     Spares folder held               nothing outside of the folder changes, nor any file that was there
 --     IsSafe .. path bytes             a path holds these bytes, and since some moment each crash leaves them
+--     NodeFails files from at path     why something failed at a path between two moments
 --     IsPutBy .. Stands index node fate    what the fate of a node says of its file, where `Stands` says it of a path and bytes
 --     IsPut, IsPutAt .. index node fate    the same, where each crash since some moment leaves the file
 --     SparesNodes                      no file that was there changes, nor anything outside of the folder, whatever crashes
@@ -14,7 +15,8 @@
 use Rattle.std.specs.Prelude.{◌≡◌, ◌≢◌, ◌⊎◌, ℕ, ◌≤◌, Bool, true, false, List, [], ◌∷◌, ◌++◌, ⊤, suc, Option, Some, None, cond, codes, drop, length, slice_get, if◌then◌else◌, ◌&&◌}
 use Rattle.std.specs.List.{list_all}
 use Rattle.udfs_file.specs.declared.cells.Cell.{Cell}
-use Rattle.udfs_host_fs.specs.Disk.{Disk, Fails, Goes, SinkFails}
+use Rattle.udfs_host_fs.specs.Disk.{Disk, Goes, folder_of}
+use Rattle.udfs_host_fs.specs.Failing.{FailedAt, Grow}
 use Rattle.udfs_host_fs.specs.declared.files.Files.{Ghosts}
 use Rattle.udfs_reading.specs.Writing.{Wrote, Failed as WriteFailed}
 use Rattle.udfs_walk.specs.NodeFields.{NodeFields}
@@ -121,11 +123,16 @@ pub record Spares (folder : List ℕ) (held : List ℕ → Option (Option (List 
 abbrev pub Stay : (List ℕ → Option (Option (List ℕ))) → (List ℕ → Option (Option (List ℕ))) → Type 0
 Stay old new = (q bytes : List ℕ) → old q ≡ Some (Some bytes) → new q ≡ Some (Some bytes)
 
--- no file that was there changes, nor anything outside of the folder, and no crash at any moment changes them
+-- no file that was there changes, nor anything outside of the folder, and no crash at any moment changes them; and no count of what failed falls
 pub record SparesNodes {F I M S W : Type 0} (files : Ghosts F I M S W) (folder : List ℕ) (before after : F) : Type 0 where
   pub stays : files.tells → Stay (files.holds before) (files.holds after)
   pub outside : (q : List ℕ) → (¬ IsIn folder q) → files.holds after q ≡ files.holds before q
   pub crash : files.tells → Goes files.moment files.may_leave files.left_since before after (Spares folder (files.holds before))
+  pub grow : Grow (files.failures before) (files.failures after)
+
+-- a call for this path failed meanwhile, or one that was to bring the names in a folder to the disk
+abbrev pub NodeFails : {F I M S W : Type 0} → Ghosts F I M S W → F → F → List ℕ → Type 0
+NodeFails files from at path = FailedAt path (files.failures from) (files.failures at) ⊎ ((q : List ℕ) × FailedAt (folder_of q) (files.failures from) (files.failures at))
 
 -- the path holds the bytes, and since some moment each crash leaves them
 pub record IsSafe (holds : List ℕ → Option (Option (List ℕ))) (moment : ℕ) (left_since : ℕ → Disk → Type 0) (path bytes : List ℕ) : Type 0 where
@@ -134,20 +141,20 @@ pub record IsSafe (holds : List ℕ → Option (Option (List ℕ))) (moment : �
   pub past : since ≤ moment
   pub durable : (c : Disk) → left_since since c → c path ≡ Some bytes
 
--- A file reported as written stands at its path, or with short names its place, with exactly the bytes of the node at this index, where the nodes are those from some root; nothing fails but for a fault.
-pub record IsPutBy (tells fails : Type 0) (blocks : Blocks) (report : Report) (fill : Fill) (short : Bool) (folder : List ℕ) (Stands : List ℕ → List ℕ → Type 0) (index : ℕ) (n : NodeFields) (fate : Fate) : Type 0 where
+-- A file reported as written stands at its path, or with short names its place, with exactly the bytes of the node at this index, where the nodes are those from some root; one that failed did so for a reason that `fails` says of that path.
+pub record IsPutBy (tells : Type 0) (fails : List ℕ → Type 0) (blocks : Blocks) (report : Report) (fill : Fill) (short : Bool) (folder : List ℕ) (Stands : List ℕ → List ℕ → Type 0) (index : ℕ) (n : NodeFields) (fate : Fate) : Type 0 where
   pub done : IsFateOf (deed n.kind n.standing n.size fill) fate
   pub written : fate ≡ Written → tells → (f : Found) (root : LongAd) → AreNodesFrom blocks f root report → (cs : List Cell) × HasCellsAt (view blocks f.space) root index cs
       × Stands (path_below folder (placed short report index n)) (filled (fill_byte fill) cs)
-  pub failed : is_good fate ≡ false → (f : Found) (root : LongAd) → AreNodesFrom blocks f root report → fails
+  pub failed : is_good fate ≡ false → (f : Found) (root : LongAd) → AreNodesFrom blocks f root report → fails (path_below folder (placed short report index n))
 
 -- the same, where each crash since some moment leaves the file
-abbrev pub IsPut : (tells fails : Type 0) → Blocks → Report → Fill → Bool → List ℕ → (List ℕ → Option (Option (List ℕ))) → ℕ → (ℕ → Disk → Type 0) → ℕ → NodeFields → Fate → Type 0
+abbrev pub IsPut : Type 0 → (List ℕ → Type 0) → Blocks → Report → Fill → Bool → List ℕ → (List ℕ → Option (Option (List ℕ))) → ℕ → (ℕ → Disk → Type 0) → ℕ → NodeFields → Fate → Type 0
 IsPut tells fails blocks report fill short folder holds moment left_since = IsPutBy tells fails blocks report fill short folder (IsSafe holds moment left_since)
 
--- the same at some moment
-abbrev pub IsPutAt : {F I M S W : Type 0} → Ghosts F I M S W → (W → Stream) → F → Blocks → Report → Fill → Bool → List ℕ → ℕ → NodeFields → Fate → Type 0
-IsPutAt files output at blocks report fill short folder = IsPut files.tells (Fails files.faults ⊎ SinkFails output) blocks report fill short folder (files.holds at) (files.moment at) (files.left_since at)
+-- the same at some moment, by what failed since another
+abbrev pub IsPutAt : {F I M S W : Type 0} → Ghosts F I M S W → F → F → Blocks → Report → Fill → Bool → List ℕ → ℕ → NodeFields → Fate → Type 0
+IsPutAt files from at blocks report fill short folder = IsPut files.tells (NodeFails files from at) blocks report fill short folder (files.holds at) (files.moment at) (files.left_since at)
 
 -- this holds of each node, of which the first has this index, and its fate, as far as there are fates
 abbrev pub Each : (ℕ → NodeFields → Fate → Type 0) → ℕ → List NodeFields → List Fate → Type 0

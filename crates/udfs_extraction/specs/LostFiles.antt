@@ -8,7 +8,8 @@
 --     IsNewFolder                      nothing is where the folder is to be, and other paths do not lead there
 use Rattle.std.specs.Prelude.{◌≡◌, ◌⊎◌, ℕ, Bool, false, List, [], ◌∷◌, ◌++◌, ⊤, Option, Some, None, cond, codes, length}
 use Rattle.udfs_file.specs.declared.cells.Cell.{Cell}
-use Rattle.udfs_host_fs.specs.Disk.{Disk, Fails, Goes, SinkFails}
+use Rattle.udfs_host_fs.specs.Disk.{Disk, Goes}
+use Rattle.udfs_host_fs.specs.Failing.{Grow}
 use Rattle.udfs_host_fs.specs.declared.files.Files.{Ghosts}
 use Rattle.udfs_reading.specs.Writing.{Wrote}
 use Rattle.udfs_lattice.specs.Volumes.{Blocks}
@@ -18,7 +19,7 @@ use Rattle.udfs_salvage.specs.Extraction.{filled}
 use Rattle.udfs_salvage.specs.Reports.{Report, IsReportBy}
 use Rattle.udfs_salvage.specs.Texts.{line}
 use Rattle.udfs_salvage.specs.UnnamedExtraction.{HasUnnamedCellsBy, is_lost_file}
-use Rattle.udfs_extraction.specs.Extracting.{IsFateOf, IsSafe, Stay, all_good, is_good}
+use Rattle.udfs_extraction.specs.Extracting.{IsFateOf, IsSafe, NodeFails, Stay, all_good, is_good}
 use Rattle.udfs_common.specs.Guarding.{NoneLeads}
 use Rattle.udfs_extraction.specs.ShortNames.{icb_number}
 use Rattle.udfs_extraction.specs.declared.nodes.Deed.{Deed}
@@ -63,11 +64,12 @@ pub record SparesUnder (folder : List ℕ) (held : List ℕ → Option (Option (
   pub outside : (q : List ℕ) → (¬ IsUnder folder q) → c q ≡ d q
   pub there : (q bytes : List ℕ) → held q ≡ Some (Some bytes) → c q ≡ d q
 
--- no file that was there changes, nor anything outside of the folder, and no crash at any moment changes them
+-- no file that was there changes, nor anything outside of the folder, and no crash at any moment changes them; and no count of what failed falls
 pub record SparesLost {F I M S W : Type 0} (files : Ghosts F I M S W) (folder : List ℕ) (before after : F) : Type 0 where
   pub stays : files.tells → Stay (files.holds before) (files.holds after)
   pub outside : (q : List ℕ) → (¬ IsUnder folder q) → files.holds after q ≡ files.holds before q
   pub crash : files.tells → Goes files.moment files.may_leave files.left_since before after (SparesUnder folder (files.holds before))
+  pub grow : Grow (files.failures before) (files.failures after)
 
 -- ---- what is put
 
@@ -75,16 +77,16 @@ pub record SparesLost {F I M S W : Type 0} (files : Ghosts F I M S W) (folder : 
 abbrev pub lost_deed : Unnamed → Deed
 lost_deed u = cond (is_lost_file u) File Skip
 
--- A file reported as written holds exactly the bytes of the body of its entry, and from some moment on each crash leaves it; nothing fails but for a fault.
-pub record IsLostPut (tells fails : Type 0) (blocks : Blocks) (report : Report) (folder : List ℕ) (two : Bool) (holds : List ℕ → Option (Option (List ℕ))) (moment : ℕ) (left_since : ℕ → Disk → Type 0) (u : Unnamed) (fate : Fate) : Type 0 where
+-- A file reported as written holds exactly the bytes of the body of its entry, and from some moment on each crash leaves it; one that failed did so for a reason that `fails` says of its path.
+pub record IsLostPut (tells : Type 0) (fails : List ℕ → Type 0) (blocks : Blocks) (report : Report) (folder : List ℕ) (two : Bool) (holds : List ℕ → Option (Option (List ℕ))) (moment : ℕ) (left_since : ℕ → Disk → Type 0) (u : Unnamed) (fate : Fate) : Type 0 where
   pub done : IsFateOf (lost_deed u) fate
   pub written : fate ≡ Written → tells → (profile : Profile) (last : ℕ) → IsReportBy profile blocks last report → (cs : List Cell) × HasUnnamedCellsBy profile blocks last u cs
       × IsSafe holds moment left_since (lost_path folder two u) (filled 0 cs)
-  pub failed : is_good fate ≡ false → (profile : Profile) (last : ℕ) → IsReportBy profile blocks last report → fails
+  pub failed : is_good fate ≡ false → (profile : Profile) (last : ℕ) → IsReportBy profile blocks last report → fails (lost_path folder two u)
 
--- the same at some moment
-abbrev pub IsLostPutAt : {F I M S W : Type 0} → Ghosts F I M S W → (W → Stream) → F → Blocks → Report → List ℕ → Bool → Unnamed → Fate → Type 0
-IsLostPutAt files output at blocks report folder two = IsLostPut files.tells (Fails files.faults ⊎ SinkFails output) blocks report folder two (files.holds at) (files.moment at) (files.left_since at)
+-- the same at some moment, by what failed since another
+abbrev pub IsLostPutAt : {F I M S W : Type 0} → Ghosts F I M S W → F → F → Blocks → Report → List ℕ → Bool → Unnamed → Fate → Type 0
+IsLostPutAt files from at blocks report folder two = IsLostPut files.tells (NodeFails files from at) blocks report folder two (files.holds at) (files.moment at) (files.left_since at)
 
 -- this holds of each entry and its fate, as far as there are fates
 abbrev pub EachLost : (Unnamed → Fate → Type 0) → List Unnamed → List Fate → Type 0

@@ -15,7 +15,8 @@
 --     IsUnbegun            memory ran out, or a place was rejected, or the inputs were not joined
 --     ExtractRefused       the same of the volume: which of these it was
 use Rattle.std.specs.Prelude.{◌≡◌, ◌≢◌, ◌⊎◌, ◌<◌, ◌+◌, ℕ, Bool, true, false, List, [], Option, Some, MatchOption, alloc_error, drop, length, slice_get}
-use Rattle.udfs_host_fs.specs.Disk.{Fails, SinkFails}
+use Rattle.udfs_host_fs.specs.Disk.{Fails}
+use Rattle.udfs_host_fs.specs.Failing.{SomeFailed}
 use Rattle.udfs_host_fs.specs.declared.files.Files.{Ghosts}
 use Rattle.udfs_lattice.specs.Tables.{Table, state_of}
 use Rattle.udfs_lattice.specs.Volumes.{Blocks}
@@ -45,7 +46,7 @@ use Rattle.udfs_remarks.specs.NoReports.{IsUntold}
 use Rattle.udfs_extraction.specs.BarePaths.{bare}
 use Rattle.udfs_extraction.specs.ByRequest.{IsNodePut, IsPlace, Makes, MakesLost, MakesNodes, fill_of}
 use Rattle.udfs_salvage.specs.Choosing.{is_node}
-use Rattle.udfs_extraction.specs.Extracting.{IsDone, IsPutAt, Puts, PutsBy, PutsOf, SparesNodes, TellsLines, node_line}
+use Rattle.udfs_extraction.specs.Extracting.{IsDone, IsPutAt, NodeFails, Puts, PutsBy, PutsOf, SparesNodes, TellsLines, node_line}
 use Rattle.udfs_extraction.specs.LostFiles.{EachLost, IsLostPutAt, lost_lines}
 use Rattle.udfs_extraction.specs.LostPlaces.{lost_report}
 use Rattle.udfs_extraction.specs.LostTrees.{AreFoundOf, CutAt, IsTreePut, IsUnfoundOf, StopsTrees, tree_lines}
@@ -95,39 +96,39 @@ abbrev pub StopsLost : Type 0 → (Unnamed → Fate → Type 0) → Bool → Lis
 StopsLost Failed P two us old new refusal = ((new ≡ old) × (refusal ≡ LostFolder) × Failed) ⊎
     ((heard : Bool) × (fates : List Fate) × EachLost P us fates × TellsLines heard old new (lost_lines two us fates) × StopsBehind heard (length fates) (length us) refusal)
 
--- ---- of files at some moment
+-- ---- of files at some moment, by what failed since another
 
-module _ {F I M S W : Type 0} (files : Ghosts F I M S W) (output : W → Stream) where
+module _ {F I M S W : Type 0} (files : Ghosts F I M S W) (from : F) where
   -- what is said of the lost files, in their own folder
   abbrev pub LostStops : List ℕ → F → Stream → Stream → Blocks → Report → Refusal → Type 0
   LostStops lost new between after blocks report refusal =
-      StopsLost (Fails files.faults) (IsLostPutAt files output new blocks report lost (has_two report.volume))
+      StopsLost (NodeFails files from new lost) (IsLostPutAt files from new blocks report lost (has_two report.volume))
       (has_two report.volume) report.unnamed between after refusal
 
   -- a block could not be read again: entries have their fates, and their lines as far as the output took them
   abbrev pub LostCut : List ℕ → F → Stream → Stream → Blocks → Report → Type 0
-  LostCut lost new between after blocks report = (heard : Bool) × (fates : List Fate) × EachLost (IsLostPutAt files output new blocks report lost (has_two report.volume)) report.unnamed fates ×
+  LostCut lost new between after blocks report = (heard : Bool) × (fates : List Fate) × EachLost (IsLostPutAt files from new blocks report lost (has_two report.volume)) report.unnamed fates ×
       TellsLines heard between after (lost_lines (has_two report.volume) report.unnamed fates)
 
   -- what is said of lost folders, in their own folder
   abbrev pub TreesStop : Bool → Bool → List ℕ → F → Stream → Stream → Blocks → Report → Refusal → Type 0
   TreesStop deleted short folder new between after blocks report refusal = (trees : List LostTree) × (names : List FoundAt) × AreFoundOf deleted blocks report trees names ×
-      StopsTrees (Fails files.faults) (IsTreePut files output new blocks report.volume short folder names) (tree_lines blocks report.volume short) trees between after refusal
+      StopsTrees (NodeFails files from new folder) (IsTreePut files from new blocks report.volume short folder names) (tree_lines blocks report.volume short) trees between after refusal
 
   -- a block could not be read again: nodes of lost folders have their fates and lines, up to some one
   abbrev pub TreesCut : Bool → Bool → List ℕ → F → Stream → Stream → Blocks → Report → Type 0
   TreesCut deleted short folder new between after blocks report = (trees : List LostTree) × (names : List FoundAt) × AreFoundOf deleted blocks report trees names ×
-      CutAt (IsTreePut files output new blocks report.volume short folder names) (tree_lines blocks report.volume short) trees between after
+      CutAt (IsTreePut files from new blocks report.volume short folder names) (tree_lines blocks report.volume short) trees between after
 
   -- extracting the nodes ended with this error
-  abbrev pub NodesStop : List (List ℕ) → List ℕ → Fill → Bool → F → F → Stream → Stream → Blocks → Report → Refusal → Type 0
-  NodesStop only folder fill short old new before after blocks report refusal =
-      StopsPutting (Fails files.faults) only short (λ told. IsPutAt files output new blocks told fill short folder) old new report before after refusal
+  abbrev pub NodesStop : List (List ℕ) → List ℕ → Fill → Bool → F → Stream → Stream → Blocks → Report → Refusal → Type 0
+  NodesStop only folder fill short new before after blocks report refusal =
+      StopsPutting (NodeFails files from new folder) only short (λ told. IsPutAt files from new blocks told fill short folder) from new report before after refusal
 
   -- a block could not be read again: nodes from the first after the root on have their fates, and their lines as far as the output took them
   abbrev pub NodesCut : List (List ℕ) → List ℕ → Fill → Bool → F → Stream → Stream → Blocks → Report → Type 0
   NodesCut only folder fill short new before after blocks report =
-      PutsBy report.volume ((heard : Bool) × (fates : List Fate) × Puts (node_line [] short report) (IsDone only (IsPutAt files output new blocks report fill short folder)) report.nodes before after heard fates) ⊥
+      PutsBy report.volume ((heard : Bool) × (fates : List Fate) × Puts (node_line [] short report) (IsDone only (IsPutAt files from new blocks report fill short folder)) report.nodes before after heard fates) ⊥
 
 -- ---- by the request
 
@@ -135,13 +136,13 @@ module _ {F I M S W : Type 0} (files : Ghosts F I M S W) (output : W → Stream)
 pub record Unlisted {F I M S W : Type 0} (reach : Reach F I M S W) (r : ExtractRequest) (there : List ℕ) (old new : F) (before after : Stream) (blocks : Blocks) (report : Report) (refusal : Refusal) : Type 0 where
   pub one : F
   pub good : Bool
-  pub puts : PutsOf (texts r.only.items) r.short_names (IsNodePut reach r one blocks) old one report before after good
-  pub unput : IsUnput (Fails reach.files.faults ⊎ SinkFails reach.output) refusal
+  pub puts : PutsOf (texts r.only.items) r.short_names (IsNodePut reach r old one blocks) old one report before after good
+  pub unput : IsUnput (SomeFailed (reach.files.failures one) (reach.files.failures new)) refusal
   pub stays : refusal ≢ Unkept → reach.files.holds new there ≡ reach.files.holds one there
 
 -- extracting the nodes ended with this error, and nothing outside of their folder changed; or putting their manifest did
 abbrev pub ListStops : {F I M S W : Type 0} → Reach F I M S W → ExtractRequest → Option (List ℕ) → F → F → Stream → Stream → Blocks → Report → Refusal → Type 0
-ListStops reach r place old new before after blocks report refusal = (NodesStop reach.files reach.output (texts r.only.items) r.folder.now (fill_of r.fill) r.short_names old new before after blocks report refusal × SparesNodes reach.files r.folder.now old new) ⊎
+ListStops reach r place old new before after blocks report refusal = (NodesStop reach.files old (texts r.only.items) r.folder.now (fill_of r.fill) r.short_names new before after blocks report refusal × SparesNodes reach.files r.folder.now old new) ⊎
     MatchOption place ⊥ (λ there. Unlisted reach r there old new before after blocks report refusal)
 
 -- at some moment the nodes were put and reported, and their manifest put, and then putting the lost files ended with this error
@@ -151,7 +152,7 @@ pub record StopsAdding {F I M S W O : Type 0} (reach : Reach F I M S W) (stream 
   pub between : O
   pub good : Bool
   pub nodes : MakesNodes reach r place old one two (stream before) (stream between) blocks report good
-  pub lost : LostStops reach.files reach.output folder new (stream between) (stream after) blocks report refusal
+  pub lost : LostStops reach.files two folder new (stream between) (stream after) blocks report refusal
 
 -- at some moment all of that was put and reported, and then putting the lost folders ended with this error
 pub record StopsBeyond {F I M S W O : Type 0} (reach : Reach F I M S W) (stream : O → Stream) (r : ExtractRequest) (place : Option (List ℕ)) (folder : List ℕ) (old new : F) (before after : O) (last : ℕ) (blocks : Blocks) (report : Report) (refusal : Refusal) : Type 0 where
@@ -164,7 +165,7 @@ pub record StopsBeyond {F I M S W O : Type 0} (reach : Reach F I M S W) (stream 
   pub lost_good : Bool
   pub nodes : MakesNodes reach r place old one two (stream before) (stream between) blocks report nodes_good
   pub lost : MakesLost reach stream r.lost two three between beyond blocks report lost_good
-  pub trees : TreesStop reach.files reach.output r.deleted r.short_names folder new (stream beyond) (stream after) blocks (lost_report r.volume.profile blocks last report) refusal
+  pub trees : TreesStop reach.files three r.deleted r.short_names folder new (stream beyond) (stream after) blocks (lost_report r.volume.profile blocks last report) refusal
 
 -- the nodes, their manifest, the lost files, or the lost folders were not put and reported, or only in part
 abbrev pub MakingStops : {F I M S W O : Type 0} → Reach F I M S W → (O → Stream) → ExtractRequest → Option (List ℕ) → F → F → O → O → ℕ → Blocks → Report → Refusal → Type 0
@@ -214,7 +215,7 @@ pub record CutAdding {F I M S W O : Type 0} (reach : Reach F I M S W) (stream : 
   pub between : O
   pub good : Bool
   pub nodes : MakesNodes reach r place old one two (stream before) (stream between) blocks report good
-  pub lost : LostCut reach.files reach.output folder new (stream between) (stream after) blocks report
+  pub lost : LostCut reach.files two folder new (stream between) (stream after) blocks report
 
 -- or all of that was, and then lost folders were, up to some node
 pub record CutBeyond {F I M S W O : Type 0} (reach : Reach F I M S W) (stream : O → Stream) (r : ExtractRequest) (place : Option (List ℕ)) (folder : List ℕ) (old new : F) (before after : O) (last : ℕ) (blocks : Blocks) (report : Report) : Type 0 where
@@ -227,12 +228,12 @@ pub record CutBeyond {F I M S W O : Type 0} (reach : Reach F I M S W) (stream : 
   pub lost_good : Bool
   pub nodes : MakesNodes reach r place old one two (stream before) (stream between) blocks report nodes_good
   pub lost : MakesLost reach stream r.lost two three between beyond blocks report lost_good
-  pub trees : TreesCut reach.files reach.output r.deleted r.short_names folder new (stream beyond) (stream after) blocks (lost_report r.volume.profile blocks last report)
+  pub trees : TreesCut reach.files three r.deleted r.short_names folder new (stream beyond) (stream after) blocks (lost_report r.volume.profile blocks last report)
 
 -- A block of a report's volume could not be read again. Nothing was made or reported then; or nodes were, up to some one, and nothing outside of their folder changed; or what is lost was, as far.
 abbrev pub ListedCut : {F I M S W O : Type 0} → Reach F I M S W → (O → Stream) → ExtractRequest → Option (List ℕ) → F → F → O → O → ℕ → Blocks → Report → Type 0
 ListedCut reach stream r place old new before after last blocks report = ((new ≡ old) × (after ≡ before)) ⊎
-    (NodesCut reach.files reach.output (texts r.only.items) r.folder.now (fill_of r.fill) r.short_names new (stream before) (stream after) blocks report × SparesNodes reach.files r.folder.now old new) ⊎
+    (NodesCut reach.files old (texts r.only.items) r.folder.now (fill_of r.fill) r.short_names new (stream before) (stream after) blocks report × SparesNodes reach.files r.folder.now old new) ⊎
     MatchOption r.lost ⊥ (λ folder. CutAdding reach stream r place folder.now old new before after blocks report) ⊎
     MatchOption r.trees ⊥ (λ folder. CutBeyond reach stream r place folder.now old new before after last blocks report)
 

@@ -12,7 +12,8 @@
 --     RunsOn .. first before after    nodes from some index on have their fates, and their lines where the output took all before them
 use Rattle.std.specs.Prelude.{◌≡◌, ◌≢◌, ◌⊎◌, ℕ, ◌+◌, Bool, true, false, List, Option, Some, drop, slice_get, string_bytes}
 use Rattle.udfs_common.specs.Keeping.{IsKept}
-use Rattle.udfs_host_fs.specs.Disk.{Disk, Fails, Goes, SinkFails, folder_of}
+use Rattle.udfs_host_fs.specs.Disk.{Disk, Goes, folder_of}
+use Rattle.udfs_host_fs.specs.Failing.{Grow}
 use Rattle.udfs_host_fs.specs.declared.files.Files.{Ghosts}
 use Rattle.udfs_lattice.specs.Volumes.{Blocks}
 use Rattle.udfs_reading.specs.Device.{Stream}
@@ -20,7 +21,7 @@ use Rattle.udfs_salvage.specs.Choosing.{is_chosen}
 use Rattle.udfs_salvage.specs.Reports.{Report}
 use Rattle.udfs_salvage.specs.declared.extraction.Fill.{Fill}
 use Rattle.udfs_walk.specs.NodeFields.{NodeFields}
-use Rattle.udfs_extraction.specs.Extracting.{Each, IsDone, IsElsewhere, IsIn, IsPutBy, Spares, Stay, TellsOn, deed, fate_lines, path_below}
+use Rattle.udfs_extraction.specs.Extracting.{Each, IsDone, IsElsewhere, IsIn, IsPutBy, NodeFails, Spares, Stay, TellsOn, deed, fate_lines, path_below}
 use Rattle.udfs_extraction.specs.Manifests.{IsNoted}
 use Rattle.udfs_extraction.specs.ShortNames.{own_name, placed}
 use Rattle.udfs_extraction.specs.declared.naming.Put.{Put}
@@ -28,21 +29,21 @@ use Rattle.udfs_extraction.specs.declared.nodes.Deed.TheVariants.{File}
 use Rattle.udfs_extraction.specs.declared.nodes.Fate.{Fate}
 use Rattle.udfs_extraction.specs.declared.nodes.Fate.TheVariants.{Failed, Left, Written}
 
--- what the fate of a node says of its file at some moment: its path holds the bytes
-abbrev pub IsHeldAt : {F I M S W : Type 0} → Ghosts F I M S W → (W → Stream) → F → Blocks → Report → Fill → Bool → List ℕ → ℕ → NodeFields → Fate → Type 0
-IsHeldAt files output at blocks report fill short folder = IsPutBy files.tells (Fails files.faults ⊎ SinkFails output) blocks report fill short folder (λ path bytes. files.holds at path ≡ Some (Some bytes))
+-- what the fate of a node says of its file at some moment, by what failed since another: its path holds the bytes
+abbrev pub IsHeldAt : {F I M S W : Type 0} → Ghosts F I M S W → F → F → Blocks → Report → Fill → Bool → List ℕ → ℕ → NodeFields → Fate → Type 0
+IsHeldAt files from at blocks report fill short folder = IsPutBy files.tells (NodeFails files from at) blocks report fill short folder (λ path bytes. files.holds at path ≡ Some (Some bytes))
 
 -- its path and short name, what its fate says of its file, and that a digest is that of what the path holds
-pub record IsHeld {F I M S W : Type 0} (files : Ghosts F I M S W) (output : W → Stream) (at : F) (only : List (List ℕ)) (blocks : Blocks) (report : Report) (fill : Fill) (short digest : Bool) (folder : List ℕ) (index : ℕ) (n : NodeFields) (put : Put) : Type 0 where
+pub record IsHeld {F I M S W : Type 0} (files : Ghosts F I M S W) (from at : F) (only : List (List ℕ)) (blocks : Blocks) (report : Report) (fill : Fill) (short digest : Bool) (folder : List ℕ) (index : ℕ) (n : NodeFields) (put : Put) : Type 0 where
   pub path : string_bytes put.path ≡ path_below folder (placed short report index n)
   pub own : put.place.own ≡ own_name short report n
-  pub done : IsDone only (IsHeldAt files output at blocks report fill short folder) index n put.done.fate
+  pub done : IsDone only (IsHeldAt files from at blocks report fill short folder) index n put.done.fate
   pub noted : IsNoted digest files.tells (files.holds at) (string_bytes put.path) put.done.fate put.done.digest
 
 -- the same of nodes in order, of which the first has this index
-abbrev pub AreHeld : {F I M S W : Type 0} → Ghosts F I M S W → (W → Stream) → F → List (List ℕ) → Blocks → Report → Fill → Bool → Bool → List ℕ → ℕ → List Put → Type 0
-AreHeld files output at only blocks report fill short digest folder first puts =
-    (k : ℕ) (n : NodeFields) (put : Put) → slice_get puts k ≡ Some put → slice_get report.nodes (first + k) ≡ Some n → IsHeld files output at only blocks report fill short digest folder (first + k) n put
+abbrev pub AreHeld : {F I M S W : Type 0} → Ghosts F I M S W → F → F → List (List ℕ) → Blocks → Report → Fill → Bool → Bool → List ℕ → ℕ → List Put → Type 0
+AreHeld files from at only blocks report fill short digest folder first puts =
+    (k : ℕ) (n : NodeFields) (put : Put) → slice_get puts k ≡ Some put → slice_get report.nodes (first + k) ≡ Some n → IsHeld files from at only blocks report fill short digest folder (first + k) n put
 
 -- its path; and where its file was written, it is asked for, and a file is to be written of it
 pub record IsPlaced (only : List (List ℕ)) (report : Report) (fill : Fill) (short : Bool) (folder : List ℕ) (index : ℕ) (n : NodeFields) (put : Put) : Type 0 where
@@ -81,12 +82,13 @@ IsOfPut puts q = (k : ℕ) × (put : Put) × (slice_get puts k ≡ Some put) × 
 abbrev pub SameButPuts : List Put → Disk → Disk → Type 0
 SameButPuts puts d c = (q : List ℕ) → (¬ IsOfPut puts q) → c q ≡ d q
 
--- each file that was there stays, and so does what is outside of the folder, and each path but that of a node that is asked for and of which a file is to be written, whatever crashes
+-- each file that was there stays, and so does what is outside of the folder, and each path but that of a node that is asked for and of which a file is to be written, whatever crashes; and no count of what failed falls
 pub record SparesRun {F I M S W : Type 0} (files : Ghosts F I M S W) (only : List (List ℕ)) (fill : Fill) (short : Bool) (report : Report) (folder : List ℕ) (before after : F) : Type 0 where
   pub stays : files.tells → Stay (files.holds before) (files.holds after)
   pub outside : (q : List ℕ) → (¬ IsIn folder q) → files.holds after q ≡ files.holds before q
   pub elsewhere : (q : List ℕ) → IsElsewhere only fill short report folder q → files.holds after q ≡ files.holds before q
   pub crash : files.tells → Goes files.moment files.may_leave files.left_since before after (Spares folder (files.holds before))
+  pub grow : Grow (files.failures before) (files.failures after)
 
 -- nodes from this index on have their fates, and their lines, where the output took all before them
 pub record RunsOn (lined : Fate → NodeFields → List ℕ) (P : ℕ → NodeFields → Fate → Type 0) (first : ℕ) (nodes : List NodeFields) (before still : Bool) (old new : Stream) (fates : List Fate) : Type 0 where

@@ -1,15 +1,14 @@
 //! The digest of what is written to an output is taken on the way.
 
-ghost use Rattle.std.specs.Prelude.{◌≡◌, ◌<◌, ◌≤◌, ℕ, List, Some, [], true, IfOk, IfErr, length};
+ghost use Rattle.std.specs.Prelude.{◌≡◌, ◌≢◌, ◌<◌, ◌≤◌, ℕ, List, Some, [], true, IfOk, IfErr, length};
 ghost use Rattle.std.specs.Io.KnownBytes.{WriteAppends};
-ghost use Rattle.udfs_host_fs.specs.Disk.{Fails, SinkFails};
 ghost use Rattle.udfs_extraction.specs.Digests.{HasTaken};
 ghost use Rattle.sha2.specs.Sha256.{sha256};
 ghost use Rattle.udfs_reading.specs.Device.{CountsFault};
 
 use sha2::{Digest, Sha256};
 use udfs_common::files::Files;
-use udfs_host_fs::{Handle, Job, fill_by};
+use udfs_host_fs::{GivenUp, Handle, Job, fill_by};
 use udfs_reading::{DeviceFault, Sink};
 
 /// An output that hands on what it is given, and adds what was taken of it to a hasher.
@@ -65,12 +64,16 @@ pub struct Filled<F: Files> {
 }
 
 /// Does a job on an output, and takes the digest.
-fn fill_and_digest<F: Files, J: Job>(output: F::Output, job: &J) -> Result<Filled<F>, J::Refusal>
+fn fill_and_digest<F: Files, J: Job>(
+    output: F::Output,
+    job: &J,
+) -> Result<Filled<F>, GivenUp<F::Output, J::Refusal>>
     requires empty { F.tells → (F.Output.stream output).contents ≡ Some [] }
     ensures number { IfOk result (λ full. F.Output.number full.output ≡ F.Output.number output) }
     ensures wrote { IfOk result (λ full. J.wrote job.now (F.Output.stream output).contents (F.Output.stream full.output).contents) }
     ensures digest { IfOk result (λ full. F.tells → (bytes : List ℕ) × ((F.Output.stream full.output).contents ≡ Some bytes) × (full.digest ≡ Some (sha256 bytes))) }
-    ensures cause { IfErr result (λ refusal. J.blames_sink job.now refusal → SinkFails F.Output.stream) }
+    ensures back { IfErr result (λ given_up. F.Output.number given_up.handle ≡ F.Output.number output) }
+    ensures moved { IfErr result (λ given_up. J.blames_sink job.now given_up.refusal → (F.Output.stream given_up.handle).faults ≢ (F.Output.stream output).faults) }
 {
     let begun: Digesting<F> = Digesting {
         output,
@@ -81,7 +84,16 @@ fn fill_and_digest<F: Files, J: Job>(output: F::Output, job: &J) -> Result<Fille
             output,
             digest: Some(hash.finalize()),
         }),
-        Err(refusal) => Err(refusal),
+        Err(GivenUp { handle, refusal }) => {
+            let Digesting {
+                output,
+                hash: _hash,
+            } = handle;
+            Err(GivenUp {
+                handle: output,
+                refusal,
+            })
+        }
     }
 }
 
@@ -89,23 +101,24 @@ fn fill_and_digest<F: Files, J: Job>(output: F::Output, job: &J) -> Result<Fille
 ///
 /// # Errors
 ///
-/// The error of the job. Then the output is closed.
+/// The error of the job, with the output.
 pub fn fill_noting<F: Files, J: Job>(
     output: F::Output,
     job: &J,
     digest: bool,
-) -> Result<Filled<F>, J::Refusal>
+) -> Result<Filled<F>, GivenUp<F::Output, J::Refusal>>
     requires empty { F.tells → (F.Output.stream output).contents ≡ Some [] }
     ensures number { IfOk result (λ full. F.Output.number full.output ≡ F.Output.number output) }
     ensures wrote { IfOk result (λ full. J.wrote job.now (F.Output.stream output).contents (F.Output.stream full.output).contents) }
     // The digest is that of the bytes that the output has.
     ensures digest { IfOk result (λ full. digest ≡ true → F.tells → (bytes : List ℕ) × ((F.Output.stream full.output).contents ≡ Some bytes) × (full.digest ≡ Some (sha256 bytes))) }
-    ensures cause { IfErr result (λ refusal. J.blames_sink job.now refusal → SinkFails F.Output.stream) }
+    ensures back { IfErr result (λ given_up. F.Output.number given_up.handle ≡ F.Output.number output) }
+    ensures moved { IfErr result (λ given_up. J.blames_sink job.now given_up.refusal → (F.Output.stream given_up.handle).faults ≢ (F.Output.stream output).faults) }
 {
     if digest {
         return match fill_and_digest(output, job) {
             Ok(filled) => Ok(filled),
-            Err(refusal) => Err(refusal),
+            Err(given_up) => Err(given_up),
         };
     }
     match fill_by(output, job) {
@@ -113,6 +126,6 @@ pub fn fill_noting<F: Files, J: Job>(
             output,
             digest: None,
         }),
-        Err(refusal) => Err(refusal),
+        Err(given_up) => Err(given_up),
     }
 }

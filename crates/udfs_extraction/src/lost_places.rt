@@ -179,9 +179,9 @@ pub fn put_lost<B: BlockStore, F: Files, O: Sink>(
         (lost_report listing.profile (B.states listing.table.now) listing.last (listing_by B.states listing)) lost.trees.items lost.names) }
     ensures made { IfOk result (λ good. B.tells → MakesTrees ⟦<F as Known>⟧.reach O.stream request.now files.old files.new out.old out.new (B.states listing.entry.table.now)
         (lost_report listing.entry.profile (B.states listing.entry.table.now) listing.entry.last (listing_by B.states listing.entry)) good) }
-    ensures why { IfErr result (λ stop. B.tells → MatchOption request.now.trees ⊥ (λ folder. IfStopped (TreesStop F.Files F.Output.stream request.now.deleted request.now.short_names folder.now files.new (O.stream out.old) (O.stream out.new)
+    ensures why { IfErr result (λ stop. B.tells → MatchOption request.now.trees ⊥ (λ folder. IfStopped (TreesStop F.Files files.old request.now.deleted request.now.short_names folder.now files.new (O.stream out.old) (O.stream out.new)
         (B.states listing.entry.table.now) (lost_report listing.entry.profile (B.states listing.entry.table.now) listing.entry.last (listing_by B.states listing.entry)))
-        (TreesCut F.Files F.Output.stream request.now.deleted request.now.short_names folder.now files.new (O.stream out.old) (O.stream out.new)
+        (TreesCut F.Files files.old request.now.deleted request.now.short_names folder.now files.new (O.stream out.old) (O.stream out.new)
         (B.states listing.entry.table.now) (lost_report listing.entry.profile (B.states listing.entry.table.now) listing.entry.last (listing_by B.states listing.entry))) stop)) }
     ensures spares { MatchOption request.now.trees (files.new ≡ files.old) (λ folder. SparesLost F.Files folder.now files.old files.new) }
     ensures no_node { (i : ℕ) → IsErrOf result (Stop.Refused (Refusal.NoNode i)) → ⊥ }

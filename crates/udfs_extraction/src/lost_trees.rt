@@ -57,7 +57,7 @@ fn put_first<B: BlockStore, F: Files, O: Sink>(
 ) -> Result<First, GaveUp>
     requires { 0 < length listing.now.nodes.items }
     ensures put { IfOk result (λ first. B.tells → (n : NodeFields) → slice_get (listing_by B.states listing.now).nodes 0 ≡ Some n →
-        IsPutAt F.Files F.Output.stream files.new (B.states listing.now.table.now) (listing_by B.states listing.now) Fill.Refuse short folder.now 0 n first.fate ×
+        IsPutAt F.Files files.old files.new (B.states listing.now.table.now) (listing_by B.states listing.now) Fill.Refuse short folder.now 0 n first.fate ×
         TellsLines first.heard (O.stream out.old) (O.stream out.new) (node_line word.now short (listing_by B.states listing.now) first.fate n)) }
     ensures memory { OnErr result (out.new ≡ out.old) }
     ensures spares { SparesNodes F.Files folder.now files.old files.new }
@@ -90,7 +90,7 @@ fn put_tree<B: BlockStore, F: Files, O: Sink>(
     files: &mut F,
     out: &mut O,
 ) -> Result<bool, Stop>
-    ensures put { B.tells → (heard : Bool) × (fates : List Fate) × Each (IsPutAt F.Files F.Output.stream files.new (B.states listing.now.table.now) (listing_by B.states listing.now) Fill.Refuse short folder.now) 0 (listing_by B.states listing.now).nodes fates ×
+    ensures put { B.tells → (heard : Bool) × (fates : List Fate) × Each (IsPutAt F.Files files.old files.new (B.states listing.now.table.now) (listing_by B.states listing.now) Fill.Refuse short folder.now) 0 (listing_by B.states listing.now).nodes fates ×
         TellsLines heard (O.stream out.old) (O.stream out.new) (fate_lines (node_line word.now short (listing_by B.states listing.now)) (listing_by B.states listing.now).nodes fates) ×
         IfOk result (λ good. (length fates ≡ length listing.now.nodes.items) × (heard ≡ true) × (good ≡ all_good fates)) ×
         IfErr result (IfStopped (λ refusal. (refusal ≡ Refusal.Memory alloc_error) ⊎ ((refusal ≡ Refusal.Output) × (heard ≡ false))) ⊤) }
@@ -144,7 +144,7 @@ fn put_lost_tree<B: BlockStore, F: Files, O: Sink>(
     files: &mut F,
     out: &mut O,
 ) -> Result<bool, Stop>
-    ensures put { B.tells → (heard : Bool) × (put : TreePut) × IsTreePut F.Files F.Output.stream files.new (B.states listing.now.table.now) (volume_now listing.now.volume) short folder.now names.now (record { folder = icb; nodes = listing.now.nodes }) put ×
+    ensures put { B.tells → (heard : Bool) × (put : TreePut) × IsTreePut F.Files files.old files.new (B.states listing.now.table.now) (volume_now listing.now.volume) short folder.now names.now (record { folder = icb; nodes = listing.now.nodes }) put ×
         TellsLines heard (O.stream out.old) (O.stream out.new) (tree_lines (B.states listing.now.table.now) (volume_now listing.now.volume) short (record { folder = icb; nodes = listing.now.nodes }) put) ×
         IfOk result (λ good. (length put.fates ≡ length listing.now.nodes.items) × (heard ≡ true) × (good ≡ all_good put.fates)) ×
         IfErr result (IfStopped (λ refusal. (refusal ≡ Refusal.Memory alloc_error) ⊎ ((refusal ≡ Refusal.Output) × (heard ≡ false))) ⊤) }
@@ -184,7 +184,7 @@ fn put_next<B: BlockStore, F: Files, O: Sink>(
     files: &mut F,
     out: &mut O,
 ) -> Result<bool, Stop>
-    ensures put { B.tells → (heard : Bool) × (put : TreePut) × IsTreePut F.Files F.Output.stream files.new (B.states listing.old.table.now) (volume_now listing.old.volume) short folder.now names.now tree put ×
+    ensures put { B.tells → (heard : Bool) × (put : TreePut) × IsTreePut F.Files files.old files.new (B.states listing.old.table.now) (volume_now listing.old.volume) short folder.now names.now tree put ×
         TellsLines heard (O.stream out.old) (O.stream out.new) (tree_lines (B.states listing.old.table.now) (volume_now listing.old.volume) short tree put) ×
         IfOk result (λ good. (length put.fates ≡ length tree.nodes.items) × (heard ≡ true) × (good ≡ all_good put.fates)) ×
         IfErr result (IfStopped (λ refusal. (refusal ≡ Refusal.Memory alloc_error) ⊎ ((refusal ≡ Refusal.Output) × (heard ≡ false))) ⊤) }
@@ -213,11 +213,11 @@ fn put_trees<B: BlockStore, F: Files, O: Sink>(
     files: &mut F,
     out: &mut O,
 ) -> Result<bool, Stop>
-    ensures put { IfOk result (λ good. B.tells → PutsTrees (IsTreePut F.Files F.Output.stream files.new (B.states listing.entry.table.now) (volume_now listing.entry.volume) short folder.now names.now)
+    ensures put { IfOk result (λ good. B.tells → PutsTrees (IsTreePut F.Files files.old files.new (B.states listing.entry.table.now) (volume_now listing.entry.volume) short folder.now names.now)
         (tree_lines (B.states listing.entry.table.now) (volume_now listing.entry.volume) short) trees.items (O.stream out.old) (O.stream out.new) good) }
-    ensures why { IfErr result (λ stop. B.tells → IfStopped (StopsAt (IsTreePut F.Files F.Output.stream files.new (B.states listing.entry.table.now) (volume_now listing.entry.volume) short folder.now names.now)
+    ensures why { IfErr result (λ stop. B.tells → IfStopped (StopsAt (IsTreePut F.Files files.old files.new (B.states listing.entry.table.now) (volume_now listing.entry.volume) short folder.now names.now)
         (tree_lines (B.states listing.entry.table.now) (volume_now listing.entry.volume) short) trees.items (O.stream out.old) (O.stream out.new))
-        (CutAt (IsTreePut F.Files F.Output.stream files.new (B.states listing.entry.table.now) (volume_now listing.entry.volume) short folder.now names.now)
+        (CutAt (IsTreePut F.Files files.old files.new (B.states listing.entry.table.now) (volume_now listing.entry.volume) short folder.now names.now)
         (tree_lines (B.states listing.entry.table.now) (volume_now listing.entry.volume) short) trees.items (O.stream out.old) (O.stream out.new)) stop) }
     ensures spares { SparesLost F.Files folder.now files.old files.new }
     ensures no_node { (i : ℕ) → IsErrOf result (Stop.Refused (Refusal.NoNode i)) → ⊥ }
@@ -263,8 +263,8 @@ pub fn add_trees<B: BlockStore, F: Files, O: Sink>(
 ) -> Result<bool, Stop>
     requires { MatchOption request.now.trees ⊤ (λ folder. B.tells → AreFoundOf request.now.deleted (B.states listing.table.now) (listing_by B.states listing) lost.trees.items lost.names) }
     ensures made { IfOk result (λ good. B.tells → MakesTrees ⟦<F as Known>⟧.reach O.stream request.now files.old files.new out.old out.new (B.states listing.entry.table.now) (listing_by B.states listing.entry) good) }
-    ensures why { IfErr result (λ stop. B.tells → MatchOption request.now.trees ⊥ (λ folder. IfStopped (TreesStop F.Files F.Output.stream request.now.deleted request.now.short_names folder.now files.new (O.stream out.old) (O.stream out.new) (B.states listing.entry.table.now) (listing_by B.states listing.entry))
-        (TreesCut F.Files F.Output.stream request.now.deleted request.now.short_names folder.now files.new (O.stream out.old) (O.stream out.new) (B.states listing.entry.table.now) (listing_by B.states listing.entry)) stop)) }
+    ensures why { IfErr result (λ stop. B.tells → MatchOption request.now.trees ⊥ (λ folder. IfStopped (TreesStop F.Files files.old request.now.deleted request.now.short_names folder.now files.new (O.stream out.old) (O.stream out.new) (B.states listing.entry.table.now) (listing_by B.states listing.entry))
+        (TreesCut F.Files files.old request.now.deleted request.now.short_names folder.now files.new (O.stream out.old) (O.stream out.new) (B.states listing.entry.table.now) (listing_by B.states listing.entry)) stop)) }
     ensures spares { MatchOption request.now.trees (files.new ≡ files.old) (λ folder. SparesLost F.Files folder.now files.old files.new) }
     ensures no_node { (i : ℕ) → IsErrOf result (Stop.Refused (Refusal.NoNode i)) → ⊥ }
     ensures fails { IsErrOf result Stop.Unread → (B.fails → ⊥) → ⊥ }

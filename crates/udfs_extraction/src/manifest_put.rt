@@ -1,7 +1,7 @@
 //! The files and folders of a volume, written into a new folder, and then a manifest of them.
 
 ghost use Rattle.std.specs.Prelude.{◌≡◌, ◌≢◌, ◌⊎◌, ℕ, List, Some, IfOk, IfErr, IsErrOf, MatchOption, OnOk, alloc_error, option_map, string_bytes};
-ghost use Rattle.udfs_host_fs.specs.Disk.{Fails, SinkFails};
+ghost use Rattle.udfs_host_fs.specs.Failing.{SomeFailed};
 ghost use Rattle.udfs_salvage.specs.Listings.{listing_by};
 ghost use Rattle.udfs_words.specs.Requests.{texts};
 ghost use Rattle.udfs_common.specs.Keeping.{IsKept};
@@ -53,7 +53,7 @@ fn put_manifest<B: BlockStore, F: Files>(
     // What is there stays until the new one is put.
     ensures may { F.tells → MayPut F.Files place.now files.old files.new (notes_text short (listing_by B.states listing.now) noted.now) }
     ensures refused { IfErr result (λ refusal. refusal ≢ Refusal.Unkept → F.holds files.new place.now ≡ F.holds files.old place.now) }
-    ensures why { IfErr result (IsUnput (Fails F.faults ⊎ SinkFails F.Output.stream)) }
+    ensures why { IfErr result (IsUnput (SomeFailed (F.failures files.old) (F.failures files.new))) }
 {
     let text = ManifestText {
         alloc,
@@ -78,7 +78,7 @@ fn add_manifest<B: BlockStore, F: Files>(
 ) -> Result<(), Refusal>
     ensures put { OnOk result (ByManifest (files.new ≡ files.old) (option_map string_bytes place.now) (option_map (λ m. notes_text short (listing_by B.states listing.now) m.items) noted.now) (λ there text. F.tells → IsPutLast F.Files there files.old files.new text)) }
     ensures may { ByManifest (files.new ≡ files.old) (option_map string_bytes place.now) (option_map (λ m. notes_text short (listing_by B.states listing.now) m.items) noted.now) (λ there text. F.tells → MayPut F.Files there files.old files.new text) }
-    ensures why { IfErr result (λ refusal. MatchOption (option_map string_bytes place.now) ⊥ (λ there. IsUnput (Fails F.faults ⊎ SinkFails F.Output.stream) refusal × (refusal ≢ Refusal.Unkept → F.holds files.new there ≡ F.holds files.old there))) }
+    ensures why { IfErr result (λ refusal. MatchOption (option_map string_bytes place.now) ⊥ (λ there. IsUnput (SomeFailed (F.failures files.old) (F.failures files.new)) refusal × (refusal ≢ Refusal.Unkept → F.holds files.new there ≡ F.holds files.old there))) }
 {
     let Some(place) = place else {
         return Ok(());
@@ -117,7 +117,7 @@ pub fn list_report<B: ReportStore, F: Files, O: Sink>(
     requires { F.tells → B.tells }
     ensures made { IfOk result (λ good. B.tells → (one : F) × MakesNodes ⟦<F as Known>⟧.reach request.now (option_map string_bytes place.now) files.old one files.new (O.stream out.old) (O.stream out.new) (B.states listing.now.table.now) (listing_by B.states listing.now) good) }
     ensures why { IfErr result (λ stop. B.tells → IfStopped (ListStops ⟦<F as Known>⟧.reach request.now (option_map string_bytes place.now) files.old files.new (O.stream out.old) (O.stream out.new) (B.states listing.now.table.now) (listing_by B.states listing.now))
-        (NodesCut F.Files F.Output.stream (texts request.now.only.items) request.now.folder.now (fill_of request.now.fill) request.now.short_names files.new (O.stream out.old) (O.stream out.new) (B.states listing.now.table.now) (listing_by B.states listing.now)) stop) }
+        (NodesCut F.Files files.old (texts request.now.only.items) request.now.folder.now (fill_of request.now.fill) request.now.short_names files.new (O.stream out.old) (O.stream out.new) (B.states listing.now.table.now) (listing_by B.states listing.now)) stop) }
     ensures still { IsErrOf result Stop.Unread → SparesNodes F.Files request.now.folder.now files.old files.new }
     ensures no_node { (i : ℕ) → IsErrOf result (Stop.Refused (Refusal.NoNode i)) → files.new ≡ files.old }
     ensures spares { SparesListed ⟦<F as Known>⟧.reach request.now (option_map string_bytes place.now) files.old files.new }

@@ -1,8 +1,7 @@
 //! The text of a manifest is made line by line while it is written, so that the paths of all files are never held together.
 
-ghost use Rattle.std.specs.Prelude.{◌≡◌, ◌++◌, List, ℕ, IfErr, IfOk, OnErr, OnOk};
+ghost use Rattle.std.specs.Prelude.{◌≡◌, ◌≢◌, ◌++◌, List, ℕ, IfErr, IfOk, OnErr, OnOk};
 ghost use Rattle.std.specs.Io.KnownBytes.{Appends};
-ghost use Rattle.udfs_host_fs.specs.Disk.{SinkFails};
 ghost use Rattle.udfs_salvage.specs.Listings.{listing_by};
 ghost use Rattle.udfs_extraction.specs.Manifests.{note_text, notes_text};
 ghost use Rattle.udfs_extraction.specs.ShortNames.{IsWay};
@@ -76,9 +75,11 @@ fn push_noted<B: BlockStore>(
 }
 
 /// Writes the bytes that are held where they are many.
+#[tactic(auto, using(udfs_host_fs::proofs::Failing::moved_on))]
 fn pour<W: Sink>(text: &mut Vec<u8>, sink: &mut W) -> Result<(), WriteFault>
     ensures poured { OnOk result ((out : List ℕ) × Appends (W.stream sink.old).contents (W.stream sink.new).contents out × (text.old.items ≡ out ++ text.new.items)) }
-    ensures fault { OnErr result (SinkFails W.stream) }
+    ensures kept { OnOk result ((W.stream sink.new).faults ≡ (W.stream sink.old).faults) }
+    ensures moved { OnErr result ((W.stream sink.new).faults ≢ (W.stream sink.old).faults) }
 {
     if text.len() < PIECE {
         return Ok(());
@@ -89,6 +90,7 @@ fn pour<W: Sink>(text: &mut Vec<u8>, sink: &mut W) -> Result<(), WriteFault>
 }
 
 /// Writes the lines of the files that were noted, in order.
+#[tactic(auto, using(udfs_host_fs::proofs::Failing::moved_on))]
 fn write_lines<B: BlockStore, W: Sink>(
     alloc: Global,
     listing: &Listing<'_, B>,
@@ -97,7 +99,7 @@ fn write_lines<B: BlockStore, W: Sink>(
     sink: &mut W,
 ) -> Result<(), TextError>
     ensures wrote { OnOk result (Appends (W.stream sink.old).contents (W.stream sink.new).contents (notes_text short (listing_by B.states listing.now) noted.now)) }
-    ensures cause { IfErr result (λ error. error ≡ TextError.NotWritten → SinkFails W.stream) }
+    ensures moved { IfErr result (λ error. error ≡ TextError.NotWritten → (W.stream sink.new).faults ≢ (W.stream sink.old).faults) }
 {
     let mut text = Vec::new(alloc);
     let mut way = Vec::new(alloc);

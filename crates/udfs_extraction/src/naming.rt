@@ -1,7 +1,8 @@
 //! The names of files come to the disk folder by folder: at once for all that were written there.
 
 ghost use Rattle.std.specs.Prelude.{◌≡◌, ◌≢◌, ◌<◌, ◌++◌, ⊤, ℕ, List, Some, true, false, IfOk, IfSome, MatchOption, OnErr, OnOk, codes, length, slice_get, string_bytes};
-ghost use Rattle.udfs_host_fs.specs.Disk.{Fails, Goes, Same, SameBut, folder_of};
+ghost use Rattle.udfs_host_fs.specs.Disk.{Goes, Same, SameBut, folder_of};
+ghost use Rattle.udfs_host_fs.specs.Failing.{FailedAt, Grow};
 ghost use Rattle.udfs_extraction.specs.Runs.{AreKept, IsEnd, IsNamed};
 
 use crate::node_files::give_up;
@@ -53,9 +54,11 @@ pub fn put_at(puts: &[Put], k: usize) -> &Put
 }
 
 /// Brings the names in the folder of a path to the disk, unless it is the folder of `named`, in which they are there.
+#[tactic(auto, using(udfs_host_fs::proofs::Failing::failed_at, udfs_host_fs::proofs::Failing::grow_done, udfs_host_fs::proofs::Failing::grow_failed))]
 fn name_next<F: Files>(named: Option<&str>, path: &str, files: &mut F) -> Result<(), DeviceFault>
     ensures named { OnOk result (F.tells → MatchOption named.entry ⊤ (λ last. IsNamed (F.holds files.old) (F.may_leave files.old) last.now) → IsNamed (F.holds files.new) (F.may_leave files.new) path.now) }
-    ensures cause { OnErr result (Fails F.faults) }
+    ensures failed { OnErr result ((q : List ℕ) × FailedAt (folder_of q) (F.failures files.old) (F.failures files.new)) }
+    ensures grow { Grow (F.failures files.old) (F.failures files.new) }
     ensures others { (q : List ℕ) → F.holds files.new q ≡ F.holds files.old q }
     ensures crash { Goes F.moment F.may_leave F.left_since files.old files.new Same }
 {
@@ -71,6 +74,7 @@ fn name_next<F: Files>(named: Option<&str>, path: &str, files: &mut F) -> Result
 }
 
 /// Brings the name of a file to the disk, if one was written. Returns a path in whose folder the names are there, if it is known of one.
+#[tactic(auto, using(udfs_host_fs::proofs::Failing::grow_done))]
 fn name_put<'a, F: Files>(
     named: Option<&'a str>,
     put: &'a Put,
@@ -78,7 +82,8 @@ fn name_put<'a, F: Files>(
 ) -> Result<Option<&'a str>, DeviceFault>
     ensures last { IfOk result (λ last. F.tells → MatchOption named.entry ⊤ (λ path. IsNamed (F.holds files.old) (F.may_leave files.old) path.now) → MatchOption last ⊤ (λ path. IsNamed (F.holds files.new) (F.may_leave files.new) path.now)) }
     ensures put { OnOk result (F.tells → MatchOption named.entry ⊤ (λ path. IsNamed (F.holds files.old) (F.may_leave files.old) path.now) → put.now.done.fate ≡ Fate.Written → IsNamed (F.holds files.new) (F.may_leave files.new) (string_bytes put.now.path)) }
-    ensures cause { OnErr result (Fails F.faults) }
+    ensures failed { OnErr result ((q : List ℕ) × FailedAt (folder_of q) (F.failures files.old) (F.failures files.new)) }
+    ensures grow { Grow (F.failures files.old) (F.failures files.new) }
     ensures others { (q : List ℕ) → F.holds files.new q ≡ F.holds files.old q }
     ensures crash { Goes F.moment F.may_leave F.left_since files.old files.new Same }
 {
@@ -96,7 +101,8 @@ fn name_put<'a, F: Files>(
 /// names are there.
 pub fn name_files<F: Files>(puts: &[Put], files: &mut F) -> bool
     ensures kept { result ≡ true → F.tells → AreKept (F.holds files.new) (F.may_leave files.new) puts.now }
-    ensures cause { result ≡ false → Fails F.faults }
+    ensures failed { result ≡ false → (q : List ℕ) × FailedAt (folder_of q) (F.failures files.old) (F.failures files.new) }
+    ensures grow { Grow (F.failures files.old) (F.failures files.new) }
     ensures others { (q : List ℕ) → F.holds files.new q ≡ F.holds files.old q }
     ensures crash { Goes F.moment F.may_leave F.left_since files.old files.new Same }
 {
@@ -112,11 +118,13 @@ pub fn name_files<F: Files>(puts: &[Put], files: &mut F) -> bool
 }
 
 /// What became of a node in the end, once the names of a run are on the disk, or could not be brought there: then a file that was written is removed.
+#[tactic(auto, using(udfs_host_fs::proofs::Failing::grow_done))]
 pub fn end_of<F: Files>(put: &Put, named: bool, files: &mut F) -> Fate
     ensures end { IsEnd named put.now.done.fate result }
     ensures named { named ≡ true → files.new ≡ files.old }
     ensures unwritten { put.now.done.fate ≢ Fate.Written → files.new ≡ files.old }
     ensures others { (q : List ℕ) → q ≢ string_bytes put.now.path → F.holds files.new q ≡ F.holds files.old q }
+    ensures grow { Grow (F.failures files.old) (F.failures files.new) }
     ensures crash { Goes F.moment F.may_leave F.left_since files.old files.new (SameBut (string_bytes put.now.path)) }
 {
     let fate = put.done.fate;

@@ -3,7 +3,8 @@
 ghost use Rattle.std.specs.Prelude.{◌≡◌, ◌≢◌, ◌<◌, ◌⊎◌, ◌++◌, ℕ, Bool, false, true, List, [], Some, IfErr, IfOk, IsErrOf, OnOk, length, slice_get, None, map, string_bytes};
 ghost use Rattle.std.specs.Io.KnownBytes.{Appends};
 ghost use Rattle.udfs_file.specs.declared.cells.Cell.{Cell};
-ghost use Rattle.udfs_host_fs.specs.Disk.{Same, SameBut, Goes, Fails, SinkFails};
+ghost use Rattle.udfs_host_fs.specs.Disk.{Same, SameBut, Goes, folder_of};
+ghost use Rattle.udfs_host_fs.specs.Failing.{FailedAt, Grow};
 ghost use Rattle.udfs_tag.specs.declared.layouts.LongAd.{LongAd};
 ghost use Rattle.udfs_space.specs.Places.{view};
 ghost use Rattle.udfs_walk.specs.NodeFields.{NodeFields};
@@ -14,7 +15,7 @@ ghost use Rattle.udfs_salvage.specs.Extraction.{fill_byte, filled, is_offered};
 ghost use Rattle.udfs_salvage.specs.Found.{Found, volume_now};
 ghost use Rattle.udfs_salvage.specs.Listings.{full_in, listing_by};
 ghost use Rattle.udfs_salvage.specs.WalkedNodes.{AreNodesFrom};
-ghost use Rattle.udfs_extraction.specs.Extracting.{IsDone, IsFateOf, IsIn, Spares, Stay, deed, path_below};
+ghost use Rattle.udfs_extraction.specs.Extracting.{IsDone, IsFateOf, IsIn, NodeFails, Spares, Stay, deed, path_below};
 ghost use Rattle.udfs_extraction.specs.Runs.{IsEnd, IsHeldAt};
 ghost use Rattle.udfs_common.specs.Keeping.{IsKept};
 ghost use Rattle.udfs_salvage.specs.Choosing.{is_chosen};
@@ -28,7 +29,7 @@ use std::alloc::{AllocError, Global};
 use std::marker::PhantomData;
 use udfs_common::files::Files;
 use udfs_file::Kind;
-use udfs_host_fs::Job;
+use udfs_host_fs::{GivenUp, Job};
 use udfs_lattice::{BlockStore, GaveUp};
 use udfs_reading::{DeviceFault, Sink};
 use udfs_salvage::choosing::{is_above, is_chosen};
@@ -121,8 +122,8 @@ impl<'a, 'r, B: BlockStore> NodeBytes<'a, 'r, B> {
         ensures wrote { OnOk result (B.tells → (f : Found) (root : LongAd) (n : NodeFields) → (self.now.index < length self.now.listing.now.nodes.items) →
             AreNodesFrom (B.states self.now.listing.now.table.now) f root (listing_by B.states self.now.listing.now) → slice_get (listing_by B.states self.now.listing.now).nodes self.now.index ≡ Some n → is_offered n.standing n.size self.now.fill ≡ true →
             (cs : List Cell) × HasCellsAt (view (B.states self.now.listing.now.table.now) f.space) root self.now.index cs × Appends (W.stream sink.old).contents (W.stream sink.new).contents (filled (fill_byte self.now.fill) cs)) }
-        ensures cause { IfErr result (λ error. (error ≢ store_error.Extract extract_error.OutOfMemory) → (error ≢ store_error.Unread) → B.tells → (self.now.index < length self.now.listing.now.nodes.items) → (f : Found) (root : LongAd) (n : NodeFields) →
-            AreNodesFrom (B.states self.now.listing.now.table.now) f root (listing_by B.states self.now.listing.now) → slice_get (listing_by B.states self.now.listing.now).nodes self.now.index ≡ Some n → is_offered n.standing n.size self.now.fill ≡ true → SinkFails W.stream) }
+        ensures moved { IfErr result (λ error. (error ≢ store_error.Extract extract_error.OutOfMemory) → (error ≢ store_error.Unread) → B.tells → (self.now.index < length self.now.listing.now.nodes.items) → (f : Found) (root : LongAd) (n : NodeFields) →
+            AreNodesFrom (B.states self.now.listing.now.table.now) f root (listing_by B.states self.now.listing.now) → slice_get (listing_by B.states self.now.listing.now).nodes self.now.index ≡ Some n → is_offered n.standing n.size self.now.fill ≡ true → (W.stream sink.new).faults ≢ (W.stream sink.old).faults) }
         ensures fails { IsErrOf result StoreExtractError.Unread → B.fails }
     {
         if self.index >= self.listing.nodes.len() {
@@ -170,10 +171,12 @@ impl<'a, 'r, B: BlockStore> Job for NodeBytes<'a, 'r, B> {
 }
 
 /// Removes what was begun of a file.
+#[tactic(auto, using(udfs_host_fs::proofs::Failing::grow_done, udfs_host_fs::proofs::Failing::grow_failed))]
 pub fn give_up<F: Files>(path: &str, files: &mut F) -> Fate
     ensures gone { result ≡ Fate.Failed → F.tells → F.holds files.new path.now ≡ Some None }
     ensures fate { (result ≡ Fate.Failed) ⊎ (result ≡ Fate.Left) }
     ensures others { (q : List ℕ) → q ≢ path.now → F.holds files.new q ≡ F.holds files.old q }
+    ensures grow { Grow (F.failures files.old) (F.failures files.new) }
     ensures crash { Goes F.moment F.may_leave F.left_since files.old files.new (SameBut path.now) }
 {
     match files.remove(path) {
@@ -183,6 +186,7 @@ pub fn give_up<F: Files>(path: &str, files: &mut F) -> Fate
 }
 
 /// Brings a new file to the disk, with its name; or removes it.
+#[tactic(auto, using(udfs_host_fs::proofs::Failing::failed_at, udfs_host_fs::proofs::Failing::failed_at_before, udfs_host_fs::proofs::Failing::failed_at_later, udfs_host_fs::proofs::Failing::grow_done, udfs_host_fs::proofs::Failing::grow_failed, udfs_host_fs::proofs::Failing::grow_on))]
 pub fn finish_file<F: Files>(path: &str, output: F::Output, files: &mut F) -> Fate
     requires number { F.tells → F.Output.number output ≢ None }
     requires at { F.is_at files.old path.now (F.Output.number output) }
@@ -190,7 +194,8 @@ pub fn finish_file<F: Files>(path: &str, output: F::Output, files: &mut F) -> Fa
     ensures kept { result ≡ Fate.Written → F.tells → (bytes : List ℕ) → (F.Output.stream output).contents ≡ Some bytes → IsKept (F.holds files.new) (F.may_leave files.new) path.now bytes }
     ensures gone { result ≡ Fate.Failed → F.tells → F.holds files.new path.now ≡ Some None }
     ensures fate { IsFateOf Deed.File result }
-    ensures cause { result ≢ Fate.Written → Fails F.faults }
+    ensures failed { result ≢ Fate.Written → NodeFails F.Files files.old files.new path.now }
+    ensures grow { Grow (F.failures files.old) (F.failures files.new) }
     ensures others { (q : List ℕ) → q ≢ path.now → F.holds files.new q ≡ F.holds files.old q }
     ensures crash { Goes F.moment F.may_leave F.left_since files.old files.new (SameBut path.now) }
 {
@@ -205,6 +210,7 @@ pub fn finish_file<F: Files>(path: &str, output: F::Output, files: &mut F) -> Fa
 }
 
 /// Brings the bytes of a new file to the disk, and its name may not be there yet; or removes it.
+#[tactic(auto, using(udfs_host_fs::proofs::Failing::failed_at, udfs_host_fs::proofs::Failing::failed_at_before, udfs_host_fs::proofs::Failing::grow_done, udfs_host_fs::proofs::Failing::grow_failed, udfs_host_fs::proofs::Failing::grow_on))]
 fn sync_file<F: Files>(path: &str, output: F::Output, files: &mut F) -> Fate
     requires number { F.tells → F.Output.number output ≢ None }
     requires at { F.is_at files.old path.now (F.Output.number output) }
@@ -212,7 +218,8 @@ fn sync_file<F: Files>(path: &str, output: F::Output, files: &mut F) -> Fate
     ensures held { result ≡ Fate.Written → F.tells → (bytes : List ℕ) → (F.Output.stream output).contents ≡ Some bytes → F.holds files.new path.now ≡ Some (Some bytes) }
     ensures gone { result ≡ Fate.Failed → F.tells → F.holds files.new path.now ≡ Some None }
     ensures fate { IsFateOf Deed.File result }
-    ensures cause { result ≢ Fate.Written → Fails F.faults }
+    ensures failed { result ≢ Fate.Written → FailedAt path.now (F.failures files.old) (F.failures files.new) }
+    ensures grow { Grow (F.failures files.old) (F.failures files.new) }
     ensures others { (q : List ℕ) → q ≢ path.now → F.holds files.new q ≡ F.holds files.old q }
     ensures crash { Goes F.moment F.may_leave F.left_since files.old files.new (SameBut path.now) }
 {
@@ -223,9 +230,11 @@ fn sync_file<F: Files>(path: &str, output: F::Output, files: &mut F) -> Fate
 }
 
 /// Brings the name of a file to the disk that was written, or removes it.
+#[tactic(auto, using(udfs_host_fs::proofs::Failing::failed_at, udfs_host_fs::proofs::Failing::failed_at_before, udfs_host_fs::proofs::Failing::grow_done, udfs_host_fs::proofs::Failing::grow_failed, udfs_host_fs::proofs::Failing::grow_on))]
 pub fn name_file<F: Files>(path: &str, fate: Fate, files: &mut F) -> Fate
     ensures kept { result ≡ Fate.Written → F.tells → (bytes : List ℕ) → F.holds files.old path.now ≡ Some (Some bytes) → IsKept (F.holds files.new) (F.may_leave files.new) path.now bytes }
-    ensures end { (named : Bool) × IsEnd named fate result × (named ≡ false → Fails F.faults) }
+    ensures end { (named : Bool) × IsEnd named fate result × (named ≡ false → FailedAt (folder_of path.now) (F.failures files.old) (F.failures files.new)) }
+    ensures grow { Grow (F.failures files.old) (F.failures files.new) }
     ensures unwritten { fate ≢ Fate.Written → files.new ≡ files.old }
     ensures others { (q : List ℕ) → q ≢ path.now → F.holds files.new q ≡ F.holds files.old q }
     ensures crash { Goes F.moment F.may_leave F.left_since files.old files.new (SameBut path.now) }
@@ -241,6 +250,7 @@ pub fn name_file<F: Files>(path: &str, fate: Fate, files: &mut F) -> Fate
 
 /// Writes the node of this index to `output`, a new file at `path`. Where that fails, or an input can not be read again, or memory runs out, it tries to remove
 /// the file.
+#[tactic(auto, using(udfs_host_fs::proofs::Failing::failed_at_before, udfs_host_fs::proofs::Failing::failed_write_at, udfs_host_fs::proofs::Failing::grow_discard, udfs_host_fs::proofs::Failing::grow_done, udfs_host_fs::proofs::Failing::grow_failed, udfs_host_fs::proofs::Failing::grow_on))]
 fn fill_file<B: BlockStore, F: Files>(
     alloc: Global,
     listing: &Listing<'_, B>,
@@ -256,14 +266,16 @@ fn fill_file<B: BlockStore, F: Files>(
     requires number { F.tells → F.Output.number output ≢ None }
     requires at { F.is_at files.old path.now (F.Output.number output) }
     requires empty { F.tells → (F.Output.stream output).contents ≡ Some [] }
+    requires fresh { (F.Output.stream output).faults ≡ 0 }
     requires open { F.holds files.old path.now ≡ None }
     ensures written { IfOk result (λ done. B.tells → done.fate ≡ Fate.Written → F.tells → (f : Found) (root : LongAd) (n : NodeFields) →
         AreNodesFrom (B.states listing.now.table.now) f root (listing_by B.states listing.now) → slice_get (listing_by B.states listing.now).nodes index ≡ Some n → is_offered n.standing n.size fill ≡ true →
         (cs : List Cell) × HasCellsAt (view (B.states listing.now.table.now) f.space) root index cs × (F.holds files.new path.now ≡ Some (Some (filled (fill_byte fill) cs)))) }
     ensures gone { IfOk result (λ done. done.fate ≡ Fate.Failed → F.tells → F.holds files.new path.now ≡ Some None) }
     ensures fate { IfOk result (λ done. IsFateOf Deed.File done.fate) }
-    ensures cause { IfOk result (λ done. B.tells → done.fate ≢ Fate.Written → (f : Found) (root : LongAd) (n : NodeFields) →
-        AreNodesFrom (B.states listing.now.table.now) f root (listing_by B.states listing.now) → slice_get (listing_by B.states listing.now).nodes index ≡ Some n → is_offered n.standing n.size fill ≡ true → Fails F.faults ⊎ SinkFails F.Output.stream) }
+    ensures failed { IfOk result (λ done. B.tells → done.fate ≢ Fate.Written → (f : Found) (root : LongAd) (n : NodeFields) →
+        AreNodesFrom (B.states listing.now.table.now) f root (listing_by B.states listing.now) → slice_get (listing_by B.states listing.now).nodes index ≡ Some n → is_offered n.standing n.size fill ≡ true → FailedAt path.now (F.failures files.old) (F.failures files.new)) }
+    ensures grow { Grow (F.failures files.old) (F.failures files.new) }
     ensures digest { IfOk result (λ done. IsNoted digest F.tells (F.holds files.new) path.now done.fate done.digest) }
     ensures others { (q : List ℕ) → q ≢ path.now → F.holds files.new q ≡ F.holds files.old q }
     ensures crash { Goes F.moment F.may_leave F.left_since files.old files.new (SameBut path.now) }
@@ -281,18 +293,22 @@ fn fill_file<B: BlockStore, F: Files>(
             let fate = sync_file(path, output, files);
             Ok(Done { fate, digest })
         }
-        Err(fault) => match fault.gave_up() {
-            Some(error) => {
-                let _ = files.remove(path);
-                Err(error)
+        Err(GivenUp { handle, refusal }) => {
+            files.discard(path, handle);
+            match refusal.gave_up() {
+                Some(error) => {
+                    let _ = files.remove(path);
+                    Err(error)
+                }
+                None => Ok(without_file(give_up(path, files))),
             }
-            None => Ok(without_file(give_up(path, files))),
-        },
+        }
     }
 }
 
 /// Writes the node of this index to a new file, and then syncs it. Its name may not be on the disk yet. Where it could not be written, or memory ran out, it
 /// tries to remove the new file. What another file of this path holds is untouched.
+#[tactic(auto, using(udfs_host_fs::proofs::Failing::failed_at, udfs_host_fs::proofs::Failing::failed_at_later, udfs_host_fs::proofs::Failing::grow_done, udfs_host_fs::proofs::Failing::grow_failed, udfs_host_fs::proofs::Failing::grow_on))]
 fn write_file<B: BlockStore, F: Files>(
     alloc: Global,
     listing: &Listing<'_, B>,
@@ -310,8 +326,9 @@ fn write_file<B: BlockStore, F: Files>(
     ensures fresh { IfOk result (λ done. done.fate ≡ Fate.Written → F.tells → F.holds files.old path.now ≡ Some None) }
     ensures gone { IfOk result (λ done. done.fate ≡ Fate.Failed → F.tells → F.holds files.new path.now ≡ F.holds files.old path.now) }
     ensures fate { IfOk result (λ done. IsFateOf Deed.File done.fate) }
-    ensures cause { IfOk result (λ done. B.tells → done.fate ≢ Fate.Written → (f : Found) (root : LongAd) (n : NodeFields) →
-        AreNodesFrom (B.states listing.now.table.now) f root (listing_by B.states listing.now) → slice_get (listing_by B.states listing.now).nodes index ≡ Some n → is_offered n.standing n.size fill ≡ true → Fails F.faults ⊎ SinkFails F.Output.stream) }
+    ensures failed { IfOk result (λ done. B.tells → done.fate ≢ Fate.Written → (f : Found) (root : LongAd) (n : NodeFields) →
+        AreNodesFrom (B.states listing.now.table.now) f root (listing_by B.states listing.now) → slice_get (listing_by B.states listing.now).nodes index ≡ Some n → is_offered n.standing n.size fill ≡ true → FailedAt path.now (F.failures files.old) (F.failures files.new)) }
+    ensures grow { Grow (F.failures files.old) (F.failures files.new) }
     ensures digest { IfOk result (λ done. IsNoted digest F.tells (F.holds files.new) path.now done.fate done.digest) }
     ensures others { (q : List ℕ) → q ≢ path.now → F.holds files.new q ≡ F.holds files.old q }
     ensures there { F.tells → F.holds files.old path.now ≢ Some None → F.holds files.new path.now ≡ F.holds files.old path.now }
@@ -328,9 +345,11 @@ fn write_file<B: BlockStore, F: Files>(
 }
 
 /// Makes a folder, and brings its name to the disk.
+#[tactic(auto, using(udfs_host_fs::proofs::Failing::failed_at, udfs_host_fs::proofs::Failing::failed_at_later, udfs_host_fs::proofs::Failing::grow_done, udfs_host_fs::proofs::Failing::grow_failed, udfs_host_fs::proofs::Failing::grow_on))]
 pub fn put_folder<F: Files>(path: &str, files: &mut F) -> Fate
     ensures fate { IsFateOf Deed.Folder result }
-    ensures cause { result ≢ Fate.Made → Fails F.faults }
+    ensures failed { result ≢ Fate.Made → NodeFails F.Files files.old files.new path.now }
+    ensures grow { Grow (F.failures files.old) (F.failures files.new) }
     ensures others { (q : List ℕ) → F.holds files.new q ≡ F.holds files.old q }
     ensures crash { Goes F.moment F.may_leave F.left_since files.old files.new Same }
 {
@@ -345,6 +364,7 @@ pub fn put_folder<F: Files>(path: &str, files: &mut F) -> Fate
 }
 
 /// Does at this path what is to be done with the node of this index. Of a file that is written the name may not be on the disk yet.
+#[tactic(auto, using(udfs_host_fs::proofs::Failing::grow_done))]
 pub fn put_node<B: BlockStore, F: Files>(
     alloc: Global,
     listing: &Listing<'_, B>,
@@ -357,13 +377,14 @@ pub fn put_node<B: BlockStore, F: Files>(
 ) -> Result<Done, GaveUp>
     requires index { index < length listing.now.nodes.items }
     ensures put { IfOk result (λ done. B.tells → (n : NodeFields) (short : Bool) (folder : List ℕ) → slice_get (listing_by B.states listing.now).nodes index ≡ Some n → path.now ≡ path_below folder (placed short (listing_by B.states listing.now) index n) →
-        IsHeldAt F.Files F.Output.stream files.new (B.states listing.now.table.now) (listing_by B.states listing.now) fill short folder index n done.fate) }
+        IsHeldAt F.Files files.old files.new (B.states listing.now.table.now) (listing_by B.states listing.now) fill short folder index n done.fate) }
     ensures file { IfOk result (λ done. done.fate ≡ Fate.Written → (n : NodeFields) → slice_get (listing_by B.states listing.now).nodes index ≡ Some n → deed n.kind n.standing n.size fill ≡ Deed.File) }
     ensures fresh { IfOk result (λ done. done.fate ≡ Fate.Written → F.tells → F.holds files.old path.now ≡ Some None) }
     ensures digest { IfOk result (λ done. IsNoted digest F.tells (F.holds files.new) path.now done.fate done.digest) }
     ensures stays { F.tells → Stay (F.holds files.old) (F.holds files.new) }
     ensures others { (q : List ℕ) → q ≢ path.now → F.holds files.new q ≡ F.holds files.old q }
     ensures elsewhere { (q : List ℕ) → ((n : NodeFields) → slice_get (listing_by B.states listing.now).nodes index ≡ Some n → deed n.kind n.standing n.size fill ≡ Deed.File → q ≢ path.now) → F.holds files.new q ≡ F.holds files.old q }
+    ensures grow { Grow (F.failures files.old) (F.failures files.new) }
     ensures crash { F.tells → (folder : List ℕ) → IsIn folder path.now → Goes F.moment F.may_leave F.left_since files.old files.new (Spares folder (F.holds files.old)) }
     ensures fails { IsErrOf result GaveUp.Unread → (B.fails → ⊥) → ⊥ }
 {
@@ -384,6 +405,7 @@ pub fn put_node<B: BlockStore, F: Files>(
 }
 
 /// Makes the folder of the node of this index, if it is one. Whether it could be made is seen by what is put into it.
+#[tactic(auto, using(udfs_host_fs::proofs::Failing::grow_done))]
 fn put_way<B: BlockStore, F: Files>(
     listing: &Listing<'_, B>,
     index: usize,
@@ -392,6 +414,7 @@ fn put_way<B: BlockStore, F: Files>(
 )
     requires { index < length listing.now.nodes.items }
     ensures others { (q : List ℕ) → F.holds files.new q ≡ F.holds files.old q }
+    ensures grow { Grow (F.failures files.old) (F.failures files.new) }
     ensures crash { Goes F.moment F.may_leave F.left_since files.old files.new Same }
 {
     let node = node_at(listing, index);
@@ -401,6 +424,7 @@ fn put_way<B: BlockStore, F: Files>(
 }
 
 /// Does at this path what is to be done with the node of this index, if it is asked for. If not, it is passed over, but for the folder that leads to one that is.
+#[tactic(auto, using(udfs_host_fs::proofs::Failing::grow_done))]
 pub fn put_chosen<B: BlockStore, F: Files>(
     alloc: Global,
     listing: &Listing<'_, B>,
@@ -414,13 +438,14 @@ pub fn put_chosen<B: BlockStore, F: Files>(
 ) -> Result<Done, GaveUp>
     requires index { index < length listing.now.nodes.items }
     ensures put { IfOk result (λ done. B.tells → (n : NodeFields) (short : Bool) (folder : List ℕ) → slice_get (listing_by B.states listing.now).nodes index ≡ Some n → path.now ≡ path_below folder (placed short (listing_by B.states listing.now) index n) →
-        IsDone (map (λ word. word.now) only.now) (IsHeldAt F.Files F.Output.stream files.new (B.states listing.now.table.now) (listing_by B.states listing.now) fill short folder) index n done.fate) }
+        IsDone (map (λ word. word.now) only.now) (IsHeldAt F.Files files.old files.new (B.states listing.now.table.now) (listing_by B.states listing.now) fill short folder) index n done.fate) }
     ensures file { IfOk result (λ done. done.fate ≡ Fate.Written → (n : NodeFields) → slice_get (listing_by B.states listing.now).nodes index ≡ Some n → (is_chosen (map (λ word. word.now) only.now) n.path ≡ true) × (deed n.kind n.standing n.size fill ≡ Deed.File)) }
     ensures fresh { IfOk result (λ done. done.fate ≡ Fate.Written → F.tells → F.holds files.old path.now ≡ Some None) }
     ensures digest { IfOk result (λ done. IsNoted digest F.tells (F.holds files.new) path.now done.fate done.digest) }
     ensures stays { F.tells → Stay (F.holds files.old) (F.holds files.new) }
     ensures others { (q : List ℕ) → q ≢ path.now → F.holds files.new q ≡ F.holds files.old q }
     ensures elsewhere { (q : List ℕ) → ((n : NodeFields) → slice_get (listing_by B.states listing.now).nodes index ≡ Some n → is_chosen (map (λ word. word.now) only.now) n.path ≡ true → deed n.kind n.standing n.size fill ≡ Deed.File → q ≢ path.now) → F.holds files.new q ≡ F.holds files.old q }
+    ensures grow { Grow (F.failures files.old) (F.failures files.new) }
     ensures crash { F.tells → (folder : List ℕ) → IsIn folder path.now → Goes F.moment F.may_leave F.left_since files.old files.new (Spares folder (F.holds files.old)) }
     ensures fails { IsErrOf result GaveUp.Unread → (B.fails → ⊥) → ⊥ }
 {

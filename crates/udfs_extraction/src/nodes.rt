@@ -1,7 +1,8 @@
 //! The files and folders of a volume, written into a new folder.
 
 ghost use Rattle.std.specs.Prelude.{◌≡◌, ◌<◌, ◌⊎◌, ℕ, Bool, true, false, ◌&&◌, List, Some, IfOk, IfErr, IsErrOf, OnErr, length, drop, None, Option, map, option_map, if◌then◌else◌};
-ghost use Rattle.udfs_host_fs.specs.Disk.{Goes, Fails, SinkFails};
+ghost use Rattle.udfs_host_fs.specs.Disk.{Goes};
+ghost use Rattle.udfs_host_fs.specs.Failing.{Grow};
 ghost use Rattle.udfs_salvage.specs.Listings.{listing_by};
 ghost use Rattle.udfs_words.specs.Requests.{texts};
 ghost use Rattle.udfs_extraction.specs.ByRequest.{IsNodePut, fill_of};
@@ -93,7 +94,7 @@ pub fn put_nodes<B: BlockStore, F: Files, O: Sink>(
     out: &mut O,
 ) -> Result<Told, GaveUp>
     ensures put { B.tells → (heard : Bool) × (fates : List Fate) × Puts (node_line word.now short (listing_by B.states listing.now)) (IsDone (texts only.now)
-        (IsPutAt F.Files F.Output.stream files.new (B.states listing.now.table.now) (listing_by B.states listing.now) fill short folder.now))
+        (IsPutAt F.Files files.old files.new (B.states listing.now.table.now) (listing_by B.states listing.now) fill short folder.now))
         (listing_by B.states listing.now).nodes (O.stream out.old) (O.stream out.new) heard fates ×
         IfOk result (λ told. (length fates ≡ length (drop 1 (listing_by B.states listing.now).nodes)) × (told.heard ≡ heard) × (told.good ≡ all_good fates) ×
         (digest ≡ true → F.tells → IsManifest (F.holds files.new) folder.now short (listing_by B.states listing.now) fates (notes_text short (listing_by B.states listing.now) told.manifest.items))) }
@@ -101,6 +102,7 @@ pub fn put_nodes<B: BlockStore, F: Files, O: Sink>(
     ensures outside { (q : List ℕ) → (¬ IsIn folder.now q) → F.holds files.new q ≡ F.holds files.old q }
     ensures elsewhere { (q : List ℕ) → IsElsewhere (texts only.now) fill short (listing_by B.states listing.now) folder.now q → F.holds files.new q ≡ F.holds files.old q }
     ensures crash { F.tells → Goes F.moment F.may_leave F.left_since files.old files.new (Spares folder.now (F.holds files.old)) }
+    ensures grow { Grow (F.failures files.old) (F.failures files.new) }
     ensures fails { IsErrOf result GaveUp.Unread → (B.fails → ⊥) → ⊥ }
 {
     let mut told = Told::new(alloc);
@@ -161,6 +163,7 @@ fn remark_closed<B: ReportStore, F: Files>(alloc: Global, listing: &Listing<'_, 
 /// # Errors
 ///
 /// `Unread` where the bytes of a known block could not be read: what was reported by then is made. `Refused`: why else not all was made.
+#[tactic(auto, using(udfs_host_fs::proofs::Failing::grow_done, udfs_host_fs::proofs::Failing::grow_on))]
 pub fn put_report<B: ReportStore, F: Files, O: Sink>(
     alloc: Global,
     listing: &Listing<'_, B>,
@@ -174,16 +177,17 @@ pub fn put_report<B: ReportStore, F: Files, O: Sink>(
     out: &mut O,
 ) -> Result<Made, Stop>
     ensures put { IfOk result (λ made. B.tells → PutsNoted (texts only.now) short
-        (λ told. IsPutAt F.Files F.Output.stream files.new (B.states listing.now.table.now) told fill short folder.now)
+        (λ told. IsPutAt F.Files files.old files.new (B.states listing.now.table.now) told fill short folder.now)
         (λ told fates text. digest ≡ true → F.tells → IsManifest (F.holds files.new) folder.now short told fates text)
         files.old files.new (listing_by B.states listing.now) (O.stream out.old) (O.stream out.new) made.good (option_map (λ m. notes_text short (listing_by B.states listing.now) m.items) made.manifest)) }
-    ensures why { IfErr result (λ stop. B.tells → IfStopped (NodesStop F.Files F.Output.stream (texts only.now) folder.now fill short files.old files.new (O.stream out.old) (O.stream out.new) (B.states listing.now.table.now) (listing_by B.states listing.now))
-        (NodesCut F.Files F.Output.stream (texts only.now) folder.now fill short files.new (O.stream out.old) (O.stream out.new) (B.states listing.now.table.now) (listing_by B.states listing.now)) stop) }
+    ensures why { IfErr result (λ stop. B.tells → IfStopped (NodesStop F.Files files.old (texts only.now) folder.now fill short files.new (O.stream out.old) (O.stream out.new) (B.states listing.now.table.now) (listing_by B.states listing.now))
+        (NodesCut F.Files files.old (texts only.now) folder.now fill short files.new (O.stream out.old) (O.stream out.new) (B.states listing.now.table.now) (listing_by B.states listing.now)) stop) }
     ensures no_node { (i : ℕ) → IsErrOf result (Stop.Refused (Refusal.NoNode i)) → files.new ≡ files.old }
     ensures stays { F.tells → Stay (F.holds files.old) (F.holds files.new) }
     ensures outside { (q : List ℕ) → (¬ IsIn folder.now q) → F.holds files.new q ≡ F.holds files.old q }
     ensures elsewhere { (q : List ℕ) → IsElsewhere (texts only.now) fill short (listing_by B.states listing.now) folder.now q → F.holds files.new q ≡ F.holds files.old q }
     ensures crash { F.tells → Goes F.moment F.may_leave F.left_since files.old files.new (Spares folder.now (F.holds files.old)) }
+    ensures grow { Grow (F.failures files.old) (F.failures files.new) }
     ensures fails { IsErrOf result Stop.Unread → (B.fails → ⊥) → ⊥ }
 {
     match &listing.volume {
@@ -248,11 +252,11 @@ pub fn make_nodes<B: ReportStore, F: Files, O: Sink>(
     files: &mut F,
     out: &mut O,
 ) -> Result<Made, Stop>
-    ensures put { IfOk result (λ made. B.tells → PutsNoted (texts request.now.only.items) request.now.short_names (IsNodePut ⟦<F as Known>⟧.reach request.now files.new (B.states listing.now.table.now))
+    ensures put { IfOk result (λ made. B.tells → PutsNoted (texts request.now.only.items) request.now.short_names (IsNodePut ⟦<F as Known>⟧.reach request.now files.old files.new (B.states listing.now.table.now))
         (λ told fates text. digest ≡ true → F.tells → IsManifest (F.holds files.new) request.now.folder.now request.now.short_names told fates text)
         files.old files.new (listing_by B.states listing.now) (O.stream out.old) (O.stream out.new) made.good (option_map (λ m. notes_text request.now.short_names (listing_by B.states listing.now) m.items) made.manifest)) }
-    ensures why { IfErr result (λ stop. B.tells → IfStopped (NodesStop F.Files F.Output.stream (texts request.now.only.items) request.now.folder.now (fill_of request.now.fill) request.now.short_names files.old files.new (O.stream out.old) (O.stream out.new) (B.states listing.now.table.now) (listing_by B.states listing.now))
-        (NodesCut F.Files F.Output.stream (texts request.now.only.items) request.now.folder.now (fill_of request.now.fill) request.now.short_names files.new (O.stream out.old) (O.stream out.new) (B.states listing.now.table.now) (listing_by B.states listing.now)) stop) }
+    ensures why { IfErr result (λ stop. B.tells → IfStopped (NodesStop F.Files files.old (texts request.now.only.items) request.now.folder.now (fill_of request.now.fill) request.now.short_names files.new (O.stream out.old) (O.stream out.new) (B.states listing.now.table.now) (listing_by B.states listing.now))
+        (NodesCut F.Files files.old (texts request.now.only.items) request.now.folder.now (fill_of request.now.fill) request.now.short_names files.new (O.stream out.old) (O.stream out.new) (B.states listing.now.table.now) (listing_by B.states listing.now)) stop) }
     ensures no_node { (i : ℕ) → IsErrOf result (Stop.Refused (Refusal.NoNode i)) → files.new ≡ files.old }
     ensures elsewhere { (q : List ℕ) → IsElsewhere (texts request.now.only.items) (fill_of request.now.fill) request.now.short_names (listing_by B.states listing.now) request.now.folder.now q → F.holds files.new q ≡ F.holds files.old q }
     ensures spares { SparesNodes F.Files request.now.folder.now files.old files.new }

@@ -1,7 +1,8 @@
 //! The nodes are gone through in runs: the files of a run are written, then their names come to the disk, and then the lines of the run are printed.
 
 ghost use Rattle.std.specs.Prelude.{◌≡◌, ◌≢◌, ◌<◌, ◌≤◌, ◌+◌, ◌-◌, ◌⊎◌, ◌++◌, ◌∷◌, ℕ, Bool, false, true, List, [], Some, None, IfOk, IsErrOf, OnErr, OnOk, drop, length, slice_get, string_bytes, if◌then◌else◌};
-ghost use Rattle.udfs_host_fs.specs.Disk.{Fails, Goes, SinkFails};
+ghost use Rattle.udfs_host_fs.specs.Disk.{Goes, folder_of};
+ghost use Rattle.udfs_host_fs.specs.Failing.{FailedAt, Grow};
 ghost use Rattle.udfs_salvage.specs.Listings.{listing_by};
 ghost use Rattle.udfs_walk.specs.NodeFields.{NodeFields};
 ghost use Rattle.udfs_words.specs.Requests.{texts};
@@ -89,7 +90,7 @@ fn put_one<B: BlockStore, F: Files>(
     requires after { 0 < index }
     requires way { IsWay (listing_by B.states listing.now).nodes (index - 1) way.old.items }
     ensures held { IfOk result (λ put. B.tells → (n : NodeFields) → slice_get (listing_by B.states listing.now).nodes index ≡ Some n →
-        IsHeld F.Files F.Output.stream files.new (texts only.now) (B.states listing.now.table.now) (listing_by B.states listing.now) fill short digest folder.now index n put) }
+        IsHeld F.Files files.old files.new (texts only.now) (B.states listing.now.table.now) (listing_by B.states listing.now) fill short digest folder.now index n put) }
     ensures placed { IfOk result (λ put. (n : NodeFields) → slice_get (listing_by B.states listing.now).nodes index ≡ Some n → IsPlaced (texts only.now) (listing_by B.states listing.now) fill short folder.now index n put) }
     ensures fresh { IfOk result (λ put. put.done.fate ≡ Fate.Written → F.tells → F.holds files.old (string_bytes put.path) ≡ Some None) }
     ensures way { IfOk result (λ put. IsWay (listing_by B.states listing.now).nodes index way.new.items) }
@@ -125,7 +126,7 @@ fn put_each<B: BlockStore, F: Files>(
     requires first { first ≤ length listing.now.nodes.items }
     requires way { IsWay (listing_by B.states listing.now).nodes (first - 1) way.old.items }
     requires none { puts.old.items ≡ [] }
-    ensures held { B.tells → AreHeld F.Files F.Output.stream files.new (texts only.now) (B.states listing.now.table.now) (listing_by B.states listing.now) fill short digest folder.now first puts.new.items }
+    ensures held { B.tells → AreHeld F.Files files.old files.new (texts only.now) (B.states listing.now.table.now) (listing_by B.states listing.now) fill short digest folder.now first puts.new.items }
     ensures placed { ArePlaced (texts only.now) (listing_by B.states listing.now) fill short folder.now first puts.new.items }
     ensures fresh { F.tells → AreFresh (F.holds files.old) puts.new.items }
     ensures few { first + length puts.new.items ≤ length listing.now.nodes.items }
@@ -175,6 +176,7 @@ fn tell_put<B: BlockStore, F: Files, O: Sink>(
     ensures untold { OnErr result ((out.new ≡ out.old) × (told.new.heard ≡ told.old.heard)) }
     ensures named { named ≡ true → files.new ≡ files.old }
     ensures others { (q : List ℕ) → (¬ IsOfPut (put.now ∷ []) q) → F.holds files.new q ≡ F.holds files.old q }
+    ensures grow { Grow (F.failures files.old) (F.failures files.new) }
     ensures crash { Goes F.moment F.may_leave F.left_since files.old files.new (SameButPuts (put.now ∷ [])) }
 {
     let fate = end_of(put, named, files);
@@ -219,18 +221,18 @@ fn tell_each<B: BlockStore, F: Files, O: Sink>(
     out: &mut O,
 ) -> Result<(), AllocError>
     requires few { first + length puts.now ≤ length listing.now.nodes.items }
-    requires cause { named ≡ false → Fails F.faults }
     requires kept { named ≡ true → F.tells → AreKept (F.holds files.old) (F.may_leave files.old) puts.now }
     // As the files were before any of them was removed.
-    ensures put { (fill : Fill) (short digest : Bool) → AreHeld F.Files F.Output.stream files.old (texts only.now) (B.states listing.now.table.now) (listing_by B.states listing.now) fill short digest folder.now first puts.now →
+    ensures put { (fill : Fill) (short digest : Bool) (from : F) → (named ≡ false → (q : List ℕ) × FailedAt (folder_of q) (F.failures from) (F.failures files.old)) → AreHeld F.Files from files.old (texts only.now) (B.states listing.now.table.now) (listing_by B.states listing.now) fill short digest folder.now first puts.now →
         (fates : List Fate) × RunsOn (node_line word.now short (listing_by B.states listing.now))
-        (λ k n fate. IsDone (texts only.now) (IsPutAt F.Files F.Output.stream files.old (B.states listing.now.table.now) (listing_by B.states listing.now) fill short folder.now) k n fate × (named ≡ false → fate ≢ Fate.Written))
+        (λ k n fate. IsDone (texts only.now) (IsPutAt F.Files from files.old (B.states listing.now.table.now) (listing_by B.states listing.now) fill short folder.now) k n fate × (named ≡ false → fate ≢ Fate.Written))
         first (listing_by B.states listing.now).nodes told.old.heard told.new.heard (O.stream out.old) (O.stream out.new) fates ×
         OnOk result ((length fates ≡ length puts.now) × (told.new.good ≡ (if all_good fates then told.old.good else false)) ×
         (digest ≡ true → F.tells → (text : List ℕ) × AreLines (placed short (listing_by B.states listing.now)) (F.holds files.old) folder.now first (drop first (listing_by B.states listing.now).nodes) fates text ×
         (notes_text short (listing_by B.states listing.now) told.new.manifest.items ≡ notes_text short (listing_by B.states listing.now) told.old.manifest.items ++ text))) }
     ensures named { named ≡ true → files.new ≡ files.old }
     ensures others { (q : List ℕ) → (¬ IsOfPut puts.now q) → F.holds files.new q ≡ F.holds files.old q }
+    ensures grow { Grow (F.failures files.old) (F.failures files.new) }
     ensures crash { Goes F.moment F.may_leave F.left_since files.old files.new (SameButPuts puts.now) }
 {
     for k in 0..puts.len() {
@@ -275,7 +277,7 @@ pub fn put_run<B: BlockStore, F: Files, O: Sink>(
     requires first { first < length listing.now.nodes.items }
     requires way { IsWay (listing_by B.states listing.now).nodes (first - 1) way.old.items }
     ensures put { B.tells → (fates : List Fate) × RunsOn (node_line word.now short (listing_by B.states listing.now))
-        (IsDone (texts only.now) (IsPutAt F.Files F.Output.stream files.new (B.states listing.now.table.now) (listing_by B.states listing.now) fill short folder.now))
+        (IsDone (texts only.now) (IsPutAt F.Files files.old files.new (B.states listing.now.table.now) (listing_by B.states listing.now) fill short folder.now))
         first (listing_by B.states listing.now).nodes told.old.heard told.new.heard (O.stream out.old) (O.stream out.new) fates ×
         IfOk result (λ next. (next ≡ first + length fates) × (told.new.good ≡ (if all_good fates then told.old.good else false)) ×
         (digest ≡ true → F.tells → (text : List ℕ) × AreLines (placed short (listing_by B.states listing.now)) (F.holds files.new) folder.now first (drop first (listing_by B.states listing.now).nodes) fates text ×

@@ -2,6 +2,7 @@
 
 ghost use Rattle.std.specs.Prelude.{◌≡◌, ◌++◌, ℕ, List, None, Option, IfOk, IfSome, OnOk, codes, string_bytes};
 ghost use Rattle.udfs_host_fs.specs.Disk.{Goes, Same};
+ghost use Rattle.udfs_host_fs.specs.Failing.{Grow};
 ghost use Rattle.udfs_extraction.specs.Seats.{FoundAt, IsSeat, found_part, found_way, found_word, lead_part, lead_word, seat_path, seat_word, tree_word};
 
 use crate::found_places::{FoundPlace, FoundPlaces};
@@ -107,6 +108,7 @@ fn named_seat(
 }
 
 /// Makes the folders of a way in a folder, as far as they are not there. Whether they could be made is seen by what is put into the last one.
+#[tactic(auto, using(udfs_host_fs::proofs::Failing::grow_done, udfs_host_fs::proofs::Failing::grow_on))]
 fn make_way<F: Files>(
     alloc: Global,
     folder: &str,
@@ -114,6 +116,7 @@ fn make_way<F: Files>(
     files: &mut F,
 ) -> Result<(), AllocError>
     ensures others { (q : List ℕ) → F.holds files.new q ≡ F.holds files.old q }
+    ensures grow { Grow (F.failures files.old) (F.failures files.new) }
     ensures crash { Goes F.moment F.may_leave F.left_since files.old files.new Same }
 {
     let mut path = String::from_str(alloc, folder)?;
@@ -134,6 +137,7 @@ fn is_open<F: Files>(alloc: Global, path: &str, files: &F) -> Result<bool, Alloc
 }
 
 /// Makes the way to a name that is found, and returns the place of a tree by it, unless something is there or it cannot be made.
+#[tactic(auto, using(udfs_host_fs::proofs::Failing::grow_done, udfs_host_fs::proofs::Failing::grow_on))]
 fn open_seat<F: Files>(
     alloc: Global,
     two: bool,
@@ -144,6 +148,7 @@ fn open_seat<F: Files>(
     ensures word { IfOk result (λ found. IfSome found (λ seat. string_bytes seat.word ≡ found_word two name.now)) }
     ensures path { IfOk result (λ found. IfSome found (λ seat. string_bytes seat.path ≡ folder.now ++ codes "/" ++ found_part two name.now)) }
     ensures others { (q : List ℕ) → F.holds files.new q ≡ F.holds files.old q }
+    ensures grow { Grow (F.failures files.old) (F.failures files.new) }
     ensures crash { Goes F.moment F.may_leave F.left_since files.old files.new Same }
 {
     let way = found_way(alloc, two, name)?;
@@ -157,6 +162,7 @@ fn open_seat<F: Files>(
 
 /// The place of a tree by a name that was found for it, whose folders are made then; by its number, where there is none, or something is at that place already, or nothing
 /// can be made there.
+#[tactic(auto, using(udfs_host_fs::proofs::Failing::grow_done, udfs_host_fs::proofs::Failing::grow_on))]
 pub fn seat_for<F: Files>(
     alloc: Global,
     two: bool,
@@ -167,6 +173,7 @@ pub fn seat_for<F: Files>(
 ) -> Result<Seat, AllocError>
     ensures seat { IfOk result (λ seat. (at : Option FoundAt) × IsSeat names.now icb at × (string_bytes seat.word ≡ seat_word two icb at) × (string_bytes seat.path ≡ seat_path folder.now two icb at)) }
     ensures others { (q : List ℕ) → F.holds files.new q ≡ F.holds files.old q }
+    ensures grow { Grow (F.failures files.old) (F.failures files.new) }
     ensures crash { Goes F.moment F.may_leave F.left_since files.old files.new Same }
 {
     let Some(name) = names.at(icb) else {

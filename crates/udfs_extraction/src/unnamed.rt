@@ -3,7 +3,8 @@
 ghost use Rattle.std.specs.Prelude.{◌≡◌, ◌≢◌, ◌<◌, ◌⊎◌, ◌++◌, ⊤, ℕ, Bool, false, true, List, [], Some, None, IfOk, IfErr, IsErrOf, MatchOption, OnOk, OnErr, length, slice_get, string_bytes};
 ghost use Rattle.std.specs.Io.KnownBytes.{Appends};
 ghost use Rattle.udfs_file.specs.declared.cells.Cell.{Cell};
-ghost use Rattle.udfs_host_fs.specs.Disk.{Same, SameBut, Goes, Fails, SinkFails};
+ghost use Rattle.udfs_host_fs.specs.Disk.{Same, SameBut, Goes};
+ghost use Rattle.udfs_host_fs.specs.Failing.{Grow};
 ghost use Rattle.udfs_volume.specs.declared.profiles.Profile.{Profile};
 ghost use Rattle.udfs_walk.specs.declared.answers.Unnamed.{Unnamed};
 ghost use Rattle.udfs_salvage.specs.declared.extraction.ExtractError.TheVariants as extract_error;
@@ -14,7 +15,7 @@ ghost use Rattle.udfs_salvage.specs.Listings.{AreUnnamedBy, listing_by};
 ghost use Rattle.udfs_salvage.specs.Reports.{IsReportBy};
 ghost use Rattle.udfs_salvage.specs.Texts.{has_two, line};
 ghost use Rattle.udfs_salvage.specs.UnnamedExtraction.{HasUnnamedCellsBy, is_lost_file};
-ghost use Rattle.udfs_extraction.specs.Extracting.{IsFateOf, TellsLines, TellsOn, all_good};
+ghost use Rattle.udfs_extraction.specs.Extracting.{IsFateOf, NodeFails, TellsLines, TellsOn, all_good};
 ghost use Rattle.udfs_common.specs.Keeping.{IsKept};
 ghost use Rattle.udfs_extraction.specs.ByRequest.{MakesLost};
 ghost use Rattle.udfs_extraction.specs.Refused.{LostCut, LostStops};
@@ -32,7 +33,7 @@ use std::marker::PhantomData;
 use udfs_common::files::Files;
 use udfs_common::known::Known;
 use udfs_common::refusal::Refusal;
-use udfs_host_fs::{Job, Times, fill_by};
+use udfs_host_fs::{GivenUp, Job, Times, fill_by};
 use udfs_lattice::{BlockStore, GaveUp};
 use udfs_reading::{Sink, WriteFault, write_all};
 use udfs_salvage::{
@@ -123,8 +124,8 @@ impl<'a, 'r, B: BlockStore> LostBytes<'a, 'r, B> {
         ensures wrote { OnOk result (B.tells → (profile : Profile) (last : ℕ) (u : Unnamed) → (self.now.index < length self.now.entries.now) → AreUnnamedBy B.states self.now.listing.now self.now.entries.now →
             IsReportBy profile (B.states self.now.listing.now.table.now) last (listing_by B.states self.now.listing.now) → slice_get (listing_by B.states self.now.listing.now).unnamed self.now.index ≡ Some u → is_lost_file u ≡ true →
             (cs : List Cell) × HasUnnamedCellsBy profile (B.states self.now.listing.now.table.now) last u cs × Appends (W.stream sink.old).contents (W.stream sink.new).contents (filled 0 cs)) }
-        ensures cause { IfErr result (λ error. (error ≢ store_error.Extract extract_error.OutOfMemory) → (error ≢ store_error.Unread) → B.tells → (self.now.index < length self.now.entries.now) → AreUnnamedBy B.states self.now.listing.now self.now.entries.now → (profile : Profile) (last : ℕ) (u : Unnamed) →
-            IsReportBy profile (B.states self.now.listing.now.table.now) last (listing_by B.states self.now.listing.now) → slice_get (listing_by B.states self.now.listing.now).unnamed self.now.index ≡ Some u → is_lost_file u ≡ true → SinkFails W.stream) }
+        ensures moved { IfErr result (λ error. (error ≢ store_error.Extract extract_error.OutOfMemory) → (error ≢ store_error.Unread) → B.tells → (self.now.index < length self.now.entries.now) → AreUnnamedBy B.states self.now.listing.now self.now.entries.now → (profile : Profile) (last : ℕ) (u : Unnamed) →
+            IsReportBy profile (B.states self.now.listing.now.table.now) last (listing_by B.states self.now.listing.now) → slice_get (listing_by B.states self.now.listing.now).unnamed self.now.index ≡ Some u → is_lost_file u ≡ true → (W.stream sink.new).faults ≢ (W.stream sink.old).faults) }
         ensures fails { IsErrOf result StoreExtractError.Unread → B.fails }
     {
         if self.index >= self.entries.len() {
@@ -173,6 +174,7 @@ impl<'a, 'r, B: BlockStore> Job for LostBytes<'a, 'r, B> {
 
 /// Writes the lost file of this index to `output`, a new file at `path`. Where that fails, or an input can not be read again, or memory runs out, it tries to remove
 /// the file.
+#[tactic(auto, using(udfs_host_fs::proofs::Failing::failed_at_before, udfs_host_fs::proofs::Failing::failed_write_at, udfs_host_fs::proofs::Failing::grow_discard, udfs_host_fs::proofs::Failing::grow_done, udfs_host_fs::proofs::Failing::grow_failed, udfs_host_fs::proofs::Failing::grow_on))]
 fn fill_lost<B: BlockStore, F: Files>(
     alloc: Global,
     listing: &Listing<'_, B>,
@@ -188,14 +190,16 @@ fn fill_lost<B: BlockStore, F: Files>(
     requires number { F.tells → F.Output.number output ≢ None }
     requires at { F.is_at files.old path.now (F.Output.number output) }
     requires empty { F.tells → (F.Output.stream output).contents ≡ Some [] }
+    requires fresh { (F.Output.stream output).faults ≡ 0 }
     requires open { F.holds files.old path.now ≡ None }
     ensures written { IfOk result (λ fate. B.tells → fate ≡ Fate.Written → F.tells → (profile : Profile) (last : ℕ) (u : Unnamed) →
         IsReportBy profile (B.states listing.now.table.now) last (listing_by B.states listing.now) → slice_get (listing_by B.states listing.now).unnamed index ≡ Some u → is_lost_file u ≡ true →
         (cs : List Cell) × HasUnnamedCellsBy profile (B.states listing.now.table.now) last u cs × IsKept (F.holds files.new) (F.may_leave files.new) path.now (filled 0 cs)) }
     ensures gone { IfOk result (λ fate. fate ≡ Fate.Failed → F.tells → F.holds files.new path.now ≡ Some None) }
     ensures fate { IfOk result (λ fate. IsFateOf Deed.File fate) }
-    ensures cause { IfOk result (λ fate. B.tells → fate ≢ Fate.Written → (profile : Profile) (last : ℕ) (u : Unnamed) →
-        IsReportBy profile (B.states listing.now.table.now) last (listing_by B.states listing.now) → slice_get (listing_by B.states listing.now).unnamed index ≡ Some u → is_lost_file u ≡ true → Fails F.faults ⊎ SinkFails F.Output.stream) }
+    ensures failed { IfOk result (λ fate. B.tells → fate ≢ Fate.Written → (profile : Profile) (last : ℕ) (u : Unnamed) →
+        IsReportBy profile (B.states listing.now.table.now) last (listing_by B.states listing.now) → slice_get (listing_by B.states listing.now).unnamed index ≡ Some u → is_lost_file u ≡ true → NodeFails F.Files files.old files.new path.now) }
+    ensures grow { Grow (F.failures files.old) (F.failures files.new) }
     ensures others { (q : List ℕ) → q ≢ path.now → F.holds files.new q ≡ F.holds files.old q }
     ensures crash { Goes F.moment F.may_leave F.left_since files.old files.new (SameBut path.now) }
     ensures fails { IsErrOf result GaveUp.Unread → (B.fails → ⊥) → ⊥ }
@@ -209,18 +213,22 @@ fn fill_lost<B: BlockStore, F: Files>(
     };
     match fill_by(output, &job) {
         Ok(output) => Ok(finish_file(path, output, files)),
-        Err(fault) => match fault.gave_up() {
-            Some(error) => {
-                let _ = files.remove(path);
-                Err(error)
+        Err(GivenUp { handle, refusal }) => {
+            files.discard(path, handle);
+            match refusal.gave_up() {
+                Some(error) => {
+                    let _ = files.remove(path);
+                    Err(error)
+                }
+                None => Ok(give_up(path, files)),
             }
-            None => Ok(give_up(path, files)),
-        },
+        }
     }
 }
 
 /// Writes the lost file of this index to a new file, and then syncs it and its folder. Where it could not be written, or an input can not be read again, or memory ran
 /// out, it tries to remove the new file. What another file of this path holds is untouched.
+#[tactic(auto, using(udfs_host_fs::proofs::Failing::failed_at, udfs_host_fs::proofs::Failing::grow_done, udfs_host_fs::proofs::Failing::grow_failed, udfs_host_fs::proofs::Failing::grow_on))]
 fn write_lost_file<B: BlockStore, F: Files>(
     alloc: Global,
     listing: &Listing<'_, B>,
@@ -237,8 +245,9 @@ fn write_lost_file<B: BlockStore, F: Files>(
         (cs : List Cell) × HasUnnamedCellsBy profile (B.states listing.now.table.now) last u cs × IsKept (F.holds files.new) (F.may_leave files.new) path.now (filled 0 cs)) }
     ensures gone { IfOk result (λ fate. fate ≡ Fate.Failed → F.tells → F.holds files.new path.now ≡ F.holds files.old path.now) }
     ensures fate { IfOk result (λ fate. IsFateOf Deed.File fate) }
-    ensures cause { IfOk result (λ fate. B.tells → fate ≢ Fate.Written → (profile : Profile) (last : ℕ) (u : Unnamed) →
-        IsReportBy profile (B.states listing.now.table.now) last (listing_by B.states listing.now) → slice_get (listing_by B.states listing.now).unnamed index ≡ Some u → is_lost_file u ≡ true → Fails F.faults ⊎ SinkFails F.Output.stream) }
+    ensures failed { IfOk result (λ fate. B.tells → fate ≢ Fate.Written → (profile : Profile) (last : ℕ) (u : Unnamed) →
+        IsReportBy profile (B.states listing.now.table.now) last (listing_by B.states listing.now) → slice_get (listing_by B.states listing.now).unnamed index ≡ Some u → is_lost_file u ≡ true → NodeFails F.Files files.old files.new path.now) }
+    ensures grow { Grow (F.failures files.old) (F.failures files.new) }
     ensures others { (q : List ℕ) → q ≢ path.now → F.holds files.new q ≡ F.holds files.old q }
     ensures there { F.tells → F.holds files.old path.now ≢ Some None → F.holds files.new path.now ≡ F.holds files.old path.now }
     ensures stays { F.tells → F.holds files.old path.now ≢ Some None → Goes F.moment F.may_leave F.left_since files.old files.new Same }
@@ -265,7 +274,7 @@ fn put_entry<B: BlockStore, F: Files>(
     requires index { index < length entries.now }
     requires entries { B.tells → AreUnnamedBy B.states listing.now entries.now }
     ensures put { IfOk result (λ fate. B.tells → (u : Unnamed) → slice_get (listing_by B.states listing.now).unnamed index ≡ Some u →
-        IsLostPutAt F.Files F.Output.stream files.new (B.states listing.now.table.now) (listing_by B.states listing.now) folder.now two u fate) }
+        IsLostPutAt F.Files files.old files.new (B.states listing.now.table.now) (listing_by B.states listing.now) folder.now two u fate) }
     ensures spares { SparesLost F.Files folder.now files.old files.new }
     ensures fails { IsErrOf result GaveUp.Unread → (B.fails → ⊥) → ⊥ }
 {
@@ -299,7 +308,7 @@ fn put_entries<B: BlockStore, F: Files, O: Sink>(
     out: &mut O,
 ) -> Result<ToldLost, GaveUp>
     requires { B.tells → AreUnnamedBy B.states listing.now entries.now }
-    ensures put { B.tells → (heard : Bool) × (fates : List Fate) × EachLost (IsLostPutAt F.Files F.Output.stream files.new (B.states listing.now.table.now) (listing_by B.states listing.now) folder.now two) (listing_by B.states listing.now).unnamed fates ×
+    ensures put { B.tells → (heard : Bool) × (fates : List Fate) × EachLost (IsLostPutAt F.Files files.old files.new (B.states listing.now.table.now) (listing_by B.states listing.now) folder.now two) (listing_by B.states listing.now).unnamed fates ×
         TellsLines heard (O.stream out.old) (O.stream out.new) (lost_lines two (listing_by B.states listing.now).unnamed fates) ×
         IfOk result (λ told. (length fates ≡ length (listing_by B.states listing.now).unnamed) × (told.heard ≡ heard) × (told.good ≡ all_good fates)) }
     ensures spares { SparesLost F.Files folder.now files.old files.new }
@@ -319,8 +328,10 @@ fn put_entries<B: BlockStore, F: Files, O: Sink>(
 }
 
 /// Where the volume opens, makes a folder and brings its name to the disk. Returns `false` where that failed, and else `true`.
+#[tactic(auto, using(udfs_host_fs::proofs::Failing::grow_done))]
 pub fn make_if_open<F: Files>(volume: &Volume, folder: &str, files: &mut F) -> bool
-    ensures cause { result ≡ false → Fails F.faults }
+    ensures failed { result ≡ false → NodeFails F.Files files.old files.new folder.now }
+    ensures grow { Grow (F.failures files.old) (F.failures files.new) }
     ensures others { (q : List ℕ) → F.holds files.new q ≡ F.holds files.old q }
     ensures crash { Goes F.moment F.may_leave F.left_since files.old files.new Same }
 {
@@ -341,10 +352,10 @@ fn put_lost<B: BlockStore, F: Files, O: Sink>(
     out: &mut O,
 ) -> Result<bool, Stop>
     requires { B.tells → AreUnnamedBy B.states listing.now entries.now }
-    ensures put { IfOk result (λ good. B.tells → PutsLost (IsLostPutAt F.Files F.Output.stream files.new (B.states listing.now.table.now) (listing_by B.states listing.now) folder.now (has_two (volume_now listing.now.volume)))
+    ensures put { IfOk result (λ good. B.tells → PutsLost (IsLostPutAt F.Files files.old files.new (B.states listing.now.table.now) (listing_by B.states listing.now) folder.now (has_two (volume_now listing.now.volume)))
         (has_two (volume_now listing.now.volume)) (listing_by B.states listing.now).unnamed (O.stream out.old) (O.stream out.new) good) }
-    ensures why { IfErr result (λ stop. B.tells → IfStopped (LostStops F.Files F.Output.stream folder.now files.new (O.stream out.old) (O.stream out.new) (B.states listing.now.table.now) (listing_by B.states listing.now))
-        (LostCut F.Files F.Output.stream folder.now files.new (O.stream out.old) (O.stream out.new) (B.states listing.now.table.now) (listing_by B.states listing.now)) stop) }
+    ensures why { IfErr result (λ stop. B.tells → IfStopped (LostStops F.Files files.old folder.now files.new (O.stream out.old) (O.stream out.new) (B.states listing.now.table.now) (listing_by B.states listing.now))
+        (LostCut F.Files files.old folder.now files.new (O.stream out.old) (O.stream out.new) (B.states listing.now.table.now) (listing_by B.states listing.now)) stop) }
     ensures spares { SparesLost F.Files folder.now files.old files.new }
     ensures no_node { (i : ℕ) → IsErrOf result (Stop.Refused (Refusal.NoNode i)) → ⊥ }
     ensures fails { IsErrOf result Stop.Unread → (B.fails → ⊥) → ⊥ }
@@ -393,8 +404,8 @@ pub fn add_lost<B: BlockStore, F: Files, O: Sink>(
 ) -> Result<bool, Stop>
     requires { MatchOption lost ⊤ (λ folder. B.tells → AreUnnamedBy B.states listing.now entries.now) }
     ensures made { IfOk result (λ good. B.tells → MakesLost ⟦<F as Known>⟧.reach O.stream lost.entry files.old files.new out.old out.new (B.states listing.now.table.now) (listing_by B.states listing.now) good) }
-    ensures why { IfErr result (λ stop. B.tells → MatchOption lost.entry ⊥ (λ folder. IfStopped (LostStops F.Files F.Output.stream folder.now files.new (O.stream out.old) (O.stream out.new) (B.states listing.now.table.now) (listing_by B.states listing.now))
-        (LostCut F.Files F.Output.stream folder.now files.new (O.stream out.old) (O.stream out.new) (B.states listing.now.table.now) (listing_by B.states listing.now)) stop)) }
+    ensures why { IfErr result (λ stop. B.tells → MatchOption lost.entry ⊥ (λ folder. IfStopped (LostStops F.Files files.old folder.now files.new (O.stream out.old) (O.stream out.new) (B.states listing.now.table.now) (listing_by B.states listing.now))
+        (LostCut F.Files files.old folder.now files.new (O.stream out.old) (O.stream out.new) (B.states listing.now.table.now) (listing_by B.states listing.now)) stop)) }
     ensures spares { MatchOption lost.entry (files.new ≡ files.old) (λ folder. SparesLost F.Files folder.now files.old files.new) }
     ensures no_node { (i : ℕ) → IsErrOf result (Stop.Refused (Refusal.NoNode i)) → ⊥ }
     ensures fails { IsErrOf result Stop.Unread → (B.fails → ⊥) → ⊥ }

@@ -1,14 +1,14 @@
 use Rattle.std.proofs.Common.{◌≡◌, ◌⊎◌, ◌<◌, ◌∙◌, ◌∷◌, ℕ, suc, [], inl, inr, refl, sym, ap, subst, length, rules, drop, true, false, if◌then◌else◌}
 use Rattle.std.proofs.lemmas.List.{append-nil, length-map}
-use Rattle.udfs_host_fs.specs.Disk.{Fails, SinkFails}
 use Rattle.udfs_walk.specs.NodeFields.{NodeFields}
 use Rattle.udfs_salvage.specs.Found.{volume_now}
 use Rattle.udfs_salvage.specs.Listings.{full_in, listing_by}
 use Rattle.udfs_salvage.specs.declared.extraction.Fill.TheVariants.{Refuse}
-use Rattle.udfs_extraction.specs.Extracting.{IsPut, TellsLines, fate_lines, is_good, node_line}
+use Rattle.udfs_extraction.specs.Extracting.{IsPutAt, TellsLines, fate_lines, is_good, node_line}
 use Rattle.udfs_extraction.specs.declared.nodes.Fate.{Fate}
 use Rattle.udfs_extraction.proofs.ManifestJob.{found_at}
 use Rattle.udfs_extraction.proofs.PutNodes.{put_still, tells_more}
+use Rattle.udfs_extraction.proofs.RunLemmas.{fails_until, puts_since}
 use Rattle.udfs_extraction.proofs.TreeLemmas.{all_asked, behind_one, each_first, lines_first, spares_nodes_on, spares_still}
 use Rattle.udfs_extraction.proofs.lost_trees.put_tree.Goals as goal
 
@@ -44,7 +44,7 @@ returns-then-not-first-clause-put g c known =
     let fate = c.in-Ok.first.fate in
     let unheard : c.in-Ok.first.heard ≡ false = search rules in
     let lines = subst (λ t. TellsLines c.in-Ok.first.heard (S.stream c.args.out.now) (S.stream c.put_first.new.out) t) (sym (append-nil (lined fate n)) ∙ lines_first lined nodes n fate [] one.1) first.1 in
-    let P : ℕ → NodeFields → Fate → Type 0 = IsPut F.tells (Fails F.faults ⊎ SinkFails g.F.Output.Sink.stream) M report Refuse c.args.short c.args.folder.now (F.holds c.put_first.new.files) (F.moment c.put_first.new.files) (F.left_since c.put_first.new.files) in
+    let P : ℕ → NodeFields → Fate → Type 0 = IsPutAt F c.args.files.now c.put_first.new.files M report Refuse c.args.short c.args.folder.now in
     (c.in-Ok.first.heard, fate ∷ [], each_first P nodes n fate [] one.1 first.0 tt, lines, tt, inr (refl, unheard))
 
 pub returns-in-Err-OutOfMemory-put_nodes-clause-put : goal.returns-in-Err-OutOfMemory-put_nodes-clause-put
@@ -61,13 +61,13 @@ returns-in-Err-OutOfMemory-put_nodes-clause-put g c known =
     let n = one.0 in
     let first = c.in-Ok.ensures.put known n one.1 in
     let fate = c.in-Ok.first.fate in
-    let P : ℕ → NodeFields → Fate → Type 0 = IsPut F.tells (Fails F.faults ⊎ SinkFails g.F.Output.Sink.stream) M report Refuse c.args.short c.args.folder.now (F.holds c.put_nodes.new.files) (F.moment c.put_nodes.new.files) (F.left_since c.put_nodes.new.files) in
-    let still : P 0 n fate = put_still F.moment F.may_leave F.left_since F.tells (Fails F.faults ⊎ SinkFails g.F.Output.Sink.stream) M report Refuse c.args.short c.args.folder.now
-    c.put_first.new.files c.put_nodes.new.files (F.holds c.put_first.new.files) (F.holds c.put_nodes.new.files) (g.met.F.Files.counts_now c.put_first.new.files) c.put_nodes.ensures.stays c.put_nodes.ensures.crash 0 n fate first.0 in
+    let P : ℕ → NodeFields → Fate → Type 0 = IsPutAt F c.args.files.now c.put_nodes.new.files M report Refuse c.args.short c.args.folder.now in
+    let still : P 0 n fate = put_still F.moment F.may_leave F.left_since F.tells _ _ M report Refuse c.args.short c.args.folder.now
+    c.put_first.new.files c.put_nodes.new.files (F.holds c.put_first.new.files) (F.holds c.put_nodes.new.files) (g.met.F.Files.counts_now c.put_first.new.files) c.put_nodes.ensures.stays c.put_nodes.ensures.crash (fails_until F c.args.files.now c.put_first.new.files c.put_nodes.new.files c.put_nodes.ensures.grow) 0 n fate first.0 in
     let put = c.put_nodes.ensures.put known in
     let took : c.in-Ok.first.heard ≡ true = search rules in
     let begun : TellsLines true (S.stream c.args.out.now) (S.stream c.put_first.new.out) (lined fate n) = subst (λ b. TellsLines b (S.stream c.args.out.now) (S.stream c.put_first.new.out) (lined fate n)) took first.1 in
-    let each = each_first P nodes n fate put.1 one.1 still (all_asked P 1 (drop 1 nodes) put.1 put.2.each) in
+    let each = each_first P nodes n fate put.1 one.1 still (all_asked P 1 (drop 1 nodes) put.1 (puts_since F c.args.files.now c.put_first.new.files c.put_nodes.new.files M report Refuse c.args.short c.args.folder.now c.put_first.ensures.spares.grow put.2).each) in
     let lines = subst (λ t. TellsLines put.0 (S.stream c.args.out.now) (S.stream c.put_nodes.new.out) t) (lines_first lined nodes n fate put.1 one.1)
     (tells_more put.0 (S.stream c.args.out.now) (S.stream c.put_first.new.out) (S.stream c.put_nodes.new.out) (lined fate n) (fate_lines lined (drop 1 nodes) put.1) begun put.2.lines) in
     (put.0, fate ∷ put.1, each, lines, tt, inl refl)
@@ -75,7 +75,7 @@ returns-in-Err-OutOfMemory-put_nodes-clause-put g c known =
 pub returns-in-Err-OutOfMemory-put_nodes-clause-spares : goal.returns-in-Err-OutOfMemory-put_nodes-clause-spares
 returns-in-Err-OutOfMemory-put_nodes-clause-spares g c =
     spares_nodes_on g.F.Files c.args.folder.now c.args.files.now c.put_first.new.files c.put_nodes.new.files c.put_first.ensures.spares
-    (let step = c.put_nodes.ensures in record { stays = step.stays; outside = step.outside; crash = step.crash })
+    (let step = c.put_nodes.ensures in record { stays = step.stays; outside = step.outside; crash = step.crash; grow = step.grow })
 
 pub returns-in-Err-Unread-put_nodes-clause-put : goal.returns-in-Err-Unread-put_nodes-clause-put
 returns-in-Err-Unread-put_nodes-clause-put g c known =
@@ -91,13 +91,13 @@ returns-in-Err-Unread-put_nodes-clause-put g c known =
     let n = one.0 in
     let first = c.in-Ok.ensures.put known n one.1 in
     let fate = c.in-Ok.first.fate in
-    let P : ℕ → NodeFields → Fate → Type 0 = IsPut F.tells (Fails F.faults ⊎ SinkFails g.F.Output.Sink.stream) M report Refuse c.args.short c.args.folder.now (F.holds c.put_nodes.new.files) (F.moment c.put_nodes.new.files) (F.left_since c.put_nodes.new.files) in
-    let still : P 0 n fate = put_still F.moment F.may_leave F.left_since F.tells (Fails F.faults ⊎ SinkFails g.F.Output.Sink.stream) M report Refuse c.args.short c.args.folder.now
-    c.put_first.new.files c.put_nodes.new.files (F.holds c.put_first.new.files) (F.holds c.put_nodes.new.files) (g.met.F.Files.counts_now c.put_first.new.files) c.put_nodes.ensures.stays c.put_nodes.ensures.crash 0 n fate first.0 in
+    let P : ℕ → NodeFields → Fate → Type 0 = IsPutAt F c.args.files.now c.put_nodes.new.files M report Refuse c.args.short c.args.folder.now in
+    let still : P 0 n fate = put_still F.moment F.may_leave F.left_since F.tells _ _ M report Refuse c.args.short c.args.folder.now
+    c.put_first.new.files c.put_nodes.new.files (F.holds c.put_first.new.files) (F.holds c.put_nodes.new.files) (g.met.F.Files.counts_now c.put_first.new.files) c.put_nodes.ensures.stays c.put_nodes.ensures.crash (fails_until F c.args.files.now c.put_first.new.files c.put_nodes.new.files c.put_nodes.ensures.grow) 0 n fate first.0 in
     let put = c.put_nodes.ensures.put known in
     let took : c.in-Ok.first.heard ≡ true = search rules in
     let begun : TellsLines true (S.stream c.args.out.now) (S.stream c.put_first.new.out) (lined fate n) = subst (λ b. TellsLines b (S.stream c.args.out.now) (S.stream c.put_first.new.out) (lined fate n)) took first.1 in
-    let each = each_first P nodes n fate put.1 one.1 still (all_asked P 1 (drop 1 nodes) put.1 put.2.each) in
+    let each = each_first P nodes n fate put.1 one.1 still (all_asked P 1 (drop 1 nodes) put.1 (puts_since F c.args.files.now c.put_first.new.files c.put_nodes.new.files M report Refuse c.args.short c.args.folder.now c.put_first.ensures.spares.grow put.2).each) in
     let lines = subst (λ t. TellsLines put.0 (S.stream c.args.out.now) (S.stream c.put_nodes.new.out) t) (lines_first lined nodes n fate put.1 one.1)
     (tells_more put.0 (S.stream c.args.out.now) (S.stream c.put_first.new.out) (S.stream c.put_nodes.new.out) (lined fate n) (fate_lines lined (drop 1 nodes) put.1) begun put.2.lines) in
     (put.0, fate ∷ put.1, each, lines, tt, tt)
@@ -105,7 +105,7 @@ returns-in-Err-Unread-put_nodes-clause-put g c known =
 pub returns-in-Err-Unread-put_nodes-clause-spares : goal.returns-in-Err-Unread-put_nodes-clause-spares
 returns-in-Err-Unread-put_nodes-clause-spares g c =
     spares_nodes_on g.F.Files c.args.folder.now c.args.files.now c.put_first.new.files c.put_nodes.new.files c.put_first.ensures.spares
-    (let step = c.put_nodes.ensures in record { stays = step.stays; outside = step.outside; crash = step.crash })
+    (let step = c.put_nodes.ensures in record { stays = step.stays; outside = step.outside; crash = step.crash; grow = step.grow })
 
 pub returns-then-not-told-clause-put : goal.returns-then-not-told-clause-put
 returns-then-not-told-clause-put g c known =
@@ -121,14 +121,14 @@ returns-then-not-told-clause-put g c known =
     let n = one.0 in
     let first = c.in-Ok.ensures.put known n one.1 in
     let fate = c.in-Ok.first.fate in
-    let P : ℕ → NodeFields → Fate → Type 0 = IsPut F.tells (Fails F.faults ⊎ SinkFails g.F.Output.Sink.stream) M report Refuse c.args.short c.args.folder.now (F.holds c.put_nodes.new.files) (F.moment c.put_nodes.new.files) (F.left_since c.put_nodes.new.files) in
-    let still : P 0 n fate = put_still F.moment F.may_leave F.left_since F.tells (Fails F.faults ⊎ SinkFails g.F.Output.Sink.stream) M report Refuse c.args.short c.args.folder.now
-    c.put_first.new.files c.put_nodes.new.files (F.holds c.put_first.new.files) (F.holds c.put_nodes.new.files) (g.met.F.Files.counts_now c.put_first.new.files) c.put_nodes.ensures.stays c.put_nodes.ensures.crash 0 n fate first.0 in
+    let P : ℕ → NodeFields → Fate → Type 0 = IsPutAt F c.args.files.now c.put_nodes.new.files M report Refuse c.args.short c.args.folder.now in
+    let still : P 0 n fate = put_still F.moment F.may_leave F.left_since F.tells _ _ M report Refuse c.args.short c.args.folder.now
+    c.put_first.new.files c.put_nodes.new.files (F.holds c.put_first.new.files) (F.holds c.put_nodes.new.files) (g.met.F.Files.counts_now c.put_first.new.files) c.put_nodes.ensures.stays c.put_nodes.ensures.crash (fails_until F c.args.files.now c.put_first.new.files c.put_nodes.new.files c.put_nodes.ensures.grow) 0 n fate first.0 in
     let put = c.in-Ok-put_nodes.ensures.put known in
     let was = put.3.1 in
     let took : c.in-Ok.first.heard ≡ true = search rules in
     let begun : TellsLines true (S.stream c.args.out.now) (S.stream c.put_first.new.out) (lined fate n) = subst (λ b. TellsLines b (S.stream c.args.out.now) (S.stream c.put_first.new.out) (lined fate n)) took first.1 in
-    let each = each_first P nodes n fate put.1 one.1 still (all_asked P 1 (drop 1 nodes) put.1 put.2.each) in
+    let each = each_first P nodes n fate put.1 one.1 still (all_asked P 1 (drop 1 nodes) put.1 (puts_since F c.args.files.now c.put_first.new.files c.put_nodes.new.files M report Refuse c.args.short c.args.folder.now c.put_first.ensures.spares.grow put.2).each) in
     let lines = subst (λ t. TellsLines put.0 (S.stream c.args.out.now) (S.stream c.put_nodes.new.out) t) (lines_first lined nodes n fate put.1 one.1)
     (tells_more put.0 (S.stream c.args.out.now) (S.stream c.put_first.new.out) (S.stream c.put_nodes.new.out) (lined fate n) (fate_lines lined (drop 1 nodes) put.1) begun put.2.lines) in
     let unheard : put.0 ≡ false = search (rules, was) in
@@ -137,7 +137,7 @@ returns-then-not-told-clause-put g c known =
 pub returns-then-not-told-clause-spares : goal.returns-then-not-told-clause-spares
 returns-then-not-told-clause-spares g c =
     spares_nodes_on g.F.Files c.args.folder.now c.args.files.now c.put_first.new.files c.put_nodes.new.files c.put_first.ensures.spares
-    (let step = c.put_nodes.ensures in record { stays = step.stays; outside = step.outside; crash = step.crash })
+    (let step = c.put_nodes.ensures in record { stays = step.stays; outside = step.outside; crash = step.crash; grow = step.grow })
 
 pub returns-clause-put : goal.returns-clause-put
 returns-clause-put g c known =
@@ -153,14 +153,14 @@ returns-clause-put g c known =
     let n = one.0 in
     let first = c.in-Ok.ensures.put known n one.1 in
     let fate = c.in-Ok.first.fate in
-    let P : ℕ → NodeFields → Fate → Type 0 = IsPut F.tells (Fails F.faults ⊎ SinkFails g.F.Output.Sink.stream) M report Refuse c.args.short c.args.folder.now (F.holds c.put_nodes.new.files) (F.moment c.put_nodes.new.files) (F.left_since c.put_nodes.new.files) in
-    let still : P 0 n fate = put_still F.moment F.may_leave F.left_since F.tells (Fails F.faults ⊎ SinkFails g.F.Output.Sink.stream) M report Refuse c.args.short c.args.folder.now
-    c.put_first.new.files c.put_nodes.new.files (F.holds c.put_first.new.files) (F.holds c.put_nodes.new.files) (g.met.F.Files.counts_now c.put_first.new.files) c.put_nodes.ensures.stays c.put_nodes.ensures.crash 0 n fate first.0 in
+    let P : ℕ → NodeFields → Fate → Type 0 = IsPutAt F c.args.files.now c.put_nodes.new.files M report Refuse c.args.short c.args.folder.now in
+    let still : P 0 n fate = put_still F.moment F.may_leave F.left_since F.tells _ _ M report Refuse c.args.short c.args.folder.now
+    c.put_first.new.files c.put_nodes.new.files (F.holds c.put_first.new.files) (F.holds c.put_nodes.new.files) (g.met.F.Files.counts_now c.put_first.new.files) c.put_nodes.ensures.stays c.put_nodes.ensures.crash (fails_until F c.args.files.now c.put_first.new.files c.put_nodes.new.files c.put_nodes.ensures.grow) 0 n fate first.0 in
     let put = c.in-Ok-put_nodes.ensures.put known in
     let was = put.3.1 in
     let took : c.in-Ok.first.heard ≡ true = search rules in
     let begun : TellsLines true (S.stream c.args.out.now) (S.stream c.put_first.new.out) (lined fate n) = subst (λ b. TellsLines b (S.stream c.args.out.now) (S.stream c.put_first.new.out) (lined fate n)) took first.1 in
-    let each = each_first P nodes n fate put.1 one.1 still (all_asked P 1 (drop 1 nodes) put.1 put.2.each) in
+    let each = each_first P nodes n fate put.1 one.1 still (all_asked P 1 (drop 1 nodes) put.1 (puts_since F c.args.files.now c.put_first.new.files c.put_nodes.new.files M report Refuse c.args.short c.args.folder.now c.put_first.ensures.spares.grow put.2).each) in
     let lines = subst (λ t. TellsLines put.0 (S.stream c.args.out.now) (S.stream c.put_nodes.new.out) t) (lines_first lined nodes n fate put.1 one.1)
     (tells_more put.0 (S.stream c.args.out.now) (S.stream c.put_first.new.out) (S.stream c.put_nodes.new.out) (lined fate n) (fate_lines lined (drop 1 nodes) put.1) begun put.2.lines) in
     let heard : put.0 ≡ true = search (rules, was) in
@@ -171,4 +171,4 @@ returns-clause-put g c known =
 pub returns-clause-spares : goal.returns-clause-spares
 returns-clause-spares g c =
     spares_nodes_on g.F.Files c.args.folder.now c.args.files.now c.put_first.new.files c.put_nodes.new.files c.put_first.ensures.spares
-    (let step = c.put_nodes.ensures in record { stays = step.stays; outside = step.outside; crash = step.crash })
+    (let step = c.put_nodes.ensures in record { stays = step.stays; outside = step.outside; crash = step.crash; grow = step.grow })

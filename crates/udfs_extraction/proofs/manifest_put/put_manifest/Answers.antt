@@ -24,4 +24,4 @@ pub returns-in-Err-clause-refused : goal.returns-in-Err-clause-refused
 returns-in-Err-clause-refused g c other = c.in-Err.ensures.refused (λ is. other (c.unput.ensures.unkept is))
 
 pub returns-in-Err-clause-why : goal.returns-in-Err-clause-why
-returns-in-Err-clause-why g c = unput_by _ _ _ c.unput.ensures.told c.in-Err.ensures.cause
+returns-in-Err-clause-why g c = unput_by _ _ _ c.unput.ensures.told c.in-Err.ensures.failed

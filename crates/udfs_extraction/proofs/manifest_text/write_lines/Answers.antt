@@ -16,5 +16,6 @@ loop-one-preserved g c =
         more_appended _ _ _ inv.out.0 poured.0 inv.out.1 poured.1,
         next_line inv.out.0 poured.0 c.loop-one.text.items _ c.pour.new.text.items _ _ inv.out.2 (sym line ∙ poured.2) (next_note c.args.short report c.args.noted.now c.loop-one.one-index _ c.loop-one-test.true),
       );
+      kept = c.in_ok-pour.ensures.kept ∙ inv.kept;
       way = c.in_ok-at.ensures.way inv.way;
     }

@@ -9,5 +9,6 @@ use Rattle.udfs_extraction.proofs.manifest_text.write_lines.Given as goal
 abbrev pub invariant-loop-one : goal.invariant-loop-one
 invariant-loop-one g l = record {
   out : (out : List ℕ) × Appends (g.W.Sink.stream l.initial.sink).contents (g.W.Sink.stream l.sink).contents out × (out ++ l.text.items ≡ notes_text l.short (listing_by g.B.BlockStore.states l.listing) (take l.one-index l.noted));
+  kept : (g.W.Sink.stream l.sink).faults ≡ (g.W.Sink.stream l.initial.sink).faults;
   way : IsWay (listing_by g.B.BlockStore.states l.listing).nodes l.at l.way.items;
 }

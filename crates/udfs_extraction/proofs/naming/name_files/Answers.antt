@@ -1,6 +1,7 @@
 use Rattle.std.proofs.Common.{◌≡◌, ◌<◌, ◌≤◌, ◌∙◌, length, Some, ap, arith, refl, rules, slice_get, string_bytes, subst, sym, ⊎_elim}
 use Rattle.std.proofs.lemmas.Bool.{cases_lt}
 use Rattle.udfs_host_fs.specs.Disk.{folder_of}
+use Rattle.udfs_host_fs.proofs.Failing.{failed_at_later, grow_done, grow_on}
 use Rattle.udfs_extraction.specs.declared.naming.Put.{Put}
 use Rattle.udfs_extraction.specs.declared.nodes.Fate.TheVariants.{Written}
 use Rattle.udfs_extraction.proofs.PutNodes.{goes_on}
@@ -15,6 +16,7 @@ loop-k-init g c =
       kept = λ tells j put bytes d less. absurd (omega (arith, less));
       others = λ q. refl;
       crash = quiet_nothing F.moment F.may_leave F.left_since c.args.files.now;
+      grow = grow_done _ _ refl;
     }
 
 pub loop-k-preserved : goal.loop-k-preserved
@@ -37,7 +39,14 @@ loop-k-preserved g c =
           (cases_lt j c.loop-k.k);
       others = λ q. step.others q ∙ inv.others q;
       crash = goes_on F.moment F.may_leave F.left_since c.args.files.now c.loop-k.files c.name_put.new.files _ _ _ inv.crash step.crash (λ d e same. same) (λ d e f one two q. two q ∙ one q);
+      grow = grow_on _ _ _ inv.grow step.grow;
     }
+
+pub returns-in-Err-clause-failed : goal.returns-in-Err-clause-failed
+returns-in-Err-clause-failed g c is = let why = c.in-Err.ensures.failed in (why.0, failed_at_later _ _ _ _ c.loop-k.invariant.grow why.1)
+
+pub returns-in-Err-clause-grow : goal.returns-in-Err-clause-grow
+returns-in-Err-clause-grow g c = grow_on _ _ _ c.loop-k.invariant.grow c.name_put.ensures.grow
 
 pub returns-in-Err-clause-others : goal.returns-in-Err-clause-others
 returns-in-Err-clause-others g c q = c.name_put.ensures.others q ∙ c.loop-k.invariant.others q

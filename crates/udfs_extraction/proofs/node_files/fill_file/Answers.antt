@@ -1,4 +1,5 @@
-use Rattle.std.proofs.Common.{inr}
+use Rattle.std.proofs.Common.{◌∙◌, sym}
+use Rattle.udfs_host_fs.proofs.Failing.{failed_at_before, failed_write_at}
 use Rattle.udfs_salvage.specs.Extraction.{fill_byte, filled}
 use Rattle.udfs_extraction.proofs.WalkedLemmas.{from_nothing}
 use Rattle.udfs_extraction.proofs.node_files.fill_file.Goals as goal
@@ -8,7 +9,8 @@ returns-in-Ok-clause-written g c known written tells f root n from at offered =
     let w = c.in-Ok.ensures.wrote known f root n c.requires.index from at offered in
     (w.0, w.1, c.sync_file-fate.ensures.held written tells (filled (fill_byte c.args.fill) w.0) (from_nothing _ _ _ (c.requires.empty tells) w.2))
 
-pub returns-in-None-clause-cause : goal.returns-in-None-clause-cause
-returns-in-None-clause-cause g c known unwritten f root n from at offered =
+pub returns-in-None-clause-failed : goal.returns-in-None-clause-failed
+returns-in-None-clause-failed g c known unwritten f root n from at offered =
     let other = c.gave_up.ensures.other c.in-None.is in
-    inr (c.in-Err.ensures.cause (other.0, other.1, known, c.requires.index, f, root, n, from, at, offered))
+    let moved = c.in-Err.ensures.moved (other.0, other.1, known, c.requires.index, f, root, n, from, at, offered) in
+    failed_at_before c.args.path.now _ _ _ (failed_write_at _ _ _ _ c.discard.ensures.counts (λ none. moved (none ∙ sym c.requires.fresh))) c.give_up.ensures.grow

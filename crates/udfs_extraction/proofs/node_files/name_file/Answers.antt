@@ -1,5 +1,7 @@
 use Rattle.std.proofs.Common.{◌≡◌, ◌∙◌, refl, rules, sym, true, false}
-use Rattle.udfs_host_fs.specs.Disk.{Fails}
+use Rattle.udfs_host_fs.specs.Disk.{folder_of}
+use Rattle.udfs_host_fs.specs.Failing.{FailedAt}
+use Rattle.udfs_host_fs.proofs.Failing.{failed_at, failed_at_before}
 use Rattle.udfs_extraction.specs.declared.nodes.Fate.TheVariants.{Written}
 use Rattle.udfs_extraction.proofs.node_files.name_file.Goals as goal
 
@@ -27,7 +29,7 @@ returns-in-Ok-clause-end g c =
 pub returns-in-Err-clause-end : goal.returns-in-Err-clause-end
 returns-in-Err-clause-end g c =
     let was : c.args.fate ≡ Written = search rules in
-    let fails : Fails g.F.Files.faults = search rules in (
+    let fails : FailedAt (folder_of c.args.path.now) (g.F.Files.failures c.args.files.now) (g.F.Files.failures c.give_up.new.files) = failed_at_before _ _ _ _ (failed_at _ _ _ c.in-Err.ensures.counts) c.give_up.ensures.grow in (
       false,
       record { same = λ is. let bad : false ≡ true = is in absurd (let no : ⊥ = cc in no); unwritten = λ never. absurd (never was); given_up = λ not written. c.give_up.ensures.fate },
       λ not. fails,

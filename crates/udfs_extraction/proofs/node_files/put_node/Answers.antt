@@ -3,7 +3,7 @@ use Rattle.udfs_walk.specs.NodeFields.{NodeFields}
 use Rattle.udfs_salvage.specs.Found.{volume_now}
 use Rattle.udfs_salvage.specs.Listings.{full_in}
 use Rattle.udfs_salvage.specs.Extraction.{is_offered, filled, fill_byte}
-use Rattle.udfs_extraction.specs.Extracting.{IsFateOf, deed, is_good}
+use Rattle.udfs_extraction.specs.Extracting.{IsFateOf, NodeFails, deed, is_good}
 use Rattle.udfs_extraction.specs.declared.nodes.Deed.TheVariants.{File, Folder, Skip}
 use Rattle.udfs_extraction.specs.declared.nodes.Fate.TheVariants.{Written, Skipped}
 use Rattle.udfs_extraction.proofs.ListedLemmas.{same_deed}
@@ -27,7 +27,7 @@ returns-in-Folder-clause-put g c known n short folder at path =
     record {
       done = subst (λ d. IsFateOf d c.put_folder-fate.result) (sym made) c.put_folder-fate.ensures.fate;
       written = λ written told profile last reported. absurd (c.put_folder-fate.ensures.fate.0 written);
-      failed = λ bad profile last reported. inl (c.put_folder-fate.ensures.cause (λ is_made. let no_fate : true ≡ false = sym (ap is_good is_made) ∙ bad in cc));
+      failed = λ bad profile last reported. subst (NodeFails g.F.Files c.args.files.now c.put_folder-fate.new.files) path (c.put_folder-fate.ensures.failed (λ is_made. let no_fate : true ≡ false = sym (ap is_good is_made) ∙ bad in cc));
     }
 
 pub returns-in_ok-done-in-File-clause-put : goal.returns-in_ok-done-in-File-clause-put
@@ -43,7 +43,7 @@ returns-in_ok-done-in-File-clause-put g c known n short folder at path =
       written = λ written told profile last reported.
           let w = c.in_ok-done-in-File.ensures.written known written told profile last n reported at is in
           (w.0, w.1, subst (λ p. F.holds c.write_file.new.files p ≡ Some (Some (filled (fill_byte c.args.fill) w.0))) path w.2);
-      failed = λ bad profile last reported. c.in_ok-done-in-File.ensures.cause known (λ written. let no_fate : true ≡ false = sym (ap is_good written) ∙ bad in cc) profile last n reported at is;
+      failed = λ bad profile last reported. subst (NodeFails F c.args.files.now c.write_file.new.files) path (inl (c.in_ok-done-in-File.ensures.failed known (λ written. let no_fate : true ≡ false = sym (ap is_good written) ∙ bad in cc) profile last n reported at is));
     }
 
 pub returns-in_ok-done-in-File-clause-stays : goal.returns-in_ok-done-in-File-clause-stays

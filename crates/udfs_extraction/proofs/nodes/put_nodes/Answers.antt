@@ -1,6 +1,6 @@
 use Rattle.std.proofs.Common.{rules, ◌≡◌, ◌⊎◌, ◌+◌, ◌++◌, ◌≤◌, ℕ, List, [], refl, sym, ◌∙◌, ap, subst, arith, length, length-append, drop, map, Bor, false, if◌then◌else◌}
 use Rattle.std.proofs.lemmas.List.{length-map}
-use Rattle.udfs_host_fs.specs.Disk.{Fails, SinkFails}
+use Rattle.udfs_host_fs.proofs.Failing.{grow_on}
 use Rattle.udfs_walk.specs.NodeFields.{NodeFields}
 use Rattle.udfs_salvage.specs.Found.{volume_now}
 use Rattle.udfs_salvage.specs.Listings.{full_in, listing_by}
@@ -10,7 +10,7 @@ use Rattle.udfs_extraction.specs.ShortNames.{placed}
 use Rattle.udfs_extraction.specs.declared.nodes.Fate.{Fate}
 use Rattle.udfs_extraction.proofs.ManifestLemmas.{lines_still}
 use Rattle.udfs_extraction.proofs.PutNodes.{all_behind, done_still, each_few, each_map}
-use Rattle.udfs_extraction.proofs.RunLemmas.{good_join, run_nothing, run_on, runs_behind, texts_behind}
+use Rattle.udfs_extraction.proofs.RunLemmas.{fails_until, good_join, run_nothing, run_on, runs_behind, runs_since, texts_behind}
 use Rattle.udfs_extraction.proofs.nodes.put_nodes.Goals as goal
 
 pub loop-next-init : goal.loop-next-init
@@ -36,7 +36,7 @@ pub loop-next-preserved : goal.loop-next-preserved
 loop-next-preserved g c =
     let F = g.F.Files in
     let S = g.O.Sink in
-    let out = g.F.Output.Sink.stream in
+    let from = c.args.files.now in
     let inv = c.loop-next.invariant in
     let l = c.args.listing.now in
     let report = listing_by g.B.BlockStore.states l in
@@ -45,7 +45,7 @@ loop-next-preserved g c =
     let first = c.loop-next.next in
     let step = c.in_ok-next.ensures in
     let spares = c.put_run.ensures.spares in
-    let P : ℕ → NodeFields → Fate → Type 0 = IsDone only (IsPutAt F out c.put_run.new.files (g.B.BlockStore.states l.table.now) report c.args.fill c.args.short c.args.folder.now) in
+    let P : ℕ → NodeFields → Fate → Type 0 = IsDone only (IsPutAt F from c.put_run.new.files (g.B.BlockStore.states l.table.now) report c.args.fill c.args.short c.args.folder.now) in
     record {
       put = λ known.
           let before = inv.put known in
@@ -54,12 +54,12 @@ loop-next-preserved g c =
           let count = before.2 in
           let more = went.0 in
           let puts : Puts lined P report.nodes (S.stream c.args.out.now) (S.stream c.loop-next.out) c.loop-next.told.heard fates = record {
-            each = each_map _ P (λ k n fate. done_still F.moment F.may_leave F.left_since only F.tells (Fails F.faults ⊎ SinkFails out) (g.B.BlockStore.states l.table.now) report c.args.fill c.args.short c.args.folder.now
-                c.loop-next.files c.put_run.new.files (F.holds c.loop-next.files) (F.holds c.put_run.new.files) (g.met.F.Files.counts_now c.loop-next.files) spares.stays spares.crash k n fate) 1 _ fates before.1.each;
+            each = each_map _ P (λ k n fate. done_still F.moment F.may_leave F.left_since only F.tells _ _ (g.B.BlockStore.states l.table.now) report c.args.fill c.args.short c.args.folder.now
+                c.loop-next.files c.put_run.new.files (F.holds c.loop-next.files) (F.holds c.put_run.new.files) (g.met.F.Files.counts_now c.loop-next.files) spares.stays spares.crash (fails_until F from c.loop-next.files c.put_run.new.files spares.grow) k n fate) 1 _ fates before.1.each;
             lines = before.1.lines;
           } in (
             fates ++ more,
-            runs_behind lined P report.nodes first c.loop-next.told.heard c.put_run.new.told.heard (S.stream c.args.out.now) (S.stream c.loop-next.out) (S.stream c.put_run.new.out) fates more count puts went.1,
+            runs_behind lined P report.nodes first c.loop-next.told.heard c.put_run.new.told.heard (S.stream c.args.out.now) (S.stream c.loop-next.out) (S.stream c.put_run.new.out) fates more count puts (runs_since F from c.loop-next.files c.put_run.new.files (g.B.BlockStore.states l.table.now) report c.args.fill c.args.short c.args.folder.now inv.spares.grow went.1),
             (let long = length-append fates more in let next = went.2.0 in omega (arith, count, long, next)),
             went.2.1 ∙ ap (λ b. if all_good more then b else false) before.3 ∙ sym (good_join fates more),
             λ wanted told.
@@ -77,7 +77,7 @@ pub returns-in_err-next-clause-put : goal.returns-in_err-next-clause-put
 returns-in_err-next-clause-put g c known =
     let F = g.F.Files in
     let S = g.O.Sink in
-    let out = g.F.Output.Sink.stream in
+    let from = c.args.files.now in
     let inv = c.loop-next.invariant in
     let l = c.args.listing.now in
     let report = listing_by g.B.BlockStore.states l in
@@ -88,15 +88,15 @@ returns-in_err-next-clause-put g c known =
     let fates = before.0 in
     let step = c.put_run.ensures in
     let went = step.put known in
-    let P : ℕ → NodeFields → Fate → Type 0 = IsDone only (IsPutAt F out c.put_run.new.files (g.B.BlockStore.states l.table.now) report c.args.fill c.args.short c.args.folder.now) in
+    let P : ℕ → NodeFields → Fate → Type 0 = IsDone only (IsPutAt F from c.put_run.new.files (g.B.BlockStore.states l.table.now) report c.args.fill c.args.short c.args.folder.now) in
     let puts : Puts lined P report.nodes (S.stream c.args.out.now) (S.stream c.loop-next.out) c.loop-next.told.heard fates = record {
-      each = each_map _ P (λ k n fate. done_still F.moment F.may_leave F.left_since only F.tells (Fails F.faults ⊎ SinkFails out) (g.B.BlockStore.states l.table.now) report c.args.fill c.args.short c.args.folder.now
-          c.loop-next.files c.put_run.new.files (F.holds c.loop-next.files) (F.holds c.put_run.new.files) (g.met.F.Files.counts_now c.loop-next.files) step.spares.stays step.spares.crash k n fate) 1 _ fates before.1.each;
+      each = each_map _ P (λ k n fate. done_still F.moment F.may_leave F.left_since only F.tells _ _ (g.B.BlockStore.states l.table.now) report c.args.fill c.args.short c.args.folder.now
+          c.loop-next.files c.put_run.new.files (F.holds c.loop-next.files) (F.holds c.put_run.new.files) (g.met.F.Files.counts_now c.loop-next.files) step.spares.stays step.spares.crash (fails_until F from c.loop-next.files c.put_run.new.files step.spares.grow) k n fate) 1 _ fates before.1.each;
       lines = before.1.lines;
     } in (
       c.put_run.new.told.heard,
       fates ++ went.0,
-      runs_behind lined P report.nodes first c.loop-next.told.heard c.put_run.new.told.heard (S.stream c.args.out.now) (S.stream c.loop-next.out) (S.stream c.put_run.new.out) fates went.0 before.2 puts went.1,
+      runs_behind lined P report.nodes first c.loop-next.told.heard c.put_run.new.told.heard (S.stream c.args.out.now) (S.stream c.loop-next.out) (S.stream c.put_run.new.out) fates went.0 before.2 puts (runs_since F from c.loop-next.files c.put_run.new.files (g.B.BlockStore.states l.table.now) report c.args.fill c.args.short c.args.folder.now inv.spares.grow went.1),
       search rules,
     )
 
@@ -141,3 +141,9 @@ returns-clause-elsewhere g c = c.loop-next.invariant.spares.elsewhere
 
 pub returns-clause-crash : goal.returns-clause-crash
 returns-clause-crash g c = c.loop-next.invariant.spares.crash
+
+pub returns-in_err-next-clause-grow : goal.returns-in_err-next-clause-grow
+returns-in_err-next-clause-grow g c = grow_on _ _ _ c.loop-next.invariant.spares.grow c.put_run.ensures.spares.grow
+
+pub returns-clause-grow : goal.returns-clause-grow
+returns-clause-grow g c = c.loop-next.invariant.spares.grow

@@ -10,6 +10,7 @@ use Rattle.udfs_extraction.proofs.ListedLemmas.{same_chosen, same_named}
 use Rattle.udfs_extraction.proofs.ManifestLemmas.{by_open, puts_with}
 use Rattle.udfs_extraction.proofs.PutNodes.{spares_all, spares_on}
 use Rattle.udfs_extraction.proofs.RefusedLemmas.{unnamed_before}
+use Rattle.udfs_extraction.proofs.RunLemmas.{puts_since}
 use Rattle.udfs_extraction.proofs.nodes.put_report.Goals as goal
 
 pub returns-in-Err-OutOfMemory-clause-crash : goal.returns-in-Err-OutOfMemory-clause-crash
@@ -50,7 +51,7 @@ returns-else-not-told-clause-put g c known =
     let named : list_all (is_node (listing_by g.B.BlockStore.states l).nodes) only ≡ true = same_named M a items only ∙ named_items in
     let whole_items : c.in-Ok-chosen_are_whole.whole ≡ list_all (λ (n : NodeFields). is_whole n.standing) (chosen only items) = search rules in
     let whole : c.in-Ok-chosen_are_whole.whole ≡ list_all (λ (n : NodeFields). is_whole n.standing) (chosen only (listing_by g.B.BlockStore.states l).nodes) = whole_items ∙ sym (same_chosen M a only items) in
-    by_open _ _ c.in-Open.is _ _ (puts_with _ _ _ _ _ _ _ _ put.1 put.0 c.in-Ok-put_nodes.told.good c.in-Ok-chosen_are_whole.whole (notes_text c.args.short (listing_by g.B.BlockStore.states l) c.in-Ok-put_nodes.told.manifest.items) named put.2 put.3.0 heard put.3.2 whole c.is_all_good.ensures put.3.3)
+    by_open _ _ c.in-Open.is _ _ (puts_with _ _ _ _ _ _ _ _ put.1 put.0 c.in-Ok-put_nodes.told.good c.in-Ok-chosen_are_whole.whole (notes_text c.args.short (listing_by g.B.BlockStore.states l) c.in-Ok-put_nodes.told.manifest.items) named (puts_since g.F.Files c.args.files.now c.put_folder.new.files c.put_nodes.new.files (g.B.BlockStore.states c.args.listing.now.table.now) (listing_by g.B.BlockStore.states c.args.listing.now) c.args.fill c.args.short c.args.folder.now c.put_folder.ensures.grow put.2) put.3.0 heard put.3.2 whole c.is_all_good.ensures put.3.3)
 
 pub returns-in-Err-clause-why : goal.returns-in-Err-clause-why
 returns-in-Err-clause-why g c known =
@@ -62,21 +63,21 @@ pub returns-in-Err-chosen_are_whole-clause-why : goal.returns-in-Err-chosen_are_
 returns-in-Err-chosen_are_whole-clause-why g c known = by_open _ _ c.in-Open.is _ _ (inl (refl, inl (refl, inl (search rules))))
 
 pub returns-then-ne-clause-why : goal.returns-then-ne-clause-why
-returns-then-ne-clause-why g c known = by_open _ _ c.in-Open.is _ _ (inl (refl, inr (refl, c.put_folder.ensures.cause (search rules))))
+returns-then-ne-clause-why g c known = by_open _ _ c.in-Open.is _ _ (inl (refl, inr (refl, c.put_folder.ensures.failed (search rules))))
 
 pub returns-in-Err-OutOfMemory-clause-why : goal.returns-in-Err-OutOfMemory-clause-why
 returns-in-Err-OutOfMemory-clause-why g c known =
     let put = c.put_nodes.ensures.put known in
-    by_open _ _ c.in-Open.is _ _ (inr (record { heard = put.0; fates = put.1; puts = put.2; why = inl (search rules) }))
+    by_open _ _ c.in-Open.is _ _ (inr (record { heard = put.0; fates = put.1; puts = (puts_since g.F.Files c.args.files.now c.put_folder.new.files c.put_nodes.new.files (g.B.BlockStore.states c.args.listing.now.table.now) (listing_by g.B.BlockStore.states c.args.listing.now) c.args.fill c.args.short c.args.folder.now c.put_folder.ensures.grow put.2); why = inl (search rules) }))
 
 pub returns-in-Err-Unread-clause-why : goal.returns-in-Err-Unread-clause-why
 returns-in-Err-Unread-clause-why g c known =
     let put = c.put_nodes.ensures.put known in
-    by_open _ _ c.in-Open.is _ _ (put.0, put.1, put.2)
+    by_open _ _ c.in-Open.is _ _ (put.0, put.1, (puts_since g.F.Files c.args.files.now c.put_folder.new.files c.put_nodes.new.files (g.B.BlockStore.states c.args.listing.now.table.now) (listing_by g.B.BlockStore.states c.args.listing.now) c.args.fill c.args.short c.args.folder.now c.put_folder.ensures.grow put.2))
 
 pub returns-then-not-told-clause-why : goal.returns-then-not-told-clause-why
 returns-then-not-told-clause-why g c known =
     let put = c.in-Ok-put_nodes.ensures.put known in
     let took = put.3.1 in
     let unheard : put.0 ≡ false = search (rules, took) in
-    by_open _ _ c.in-Open.is _ _ (inr (record { heard = put.0; fates = put.1; puts = put.2; why = inr (refl, unheard, put.3.0) }))
+    by_open _ _ c.in-Open.is _ _ (inr (record { heard = put.0; fates = put.1; puts = (puts_since g.F.Files c.args.files.now c.put_folder.new.files c.put_nodes.new.files (g.B.BlockStore.states c.args.listing.now.table.now) (listing_by g.B.BlockStore.states c.args.listing.now) c.args.fill c.args.short c.args.folder.now c.put_folder.ensures.grow put.2); why = inr (refl, unheard, put.3.0) }))

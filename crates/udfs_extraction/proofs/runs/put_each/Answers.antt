@@ -21,7 +21,6 @@ loop-index-init g c =
 pub loop-index-preserved : goal.loop-index-preserved
 loop-index-preserved g c =
     let F = g.F.Files in
-    let out = g.F.Output.Sink.stream in
     let inv = c.loop-index.invariant in
     let l = c.args.listing.now in
     let report = listing_by g.B.BlockStore.states l in
@@ -33,8 +32,8 @@ loop-index-preserved g c =
     let longer = length-append puts (put ∷ []) in
     let count = inv.count in
     record {
-      held = λ known. subst (AreHeld F out c.put_one.new.files only (g.B.BlockStore.states l.table.now) report c.args.fill c.args.short c.args.digest c.args.folder.now c.args.first) (sym pushed)
-          (are_held_more F out only (g.B.BlockStore.states l.table.now) report c.args.fill c.args.short c.args.digest c.args.folder.now c.loop-index.files c.put_one.new.files c.args.first c.loop-index.index puts put count spares.stays (inv.held known) (c.in_ok-put.ensures.held known));
+      held = λ known. subst (AreHeld F c.args.files.now c.put_one.new.files only (g.B.BlockStore.states l.table.now) report c.args.fill c.args.short c.args.digest c.args.folder.now c.args.first) (sym pushed)
+          (are_held_more F c.args.files.now only (g.B.BlockStore.states l.table.now) report c.args.fill c.args.short c.args.digest c.args.folder.now c.loop-index.files c.put_one.new.files c.args.first c.loop-index.index puts put inv.spares.grow spares.grow count spares.stays (inv.held known) (c.in_ok-put.ensures.held known));
       placed = subst (ArePlaced only report c.args.fill c.args.short c.args.folder.now c.args.first) (sym pushed) (are_placed_more only report c.args.fill c.args.short c.args.folder.now c.args.first c.loop-index.index puts put count inv.placed c.in_ok-put.ensures.placed);
       fresh = λ told. subst (AreFresh (F.holds c.args.files.now)) (sym pushed) (are_fresh_more (F.holds c.args.files.now) (F.holds c.loop-index.files) puts put (inv.spares.stays told) (inv.fresh told) (λ written. c.in_ok-put.ensures.fresh written told));
       count = (let long = ap length pushed in omega (arith, count, longer, long));
@@ -44,7 +43,7 @@ loop-index-preserved g c =
 
 pub returns-in_err-reserve-clause-held : goal.returns-in_err-reserve-clause-held
 returns-in_err-reserve-clause-held g c known =
-    subst (AreHeld g.F.Files g.F.Output.Sink.stream c.loop-index.files (map (λ (word : Bor (List ℕ)). word.now) c.args.only.now) (g.B.BlockStore.states c.args.listing.now.table.now) (listing_by g.B.BlockStore.states c.args.listing.now) c.args.fill c.args.short c.args.digest c.args.folder.now c.args.first)
+    subst (AreHeld g.F.Files c.args.files.now c.loop-index.files (map (λ (word : Bor (List ℕ)). word.now) c.args.only.now) (g.B.BlockStore.states c.args.listing.now.table.now) (listing_by g.B.BlockStore.states c.args.listing.now) c.args.fill c.args.short c.args.digest c.args.folder.now c.args.first)
     (sym c.reserve.ensures.items) (c.loop-index.invariant.held known)
 
 pub returns-in_err-reserve-clause-placed : goal.returns-in_err-reserve-clause-placed
@@ -68,9 +67,9 @@ pub returns-in_err-put-clause-held : goal.returns-in_err-put-clause-held
 returns-in_err-put-clause-held g c known =
     let only = map (λ (word : Bor (List ℕ)). word.now) c.args.only.now in
     let l = c.args.listing.now in
-    subst (AreHeld g.F.Files g.F.Output.Sink.stream c.put_one.new.files only (g.B.BlockStore.states l.table.now) (listing_by g.B.BlockStore.states l) c.args.fill c.args.short c.args.digest c.args.folder.now c.args.first) (sym c.reserve.ensures.items)
-    (are_held_still g.F.Files g.F.Output.Sink.stream only (g.B.BlockStore.states l.table.now) (listing_by g.B.BlockStore.states l) c.args.fill c.args.short c.args.digest c.args.folder.now c.loop-index.files c.put_one.new.files c.args.first c.loop-index.puts.items
-    c.put_one.ensures.spares.stays (c.loop-index.invariant.held known))
+    subst (AreHeld g.F.Files c.args.files.now c.put_one.new.files only (g.B.BlockStore.states l.table.now) (listing_by g.B.BlockStore.states l) c.args.fill c.args.short c.args.digest c.args.folder.now c.args.first) (sym c.reserve.ensures.items)
+    (are_held_still g.F.Files c.args.files.now only (g.B.BlockStore.states l.table.now) (listing_by g.B.BlockStore.states l) c.args.fill c.args.short c.args.digest c.args.folder.now c.loop-index.files c.put_one.new.files c.args.first c.loop-index.puts.items
+    c.put_one.ensures.spares.grow c.put_one.ensures.spares.stays (c.loop-index.invariant.held known))
 
 pub returns-in_err-put-clause-placed : goal.returns-in_err-put-clause-placed
 returns-in_err-put-clause-placed g c =
@@ -92,7 +91,6 @@ returns-in_err-put-clause-spares g c = run_on g.F.Files (map (λ (word : Bor (Li
 pub returns-then-last-clause-held : goal.returns-then-last-clause-held
 returns-then-last-clause-held g c known =
     let F = g.F.Files in
-    let out = g.F.Output.Sink.stream in
     let inv = c.loop-index.invariant in
     let l = c.args.listing.now in
     let report = listing_by g.B.BlockStore.states l in
@@ -102,8 +100,8 @@ returns-then-last-clause-held g c known =
     let pushed : c.push_reserved.new.self.items ≡ puts ++ put ∷ [] = c.push_reserved.ensures.items ∙ ap (λ (l : List Put). l ++ put ∷ []) c.reserve.ensures.items in
     let spares = c.put_one.ensures.spares in
     let count = inv.count in
-    subst (AreHeld F out c.put_one.new.files only (g.B.BlockStore.states l.table.now) report c.args.fill c.args.short c.args.digest c.args.folder.now c.args.first) (sym pushed)
-    (are_held_more F out only (g.B.BlockStore.states l.table.now) report c.args.fill c.args.short c.args.digest c.args.folder.now c.loop-index.files c.put_one.new.files c.args.first c.loop-index.index puts put count spares.stays (inv.held known) (c.in_ok-put.ensures.held known))
+    subst (AreHeld F c.args.files.now c.put_one.new.files only (g.B.BlockStore.states l.table.now) report c.args.fill c.args.short c.args.digest c.args.folder.now c.args.first) (sym pushed)
+    (are_held_more F c.args.files.now only (g.B.BlockStore.states l.table.now) report c.args.fill c.args.short c.args.digest c.args.folder.now c.loop-index.files c.put_one.new.files c.args.first c.loop-index.index puts put inv.spares.grow spares.grow count spares.stays (inv.held known) (c.in_ok-put.ensures.held known))
 
 pub returns-then-last-clause-placed : goal.returns-then-last-clause-placed
 returns-then-last-clause-placed g c =

@@ -9,7 +9,7 @@ abbrev pub invariant-loop-index : goal.invariant-loop-index
 invariant-loop-index g l =
     let F = g.F.Files in
     record {
-      held : g.B.BlockStore.tells → AreHeld F g.F.Output.Sink.stream l.files (map (λ (word : Bor (List ℕ)). word.now) l.only) (g.B.BlockStore.states l.listing.table.now) (listing_by g.B.BlockStore.states l.listing) l.fill l.short l.digest l.folder l.first l.puts.items;
+      held : g.B.BlockStore.tells → AreHeld F l.initial.files l.files (map (λ (word : Bor (List ℕ)). word.now) l.only) (g.B.BlockStore.states l.listing.table.now) (listing_by g.B.BlockStore.states l.listing) l.fill l.short l.digest l.folder l.first l.puts.items;
       placed : ArePlaced (map (λ (word : Bor (List ℕ)). word.now) l.only) (listing_by g.B.BlockStore.states l.listing) l.fill l.short l.folder l.first l.puts.items;
       fresh : F.tells → AreFresh (F.holds l.initial.files) l.puts.items;
       count : l.first + length l.puts.items ≡ l.index;

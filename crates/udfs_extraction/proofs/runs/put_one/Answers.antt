@@ -23,7 +23,7 @@ returns-in_err-done-clause-spares g c =
     let back : suc (c.args.index - 1) ≡ c.args.index = omega (arith, c.requires.after) in
     let here : (n : NodeFields) → slice_get report.nodes c.args.index ≡ Some n → c.as_str-whole.result.now ≡ path_below c.args.folder.now (placed c.args.short report c.args.index n)
     = λ n at. is ∙ ap (λ t. c.args.folder.now ++ t) (text ∙ place.text n (c.args.index - 1) at back c.requires.way) in
-    run_step F (map (λ (word : Bor (List ℕ)). word.now) c.args.only.now) c.args.fill c.args.short report c.args.folder.now c.args.files.now c.put_chosen.new.files c.args.index c.as_str-whole.result.now
+    run_step F (map (λ (word : Bor (List ℕ)). word.now) c.args.only.now) c.args.fill c.args.short report c.args.folder.now c.args.files.now c.put_chosen.new.files c.args.index c.as_str-whole.result.now c.put_chosen.ensures.grow
     (place.names.0, is ∙ ap (λ t. c.args.folder.now ++ t) (text ∙ place.names.1)) here c.put_chosen.ensures.stays c.put_chosen.ensures.others c.put_chosen.ensures.elsewhere c.put_chosen.ensures.crash
 
 pub returns-clause-spares : goal.returns-clause-spares
@@ -36,7 +36,7 @@ returns-clause-spares g c =
     let back : suc (c.args.index - 1) ≡ c.args.index = omega (arith, c.requires.after) in
     let here : (n : NodeFields) → slice_get report.nodes c.args.index ≡ Some n → c.as_str-whole.result.now ≡ path_below c.args.folder.now (placed c.args.short report c.args.index n)
     = λ n at. is ∙ ap (λ t. c.args.folder.now ++ t) (text ∙ place.text n (c.args.index - 1) at back c.requires.way) in
-    run_step F (map (λ (word : Bor (List ℕ)). word.now) c.args.only.now) c.args.fill c.args.short report c.args.folder.now c.args.files.now c.put_chosen.new.files c.args.index c.as_str-whole.result.now
+    run_step F (map (λ (word : Bor (List ℕ)). word.now) c.args.only.now) c.args.fill c.args.short report c.args.folder.now c.args.files.now c.put_chosen.new.files c.args.index c.as_str-whole.result.now c.put_chosen.ensures.grow
     (place.names.0, is ∙ ap (λ t. c.args.folder.now ++ t) (text ∙ place.names.1)) here c.put_chosen.ensures.stays c.put_chosen.ensures.others c.put_chosen.ensures.elsewhere c.put_chosen.ensures.crash
 
 pub returns-clause-held : goal.returns-clause-held

@@ -1,5 +1,6 @@
 use Rattle.std.proofs.Common.{◌≡◌, ◌≢◌, ◌∙◌, ◌+◌, ◌<◌, ◌++◌, ◌∷◌, ℕ, [], Bor, List, Option, Some, ap, append_assoc, arith, drop, false, length, length-append, map, refl, rules, slice_get, string_bytes, subst, sym, if◌then◌else◌}
 use Rattle.std.proofs.lemmas.List.{append-nil, length-map}
+use Rattle.udfs_host_fs.proofs.Failing.{grow_done, grow_on}
 use Rattle.udfs_walk.specs.NodeFields.{NodeFields}
 use Rattle.udfs_salvage.specs.Found.{volume_now}
 use Rattle.udfs_salvage.specs.Listings.{full_in, listing_by}
@@ -17,17 +18,17 @@ pub loop-k-init : goal.loop-k-init
 loop-k-init g c =
     let F = g.F.Files in
     record {
-      told = λ fill short digest held. ([], record { each = tt; lines = tells_none _ _ (record { given = search rules; kept = refl }) }, refl, refl, λ wanted told. ([], refl, sym (append-nil _)));
+      told = λ fill short digest from cause held. ([], record { each = tt; lines = tells_none _ _ (record { given = search rules; kept = refl }) }, refl, refl, λ wanted told. ([], refl, sym (append-nil _)));
       named = λ is. refl;
       others = λ q out. refl;
       crash = puts_nothing F.moment F.may_leave F.left_since c.args.files.now c.args.puts.now;
+      grow = grow_done _ _ refl;
     }
 
 pub loop-k-preserved : goal.loop-k-preserved
 loop-k-preserved g c =
     let F = g.F.Files in
     let S = g.O.Sink in
-    let out = g.F.Output.Sink.stream in
     let inv = c.loop-k.invariant in
     let k = c.loop-k.k in
     let first = c.args.first in
@@ -47,15 +48,15 @@ loop-k-preserved g c =
     let end = step.told.1 in
     let files = c.args.files.now in
     record {
-      told = λ fill short digest held.
+      told = λ fill short digest from cause held.
           let lined = node_line c.args.word.now short report in
-          let P : ℕ → NodeFields → Fate → Type 0 = λ j m f. IsDone only (IsPutAt F out files (g.B.BlockStore.states l.table.now) report fill short c.args.folder.now) j m f × (c.args.named ≡ false → f ≢ Written) in
-          let before = inv.told fill short digest held in
+          let P : ℕ → NodeFields → Fate → Type 0 = λ j m f. IsDone only (IsPutAt F from files (g.B.BlockStore.states l.table.now) report fill short c.args.folder.now) j m f × (c.args.named ≡ false → f ≢ Written) in
+          let before = inv.told fill short digest from cause held in
           let fates = before.0 in
           let h = held k n put there node.1 in
           let here : first + k ≡ length fates + first = (let count = before.2 in omega (arith, count)) in
           let at : slice_get (drop first nodes) (length fates) ≡ Some n = drop_at nodes first (length fates) ∙ subst (λ j. slice_get nodes (first + j) ≡ Some n) (sym before.2) node.1 in
-          let one = told_of F out only (g.B.BlockStore.states l.table.now) report fill short c.args.folder.now digest files (first + k) n put c.args.named fate (g.met.F.Files.only_now files) c.requires.cause
+          let one = told_of F from only (g.B.BlockStore.states l.table.now) report fill short c.args.folder.now digest files (first + k) n put c.args.named fate (g.met.F.Files.only_now files) cause
           (λ is told written bytes holds. c.requires.kept is told k put bytes there written holds) h end in
           let line = notes_text short report (notes_of fate put.done.digest (first + k)) in (
             fates ++ fate ∷ [],
@@ -79,13 +80,14 @@ loop-k-preserved g c =
       named = λ is. c.tell_put.ensures.named is ∙ inv.named is;
       others = λ q away. c.tell_put.ensures.others q (λ of. away (one_of puts k put q there of)) ∙ inv.others q away;
       crash = puts_on F.moment F.may_leave F.left_since files c.loop-k.files c.tell_put.new.files puts k put there inv.crash c.tell_put.ensures.crash;
+      grow = grow_on _ _ _ inv.grow c.tell_put.ensures.grow;
     }
 
 pub returns-in_err-tell_put-clause-put : goal.returns-in_err-tell_put-clause-put
-returns-in_err-tell_put-clause-put g c fill short digest held =
+returns-in_err-tell_put-clause-put g c fill short digest from cause held =
     let S = g.O.Sink in
     let report = listing_by g.B.BlockStore.states c.args.listing.now in
-    let before = c.loop-k.invariant.told fill short digest held in
+    let before = c.loop-k.invariant.told fill short digest from cause held in
     let untold = c.in_err-tell_put.ensures.untold in
     let text = fate_lines (node_line c.args.word.now short report) (drop c.args.first report.nodes) before.0 in (
       before.0,
@@ -108,8 +110,11 @@ returns-in_err-tell_put-clause-crash g c =
     let F = g.F.Files in
     puts_on F.moment F.may_leave F.left_since c.args.files.now c.loop-k.files c.tell_put.new.files c.args.puts.now c.loop-k.k c.put_at-put.result.now c.put_at-put.ensures c.loop-k.invariant.crash c.tell_put.ensures.crash
 
+pub returns-in_err-tell_put-clause-grow : goal.returns-in_err-tell_put-clause-grow
+returns-in_err-tell_put-clause-grow g c = grow_on _ _ _ c.loop-k.invariant.grow c.tell_put.ensures.grow
+
 pub returns-clause-put : goal.returns-clause-put
-returns-clause-put g c fill short digest held =
-    let before = c.loop-k.invariant.told fill short digest held in
+returns-clause-put g c fill short digest from cause held =
+    let before = c.loop-k.invariant.told fill short digest from cause held in
     let end : c.loop-k.k ≡ length c.args.puts.now = search rules in
     (before.0, before.1, (before.2 ∙ end, before.3, before.4))

@@ -1,15 +1,15 @@
 use Rattle.std.proofs.Common.{rules, ◌≡◌, ◌⊎◌, ◌++◌, ◌∷◌, List, [], Some, refl, sym, ◌∙◌, ap, subst, arith, length, length-append, slice_get, false, if◌then◌else◌}
 use Rattle.std.proofs.lemmas.List.{length-map}
-use Rattle.udfs_host_fs.specs.Disk.{Fails, SinkFails}
 use Rattle.udfs_walk.specs.declared.answers.Unnamed.{Unnamed}
 use Rattle.udfs_salvage.specs.Found.{volume_now}
 use Rattle.udfs_salvage.specs.Listings.{full_entry_in, listing_by}
 use Rattle.udfs_extraction.specs.Extracting.{TellsLines, TellsOn, is_good}
-use Rattle.udfs_extraction.specs.LostFiles.{IsLostPut, lost_line, lost_lines}
+use Rattle.udfs_extraction.specs.LostFiles.{IsLostPutAt, lost_line, lost_lines}
 use Rattle.udfs_extraction.specs.declared.nodes.Fate.{Fate}
 use Rattle.udfs_extraction.proofs.ListedLemmas.{full_at, same_line}
-use Rattle.udfs_extraction.proofs.LostLemmas.{each_lost_map, each_lost_more, lost_lines_more, lost_on, lost_still, nothing_lost}
+use Rattle.udfs_extraction.proofs.LostLemmas.{each_lost_map, each_lost_more, lost_lines_more, lost_on, lost_since, lost_still, nothing_lost}
 use Rattle.udfs_extraction.proofs.PutNodes.{good_more, tells_on}
+use Rattle.udfs_extraction.proofs.RunLemmas.{fails_until}
 use Rattle.udfs_extraction.proofs.unnamed.put_entries.Goals as goal
 
 pub loop-index-init : goal.loop-index-init
@@ -30,7 +30,7 @@ returns-in_err-fate-clause-put g c known =
     let put = c.loop-index.invariant.put known in (
       c.loop-index.heard,
       put.0,
-      each_lost_map _ _ (λ w f. lost_still F (Fails F.faults ⊎ SinkFails g.F.Output.Sink.stream) (g.B.BlockStore.states c.args.listing.now.table.now) (listing_by g.B.BlockStore.states c.args.listing.now) c.args.folder.now c.args.two c.loop-index.files c.put_entry.new.files (g.met.F.Files.counts_now c.loop-index.files) c.put_entry.ensures.spares w f) _ put.0 put.1,
+      each_lost_map _ _ (λ w f. lost_still F _ _ (g.B.BlockStore.states c.args.listing.now.table.now) (listing_by g.B.BlockStore.states c.args.listing.now) c.args.folder.now c.args.two c.loop-index.files c.put_entry.new.files (g.met.F.Files.counts_now c.loop-index.files) c.put_entry.ensures.spares (fails_until F c.args.files.now c.loop-index.files c.put_entry.new.files c.put_entry.ensures.spares.grow) w f) _ put.0 put.1,
       put.2,
       search rules,
     )
@@ -42,7 +42,7 @@ returns-in_err-heard-clause-put g c known =
     let put = c.loop-index.invariant.put known in (
       c.loop-index.heard,
       put.0,
-      each_lost_map _ _ (λ w f. lost_still F (Fails F.faults ⊎ SinkFails g.F.Output.Sink.stream) (g.B.BlockStore.states c.args.listing.now.table.now) (listing_by g.B.BlockStore.states c.args.listing.now) c.args.folder.now c.args.two c.loop-index.files c.put_entry.new.files (g.met.F.Files.counts_now c.loop-index.files) c.put_entry.ensures.spares w f) _ put.0 put.1,
+      each_lost_map _ _ (λ w f. lost_still F _ _ (g.B.BlockStore.states c.args.listing.now.table.now) (listing_by g.B.BlockStore.states c.args.listing.now) c.args.folder.now c.args.two c.loop-index.files c.put_entry.new.files (g.met.F.Files.counts_now c.loop-index.files) c.put_entry.ensures.spares (fails_until F c.args.files.now c.loop-index.files c.put_entry.new.files c.put_entry.ensures.spares.grow) w f) _ put.0 put.1,
       subst (λ o. TellsLines c.loop-index.heard (S.stream c.args.out.now) (S.stream o) (lost_lines c.args.two (listing_by g.B.BlockStore.states c.args.listing.now).unnamed put.0)) (sym c.in_err-heard.ensures.memory) put.2,
       search rules,
     )
@@ -61,7 +61,7 @@ loop-index-preserved g c =
     let u = full_entry_in M a w in
     let us = (listing_by states l).unnamed in
     let two = c.args.two in
-    let P : Unnamed → Fate → Type 0 = IsLostPut F.tells (Fails F.faults ⊎ SinkFails g.F.Output.Sink.stream) M (listing_by states l) c.args.folder.now two (F.holds c.put_entry.new.files) (F.moment c.put_entry.new.files) (F.left_since c.put_entry.new.files) in
+    let P : Unnamed → Fate → Type 0 = IsLostPutAt F c.args.files.now c.put_entry.new.files M (listing_by states l) c.args.folder.now two in
     record {
       put = λ known.
           let was = inv.put known in
@@ -71,8 +71,8 @@ loop-index-preserved g c =
           let at : slice_get us (length fates) ≡ Some u = subst (λ k. slice_get us k ≡ Some u) (sym count) there in (
             fates ++ fate ∷ [],
             each_lost_more P us fates u fate at
-                (each_lost_map _ P (λ w f. lost_still F (Fails F.faults ⊎ SinkFails g.F.Output.Sink.stream) M (listing_by states l) c.args.folder.now two c.loop-index.files c.put_entry.new.files (g.met.F.Files.counts_now c.loop-index.files) c.put_entry.ensures.spares w f) us fates was.1)
-                (c.in_ok-fate.ensures.put known u there),
+                (each_lost_map _ P (λ w f. lost_still F _ _ M (listing_by states l) c.args.folder.now two c.loop-index.files c.put_entry.new.files (g.met.F.Files.counts_now c.loop-index.files) c.put_entry.ensures.spares (fails_until F c.args.files.now c.loop-index.files c.put_entry.new.files c.put_entry.ensures.spares.grow) w f) us fates was.1)
+                (lost_since F c.args.files.now c.loop-index.files c.put_entry.new.files M (listing_by states l) c.args.folder.now two inv.spares.grow u fate (c.in_ok-fate.ensures.put known u there)),
             subst (λ t. TellsLines c.in_ok-heard.heard (S.stream c.args.out.now) (S.stream c.tell_lost.new.out) t) (sym (lost_lines_more two us fates u fate at))
                 (tells_on c.loop-index.heard c.in_ok-heard.heard (S.stream c.args.out.now) (S.stream c.loop-index.out) (S.stream c.tell_lost.new.out) (lost_lines two us fates) (lost_line two fate u) was.2
                 (subst (λ t. TellsOn c.loop-index.heard c.in_ok-heard.heard (S.stream c.loop-index.out) (S.stream c.tell_lost.new.out) t) (sym (same_line two fate M a w)) c.in_ok-heard.ensures.lines)),

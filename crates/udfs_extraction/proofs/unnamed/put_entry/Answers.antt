@@ -4,7 +4,7 @@ use Rattle.udfs_salvage.specs.Extraction.{filled}
 use Rattle.udfs_salvage.specs.Found.{volume_now}
 use Rattle.udfs_salvage.specs.Listings.{full_entry_in, listing_by}
 use Rattle.udfs_salvage.specs.UnnamedExtraction.{is_lost_file}
-use Rattle.udfs_extraction.specs.Extracting.{IsFateOf, IsSafe, is_good}
+use Rattle.udfs_extraction.specs.Extracting.{IsFateOf, IsSafe, NodeFails, is_good}
 use Rattle.udfs_extraction.specs.LostFiles.{lost_name, lost_path}
 use Rattle.udfs_extraction.specs.declared.nodes.Deed.TheVariants.{File, Skip}
 use Rattle.udfs_extraction.specs.declared.nodes.Fate.TheVariants.{Written, Skipped}
@@ -37,7 +37,7 @@ returns-in_err-path-clause-spares g c = nothing_lost _ _ _
 pub returns-in_err-fate-clause-spares : goal.returns-in_err-fate-clause-spares
 returns-in_err-fate-clause-spares g c =
     let w = c.write_lost_file.ensures in
-    lost_at _ c.args.folder.now c.as_str.result.now _ _ (lost_name c.args.two c.entry_at-entry.result.now, search rules) w.others w.there w.crash w.stays
+    lost_at _ c.args.folder.now c.as_str.result.now _ _ w.grow (lost_name c.args.two c.entry_at-entry.result.now, search rules) w.others w.there w.crash w.stays
 
 pub returns-clause-put : goal.returns-clause-put
 returns-clause-put g c known u at =
@@ -60,10 +60,10 @@ returns-clause-put g c known u at =
             subst (λ p. IsSafe (F.holds c.write_lost_file.new.files) (F.moment c.write_lost_file.new.files) (F.left_since c.write_lost_file.new.files) p (filled 0 x.0)) path
                 (safe F.moment F.may_leave F.left_since c.write_lost_file.new.files (F.holds c.write_lost_file.new.files) c.as_str.result.now _ (g.met.F.Files.only_now c.write_lost_file.new.files) x.2),
           );
-      failed = λ bad profile last reported. done.cause known (λ written. let no_fate : true ≡ false = sym (ap is_good written) ∙ bad in cc) profile last u reported at lost;
+      failed = λ bad profile last reported. subst (NodeFails F c.args.files.now c.write_lost_file.new.files) path (done.failed known (λ written. let no_fate : true ≡ false = sym (ap is_good written) ∙ bad in cc) profile last u reported at lost);
     }
 
 pub returns-clause-spares : goal.returns-clause-spares
 returns-clause-spares g c =
     let w = c.write_lost_file.ensures in
-    lost_at _ c.args.folder.now c.as_str.result.now _ _ (lost_name c.args.two c.entry_at-entry.result.now, search rules) w.others w.there w.crash w.stays
+    lost_at _ c.args.folder.now c.as_str.result.now _ _ w.grow (lost_name c.args.two c.entry_at-entry.result.now, search rules) w.others w.there w.crash w.stays
