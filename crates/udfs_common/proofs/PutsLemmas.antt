@@ -132,11 +132,11 @@ has_put reach Says out text old new a is put any_moment elsewhere = record {
 }
 
 -- and one that failed
-pub has_not_put : {A F I M S W : Type 0} {Failed : Type 0} (reach : Reach F I M S W) (Says : A → List ℕ → Type 0) (out text : List ℕ) (old new : F) (a : A) (refusal : Refusal) → (Failed → PutStops reach out old new) → Says a text →
-    RefusedOut reach.files.tells reach.files.holds reach.files.real reach.files.in_place Failed out old new (λ Put. Put text) →
+pub has_not_put : {A F I M S W : Type 0} {Failed : Type 0} (reach : Reach F I M S W) (Says : A → List ℕ → Type 0) (out text : List ℕ) (old new : F) (a : A) (refusal : Refusal) → Says a text →
+    RefusedOut reach.files.tells reach.files.holds reach.files.real reach.files.in_place Failed out old new (λ Put. Put text) → (Failed → PutStops reach out old new) →
     (reach.files.tells → (reach.files.in_place old out → ⊥) → (c : Disk) → reach.files.left_since new (reach.files.moment old) c → After (reach.files.may_leave old) (Replaced (reach.files.real old out) text) c) → KeepsOthers reach out old new →
     PutsAs {A = A} reach Says out old new (Err refusal)
-has_not_put {F = F} reach Says out text old new a refusal stops is left any_moment elsewhere = record {
+has_not_put {F = F} reach Says out text old new a refusal is left stops any_moment elsewhere = record {
   put = tt;
   spares = record {
     any_moment = λ tells place c since. let d = any_moment tells place c since in (d.0, d.1, inr (text, (a, is), d.2));

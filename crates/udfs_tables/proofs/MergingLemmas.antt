@@ -36,11 +36,11 @@ pub job_put : {A F I M S W : Type 0} (reach : Reach F I M S W) (Is : List ℕ �
 job_put reach Is out old new a bytes is put any_moment elsewhere = record { put = record { bytes = bytes; is = is; put = put }; left = tt; any_moment = may_put reach Is out old new bytes is any_moment; elsewhere = elsewhere }
 
 -- the job failed on the way
-pub job_broken : {A F I M S W : Type 0} {Failed : Type 0} (reach : Reach F I M S W) (Is : List ℕ → Type 0) (out : List ℕ) (old new : F) (refusal : Refusal) (bytes : List ℕ) → Is bytes → (Failed → IsBroken reach out old new refusal) →
-    FailedOut reach.files.tells reach.files.holds reach.files.real reach.files.in_place Failed out old new (λ Put. ⊥) →
+pub job_broken : {A F I M S W : Type 0} {Failed : Type 0} (reach : Reach F I M S W) (Is : List ℕ → Type 0) (out : List ℕ) (old new : F) (refusal : Refusal) (bytes : List ℕ) → Is bytes →
+    FailedOut reach.files.tells reach.files.holds reach.files.real reach.files.in_place Failed out old new (λ Put. ⊥) → (Failed → IsBroken reach out old new refusal) →
     (reach.files.tells → (reach.files.in_place old out → ⊥) → (c : Disk) → reach.files.left_since new (reach.files.moment old) c → After (reach.files.may_leave old) (Replaced (reach.files.real old out) bytes) c) → KeepsOthers reach out old new →
     Puts {A = A} reach Is out old new (Err refusal)
-job_broken reach Is out old new refusal bytes is broken failed any_moment elsewhere = record {
+job_broken reach Is out old new refusal bytes is failed broken any_moment elsewhere = record {
   put = tt;
   left = inr (inl (broken failed.failed, λ tells place. ⊎_elim (λ same. same) (λ no. absurd no) (failed.stands tells place)));
   any_moment = may_put reach Is out old new bytes is any_moment;

@@ -23,21 +23,23 @@ pub returns-in-Ok-clause-puts : goal.returns-in-Ok-clause-puts
 returns-in-Ok-clause-puts g c t shows unread =
     let s = c.args.judged.now.survey in
     let text = page_html (given_now c.args.given.now) (called_now c.args.called.now) s.profile t s.last (survey_by g.B.BlockStore.states s) c.args.judged.now.answer in
-    has_not_put _ _ _ text _ _ tt _ (λ why. inr why.0) refl (gave_up _ (rw c.in-Ok-Err.field-0-is at c.in-Ok-Err.ensures.given_up))
+    let left = rw c.in-Ok-Err.field-0-is at c.in-Ok-Err.ensures.given_up in
+    has_not_put _ _ _ text _ _ tt _ refl (gave_up _ left) (λ why. inr why.0)
     (c.in-Ok-Err.ensures.any_moment text (λ tells other wrote. let held = shows (g.met.F.Files.stored_told tells) in wrote held.0 t held.1)) c.in-Ok-Err.ensures.elsewhere
 
 pub returns-in-Err-refusal-clause-puts : goal.returns-in-Err-refusal-clause-puts
 returns-in-Err-refusal-clause-puts g c t shows unread =
     let s = c.args.judged.now.survey in
     let text = page_html (given_now c.args.given.now) (called_now c.args.called.now) s.profile t s.last (survey_by g.B.BlockStore.states s) c.args.judged.now.answer in
-    has_not_put _ _ _ text _ _ tt _ (λ why. inr why.0) refl (gave_up _ (rw c.in-Ok-Err.field-0-is at c.in-Ok-Err.ensures.given_up))
+    let left = rw c.in-Ok-Err.field-0-is at c.in-Ok-Err.ensures.given_up in
+    has_not_put _ _ _ text _ _ tt _ refl (gave_up _ left) (λ why. inr why.0)
     (c.in-Ok-Err.ensures.any_moment text (λ tells other wrote. let held = shows (g.met.F.Files.stored_told tells) in wrote held.0 t held.1)) c.in-Ok-Err.ensures.elsewhere
 
 pub returns-in-Err-clause-puts : goal.returns-in-Err-clause-puts
 returns-in-Err-clause-puts g c t shows unread =
     let s = c.args.judged.now.survey in
     let text = page_html (given_now c.args.given.now) (called_now c.args.called.now) s.profile t s.last (survey_by g.B.BlockStore.states s) c.args.judged.now.answer in
-    has_not_put _ _ _ text _ _ tt _ (λ why. inl why) refl (c.in-Err.ensures.left text (λ tells other wrote. let held = shows (g.met.F.Files.stored_told tells) in wrote held.0 t held.1))
+    has_not_put _ _ _ text _ _ tt _ refl (c.in-Err.ensures.left text (λ tells other wrote. let held = shows (g.met.F.Files.stored_told tells) in wrote held.0 t held.1)) (λ why. inl why)
     (c.in-Err.ensures.any_moment text (λ tells other wrote. let held = shows (g.met.F.Files.stored_told tells) in wrote held.0 t held.1)) c.in-Err.ensures.elsewhere
 
 pub returns-in-Ok-clause-why : goal.returns-in-Ok-clause-why

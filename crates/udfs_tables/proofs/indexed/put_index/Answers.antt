@@ -20,7 +20,8 @@ pub returns-in-Ok-Err-Sink-clause-puts : goal.returns-in-Ok-Err-Sink-clause-puts
 returns-in-Ok-Err-Sink-clause-puts g c t is took =
     let bytes = table_file c.args.version t in
     let told : g.F.Files.tells → AreAllTold (stored_in g.F.Stored.Stored.content) = λ tells. any_told g.F.Stored.Stored.content (g.met.F.Files.stored_told tells) in
-    job_broken _ _ _ _ _ _ bytes refl (λ why. inl (refl, inr (why.1 tt))) (rw c.in-Ok-Err-Sink.field-0-is at c.in-Ok-Err-Sink.ensures.given_up)
+    let left = rw c.in-Ok-Err-Sink.field-0-is at c.in-Ok-Err-Sink.ensures.given_up in
+    job_broken _ _ _ _ _ _ bytes refl left (λ why. inl (refl, inr (why.1 tt)))
     (c.in-Ok-Err-Sink.ensures.any_moment bytes (λ tells other wrote. wrote t (is (told tells)) (told tells) took)) c.in-Ok-Err-Sink.ensures.elsewhere
 
 pub returns-in-Ok-Err-Input-clause-puts : goal.returns-in-Ok-Err-Input-clause-puts
@@ -28,7 +29,8 @@ returns-in-Ok-Err-Input-clause-puts g c t is took =
     let bytes = table_file c.args.version t in
     let told : g.F.Files.tells → AreAllTold (stored_in g.F.Stored.Stored.content) = λ tells. any_told g.F.Stored.Stored.content (g.met.F.Files.stored_told tells) in
     let reread = c.reread.ensures c.requires in
-    job_broken _ _ _ _ _ _ bytes refl (λ why. inr (reread.0 + 1, reread.1, reread.3, why.0)) (rw c.in-Ok-Err-Input.field-0-is at c.in-Ok-Err-Input.ensures.given_up)
+    let left = rw c.in-Ok-Err-Input.field-0-is at c.in-Ok-Err-Input.ensures.given_up in
+    job_broken _ _ _ _ _ _ bytes refl left (λ why. inr (reread.0 + 1, reread.1, reread.3, why.0))
     (c.in-Ok-Err-Input.ensures.any_moment bytes (λ tells other wrote. wrote t (is (told tells)) (told tells) took)) c.in-Ok-Err-Input.ensures.elsewhere
 
 pub returns-in-Err-clause-puts : goal.returns-in-Err-clause-puts
