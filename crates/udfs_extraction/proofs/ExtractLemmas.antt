@@ -1,5 +1,5 @@
 -- What is made of a listing, stage after stage, and what that says of the table that its store holds.
-use Rattle.std.proofs.Common.{◌≡◌, ◌⊎◌, ◌∙◌, refl, alloc_error, ap, Bool, Bor, List, Option, None, Some, inl, inr, subst, sym, ℕ}
+use Rattle.std.proofs.Common.{◌≡◌, ◌⊎◌, ◌∙◌, refl, alloc_error, ap, Bool, Bor, List, Option, None, Some, inl, inr, subst, ℕ}
 use Rattle.std.specs.Prelude.{◌&&◌, MatchOption}
 use Rattle.udfs_lattice.specs.Tables.{Table, state_of}
 use Rattle.udfs_lattice.specs.Volumes.{Blocks}

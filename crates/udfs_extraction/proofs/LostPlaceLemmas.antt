@@ -7,7 +7,6 @@ use Rattle.udfs_reading.specs.Device.{Stream}
 use Rattle.udfs_volume.specs.Answers.{found, holes, faulty}
 use Rattle.udfs_volume.specs.declared.faults.VolumeFault.{VolumeFault}
 use Rattle.udfs_walk.specs.GivingUp.{IfTold}
-use Rattle.udfs_walk.specs.declared.answers.NodesError.{NodesError}
 use Rattle.udfs_walk.specs.declared.answers.NodesError.TheVariants as errors
 use Rattle.udfs_walk.specs.declared.answers.NodesGaveUp.{NodesGaveUp}
 use Rattle.udfs_walk.specs.declared.answers.NodesGaveUp.TheVariants.{TooManyPaths, OutOfMemory, Unread}

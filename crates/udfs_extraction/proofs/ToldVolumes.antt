@@ -1,5 +1,5 @@
 -- What holds of the join of a volume's inputs, where it is known what each file holds that is read at positions.
-use Rattle.std.proofs.Common.{◌≡◌, ℕ, Err, Ok, Option, Result, subst, sym}
+use Rattle.std.proofs.Common.{◌≡◌, ℕ, Err, Ok, Result, subst, sym}
 use Rattle.std.specs.Prelude.{IfErr, IfOk}
 use Rattle.udfs_lattice.specs.Records.{join_all}
 use Rattle.udfs_lattice.specs.Tables.{IsTable, Table}

@@ -1,4 +1,4 @@
-use Rattle.std.proofs.Common.{inl, inr, refl, rules}
+use Rattle.std.proofs.Common.{inl, refl, rules}
 use Rattle.udfs_salvage.specs.Listings.{listing_by}
 use Rattle.udfs_extraction.proofs.LostLemmas.{lost_on, lost_same}
 use Rattle.udfs_extraction.proofs.TreeLemmas.{stopped_in}

@@ -1,4 +1,4 @@
-use Rattle.std.proofs.Common.{ap, inl, inr, string_bytes}
+use Rattle.std.proofs.Common.{inr, string_bytes}
 use Rattle.udfs_extraction.proofs.ManifestLemmas.{listed, some_place, spares_listed, spares_unlisted, unlisted}
 use Rattle.udfs_extraction.proofs.NoNode.{unput_at}
 use Rattle.udfs_extraction.proofs.StopLemmas.{refused_is, unlisted_by}

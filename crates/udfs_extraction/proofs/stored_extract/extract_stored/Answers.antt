@@ -1,4 +1,4 @@
-use Rattle.std.proofs.Common.{◌<◌, inl, inr, length, option_map, refl, string_bytes, subst, sym}
+use Rattle.std.proofs.Common.{◌<◌, inl, inr, length, refl, subst, sym}
 use Rattle.udfs_common.proofs.NamingLemmas.{reread_names_none}
 use Rattle.udfs_common.proofs.StoredLemmas.{any_told, of_unread}
 use Rattle.udfs_lattice.specs.Tables.{state_of}
