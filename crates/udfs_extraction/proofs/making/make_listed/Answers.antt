@@ -12,8 +12,10 @@ returns-in-Err-clause-why g c known =
     let states = g.B.BlockStore.states in
     let l = c.args.listing in
     let r = c.args.request.now in
-    record { why = stopped_is _ _ _ _ c.unsearched.ensures
-    (unfound r.deleted r.trees (states l.table.now) (lost_report r.volume.profile (states l.table.now) l.last (listing_by states l)) (lost_report l.profile (states l.table.now) l.last (listing_by states l)) c.in-Err.error _ _ _ _ refl refl (ap (λ p. lost_report p (states l.table.now) l.last (listing_by states l)) c.requires.rules) (c.in-Err.ensures.refused known)) }
+    record {
+      why = stopped_is _ _ _ _ c.unsearched.ensures
+          (unfound r.deleted r.trees (states l.table.now) (lost_report r.volume.profile (states l.table.now) l.last (listing_by states l)) (lost_report l.profile (states l.table.now) l.last (listing_by states l)) c.in-Err.error _ _ _ _ refl refl (ap (λ p. lost_report p (states l.table.now) l.last (listing_by states l)) c.requires.rules) (c.in-Err.ensures.refused known));
+    }
 
 pub returns-in-Err-clause-no_node : goal.returns-in-Err-clause-no_node
 returns-in-Err-clause-no_node g c i is = refl
