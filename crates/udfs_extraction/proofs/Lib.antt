@@ -19,6 +19,3 @@ mod ListedLemmas
 mod NoNode
 mod RefusedLemmas
 pub mod ManifestJob
-mod StoredLemmas
-mod ToldVolumes
-mod StopLemmas

@@ -14,5 +14,3 @@ pub mod Laws
 pub mod ShortNames
 pub mod Sparing
 pub mod Refused
-pub mod Stopping
-pub mod ListedStops

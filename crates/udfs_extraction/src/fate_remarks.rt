@@ -6,15 +6,11 @@ use std::fmt::Write;
 use udfs_common::files::Files;
 use udfs_common::shown::Said;
 use udfs_file::{Kind, NodeFault};
-use udfs_lattice::{BlockStore, GaveUp};
 use udfs_osta::OutOfMemory;
 use udfs_overview::{lost_of, push_shown_path, push_size};
 use udfs_salvage::{Listing, Volume};
 use udfs_volume::Profile;
-use udfs_walk::{Node, Standing, full_standing_by};
-
-/// How many holes of torn files are gone through for remarks: more than a disc has whose files share no block. Behind them a torn file is only called so.
-const MOST_HOLES: usize = 2_000_000;
+use udfs_walk::{Node, Standing, full_standing};
 
 /// What a person is told that a file or a folder is.
 #[derive(Clone, Copy, PartialEq, Eq)]
@@ -51,8 +47,6 @@ pub struct Totals {
     loops: usize,
     faults: usize,
     others: usize,
-    /// How many holes were gone through.
-    holes: usize,
 }
 
 impl Totals {
@@ -68,7 +62,6 @@ impl Totals {
             loops: 0,
             faults: 0,
             others: 0,
-            holes: 0,
         }
     }
 
@@ -115,32 +108,23 @@ fn sort_of(node: &Node, fate: Fate) -> Option<Sort> {
     }
 }
 
-/// Appends how much of a torn file is missing, and where, unless too many holes were gone through for that.
-fn push_missing<B: BlockStore>(
+/// Appends how much of a torn file is missing, and where.
+fn push_missing(
     alloc: Global,
     text: &mut String,
-    listing: &Listing<'_, B>,
+    listing: &Listing<'_>,
     node: &Node,
     what: &str,
-    totals: &mut Totals,
 ) -> Result<(), OutOfMemory> {
     text.push_str("torn")?;
     let Volume::Open(opened) = &listing.volume else {
         return Ok(());
     };
-    if totals.holes >= MOST_HOLES {
-        return Ok(());
-    }
-    let view = opened.view_by(listing.table);
-    let full = match full_standing_by(alloc, view, node.icb, &node.standing) {
-        Ok(full) => full,
-        Err(GaveUp::OutOfMemory) => return Err(AllocError),
-        Err(GaveUp::Unread) => return text.push_str(": an input could not be read again"),
-    };
+    let view = opened.view(listing.table);
+    let full = full_standing(alloc, view, node.icb, &node.standing)?;
     let Standing::Torn(torn) = &full else {
         return Ok(());
     };
-    totals.holes = totals.holes.saturating_add(torn.holes.len());
     let Some((offset, _)) = torn.holes.first() else {
         return Ok(());
     };
@@ -170,19 +154,18 @@ fn push_fault(text: &mut String, profile: Profile, fault: NodeFault) -> Result<(
 }
 
 /// Appends why a node was not written, or not all of it.
-fn push_reason<B: BlockStore, F: Files>(
+fn push_reason<F: Files>(
     alloc: Global,
     text: &mut String,
-    listing: &Listing<'_, B>,
+    listing: &Listing<'_>,
     node: &Node,
     sort: Sort,
-    totals: &mut Totals,
     files: &F,
 ) -> Result<(), OutOfMemory> {
     match sort {
         Sort::Written => Ok(()),
-        Sort::Filled => push_missing(alloc, text, listing, node, "of zeros", totals),
-        Sort::Torn => push_missing(alloc, text, listing, node, "missing", totals),
+        Sort::Filled => push_missing(alloc, text, listing, node, "of zeros"),
+        Sort::Torn => push_missing(alloc, text, listing, node, "missing"),
         Sort::Unread => text.push_str("not read: a file, or a folder with all below it"),
         Sort::Link => text.push_str("link"),
         Sort::Loop => text.push_str("a folder inside itself"),
@@ -202,27 +185,26 @@ fn push_reason<B: BlockStore, F: Files>(
 }
 
 /// The line of a node that was not written, or not all of it.
-fn line_of<B: BlockStore, F: Files>(
+fn line_of<F: Files>(
     alloc: Global,
-    listing: &Listing<'_, B>,
+    listing: &Listing<'_>,
     word: &str,
     node: &Node,
     sort: Sort,
-    totals: &mut Totals,
     files: &F,
 ) -> Result<String, OutOfMemory> {
     let mut line = String::from_str(alloc, word)?;
     push_shown_path(&mut line, &node.path)?;
     line.push_str(": ")?;
-    push_reason(alloc, &mut line, listing, node, sort, totals, files)?;
+    push_reason(alloc, &mut line, listing, node, sort, files)?;
     Ok(line)
 }
 
 /// Shows as a remark why a node was not written, or not all of it, where that is so, and counts it. Of a torn folder that was made it shows that names may be
 /// missing in it. `word` stands before its path.
-pub fn remark_on_fate<B: BlockStore, F: Files>(
+pub fn remark_on_fate<F: Files>(
     alloc: Global,
-    listing: &Listing<'_, B>,
+    listing: &Listing<'_>,
     word: &str,
     node: &Node,
     fate: Fate,
@@ -239,7 +221,7 @@ pub fn remark_on_fate<B: BlockStore, F: Files>(
     if sort == Sort::Written {
         return;
     }
-    if let Ok(line) = line_of(alloc, listing, word, node, sort, totals, files) {
+    if let Ok(line) = line_of(alloc, listing, word, node, sort, files) {
         files.remark(line.as_str());
     }
 }

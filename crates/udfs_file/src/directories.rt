@@ -246,26 +246,22 @@ impl Dir {
         let mut spare = [0; 2048];
         let mut other = [0; 2048];
         let mut cursor = StoreCursor::new(view, body);
-        cursor.keep()?;
         let mut entries = Vec::new(alloc);
         'steps: loop {
-            match cursor.ahead(profile, &mut spare, &mut other)? {
-                Step::Id(pieces) => {
-                    let size = pieces.len();
-                    match listed(alloc, &pieces) {
-                        Ok(Some(entry)) => {
-                            if entries.len() >= most {
-                                return Ok(Err(FrontError::TooMany));
-                            }
-                            match put(&mut entries, entry) {
-                                Ok(()) => cursor.pass(size)?,
-                                Err(_) => return Ok(Err(FrontError::OutOfMemory)),
-                            }
+            match cursor.next(profile, &mut spare, &mut other)? {
+                Step::Id(pieces) => match listed(alloc, &pieces) {
+                    Ok(Some(entry)) => {
+                        if entries.len() >= most {
+                            return Ok(Err(FrontError::TooMany));
                         }
-                        Ok(None) => cursor.pass(size)?,
-                        Err(_) => return Ok(Err(FrontError::OutOfMemory)),
+                        match put(&mut entries, entry) {
+                            Ok(()) => {}
+                            Err(_) => return Ok(Err(FrontError::OutOfMemory)),
+                        }
                     }
-                }
+                    Ok(None) => {}
+                    Err(_) => return Ok(Err(FrontError::OutOfMemory)),
+                },
                 Step::Stop(n) => return Ok(Ok(ended(entries, Some(n), None))),
                 Step::Fault(fault) => return Ok(Ok(ended(entries, None, Some(fault)))),
                 Step::End => return Ok(Ok(ended(entries, None, None))),
@@ -305,15 +301,11 @@ impl Dir {
         let mut spare = [0; 2048];
         let mut other = [0; 2048];
         let mut cursor = StoreCursor::new(view, body);
-        cursor.keep()?;
         let mut lists = false;
         'steps: loop {
-            match cursor.ahead(profile, &mut spare, &mut other)? {
+            match cursor.next(profile, &mut spare, &mut other)? {
                 Step::Id(pieces) => {
-                    let size = pieces.len();
-                    let is_listed = pieces.is_listed();
-                    cursor.pass(size)?;
-                    if is_listed {
+                    if pieces.is_listed() {
                         lists = true;
                     }
                 }

@@ -9,7 +9,3 @@ pub mod CopyLemmas
 pub mod PackLemmas
 pub mod EntryLemmas
 pub mod StoreLemmas
-mod PairPlacedLemmas
-mod RecordLemmas
-mod SpreadLemmas
-mod FrontLemmas

@@ -7,8 +7,3 @@ pub mod Copying
 pub mod Stores
 pub mod Placed
 pub mod Imaging
-pub mod PairPlaced
-pub mod Fronts
-pub mod Told
-pub mod AnyStored
-pub mod Comparing

@@ -5,7 +5,6 @@ pub mod MetLemmas
 pub mod SearchLemmas
 pub mod TreeLemmas
 pub mod FileLemmas
-pub mod ToldLemmas
 pub mod FoundLemmas
 pub mod ReachLemmas
 pub mod FolderTrees

@@ -11,4 +11,3 @@ pub mod Subtrees
 pub mod PlacedVolumes
 pub mod FoundNames
 pub mod Unplaced
-pub mod Told

@@ -33,5 +33,3 @@ pub mod SomeReading
 pub mod SomeEntries
 pub mod SomePackets
 pub mod SomeOutcomes
-pub mod Putting
-pub mod PrintingPublicLaws

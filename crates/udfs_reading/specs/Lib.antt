@@ -15,5 +15,3 @@ pub mod Inputs
 pub mod Writing
 pub mod Several
 pub mod Laws
-pub mod Puts
-pub mod PrintingLaws

@@ -3,6 +3,5 @@ pub mod RereadingLemmas
 pub mod TellingLemmas
 mod InRange
 mod ToldTexts
-mod LostTexts
 mod StoreListings
 mod ToldVolumes

@@ -18,7 +18,8 @@ use crate::surveys::Survey;
 use crate::volumes::Volume;
 use std::alloc::Global;
 use udfs_lattice::{BlockStore, GaveUp};
-use udfs_reading::{Printer, Sink};
+use udfs_printing::Printer;
+use udfs_reading::Sink;
 
 /// The lines of the nodes.
 fn put_survey_nodes<B: BlockStore, W: Sink>(

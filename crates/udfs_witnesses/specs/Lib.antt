@@ -1,4 +1,2 @@
 pub mod Witnesses
 pub mod Laws
-pub mod Groups
-pub mod Adding

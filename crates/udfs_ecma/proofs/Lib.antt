@@ -1,0 +1,16 @@
+pub mod Reading
+pub mod TagTables
+pub mod ExtentTables
+pub mod MapTables
+pub mod VolumeTables
+pub mod Prevailing
+pub mod LayoutTables
+pub mod EntryTables
+pub mod AreaTables
+pub mod IdentifierTables
+pub mod FileTables
+pub mod BodyBytes
+pub mod SparingTables
+pub mod TextTables
+pub mod Rows
+pub mod PublicLaws

@@ -1,0 +1,11 @@
+pub mod Tables
+pub mod Tags
+pub mod Extents
+pub mod Entries
+pub mod Identifiers
+pub mod Files
+pub mod Volumes
+pub mod Layouts
+pub mod Sparing
+pub mod Texts
+pub mod Laws

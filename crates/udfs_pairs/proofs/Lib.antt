@@ -1,0 +1,4 @@
+mod PlacedLemmas
+mod RecordLemmas
+mod SpreadLemmas
+mod FrontLemmas

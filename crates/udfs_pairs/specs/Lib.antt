@@ -1,0 +1,4 @@
+pub mod Placed
+pub mod Fronts
+pub mod Told
+pub mod AnyStored
