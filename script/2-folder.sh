@@ -61,7 +61,10 @@ attend() {
         "$@" &
         echo $! > work/child
         wait $!
-        echo $? > work/ended
+        ended=$?
+        # on a full disk there is no file, and the status is this process's own
+        echo "$ended" 2> /dev/null > work/ended
+        exit "$ended"
     ) < /dev/null 3>&- &
     child=$!
     await "$child"
