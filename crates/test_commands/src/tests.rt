@@ -51,7 +51,7 @@ use std::process::Abort;
 use std::test::Fail;
 use test_runs::{Program, Taker, faults};
 use udfs_commands::run;
-use udfs_files::Files;
+use udfs_host_fs::Files;
 use udfs_reading::Writer;
 
 /// The program's commands.

@@ -8,7 +8,7 @@ use std::io;
 use std::io::Write;
 use std::rc::Rc;
 use udfs_calls::Calls;
-use udfs_files::{Files, Machine};
+use udfs_host_fs::{Files, Machine};
 use udfs_lattice::BlockTable;
 use udfs_memory::{Device, Memory, MemoryCalls, SOUND};
 use udfs_reading::{Writer, write_table};

@@ -3,7 +3,7 @@
 use std::alloc::{AllocError, Global};
 use udfs_common::files::Files;
 use udfs_common::shown::Shown;
-use udfs_files::{Aim, Kind};
+use udfs_host_fs::{Aim, Kind};
 use udfs_overview::push_grouped;
 use udfs_reading::Source;
 

@@ -3,7 +3,7 @@
 use std::alloc::{AllocError, Global};
 use std::fmt;
 use udfs_common::files::Files;
-use udfs_files::{Aim, Kind};
+use udfs_host_fs::{Aim, Kind};
 use udfs_rescue::Image;
 
 /// The size of a sector of a disc, in bytes.

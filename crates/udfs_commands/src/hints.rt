@@ -9,7 +9,7 @@ use std::io::{Error, ErrorKind};
 use udfs_common::files::Files;
 use udfs_common::refusal::Refusal;
 use udfs_common::shown::{Said, Shown};
-use udfs_files::{Aim, Kind};
+use udfs_host_fs::{Aim, Kind};
 use udfs_reading::{ReadingError, ReadingFault};
 use udfs_rescue::MapFault;
 use udfs_words::input_path::InputPath;

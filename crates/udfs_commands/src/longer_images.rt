@@ -5,7 +5,7 @@ use std::alloc::{AllocError, Global};
 use std::fmt::Write;
 use udfs_common::files::Files;
 use udfs_common::shown::Shown;
-use udfs_files::{Aim, Kind};
+use udfs_host_fs::{Aim, Kind};
 use udfs_overview::push_size;
 use udfs_rescue::{Image, Mapfile};
 use udfs_words::input_path::InputPath;

@@ -4,7 +4,7 @@ use std::alloc::{AllocError, Global};
 use udfs_common::files::Files;
 use udfs_common::guard::is_among;
 use udfs_common::shown::Shown;
-use udfs_files::{Aim, Kind};
+use udfs_host_fs::{Aim, Kind};
 use udfs_words::request::{ImageRequest, Inputs, Request};
 
 /// Whether one of these paths leads where this one does.

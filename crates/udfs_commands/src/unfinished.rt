@@ -5,16 +5,11 @@ use crate::longer_images::is_file;
 use std::alloc::{AllocError, Global};
 use udfs_common::files::Files;
 use udfs_common::shown::Shown;
-use udfs_files::{Aim, Kind};
+use udfs_host_fs::{Aim, Kind};
 use udfs_words::request::Request;
 
-/// The suffixes that the name of a new file has while it is written.
-const ENDS: [&str; 4] = [
-    ".unfinished",
-    ".unfinished~",
-    ".unfinished~~",
-    ".unfinished~~~",
-];
+/// How many names are looked at.
+const MOST: usize = 16;
 
 /// Whether a path leads to this one, which has no links.
 fn leads_to<F: Files>(
@@ -36,19 +31,20 @@ fn remark_beside<F: Files>(
     real: &str,
     files: &F,
 ) -> Result<(), AllocError> {
-    for end in &ENDS {
+    let mut end = format!(in alloc; ".unfinished")?;
+    for _ in 0..MOST {
         let left = format!(in alloc; "{real}{end}")?;
-        if !is_file(alloc, left.as_str(), files)? {
-            continue;
+        if is_file(alloc, left.as_str(), files)? {
+            let given = format!(in alloc; "{out}{end}")?;
+            let is_given = leads_to(alloc, given.as_str(), left.as_str(), files)?;
+            let name = if is_given { given } else { left };
+            let text = format!(in alloc;
+                "{} was left by a run that was killed: remove it, unless that run goes on",
+                Shown(name.as_str())
+            )?;
+            files.remark(text.as_str());
         }
-        let given = format!(in alloc; "{out}{end}")?;
-        let is_given = leads_to(alloc, given.as_str(), left.as_str(), files)?;
-        let name = if is_given { given } else { left };
-        let text = format!(in alloc;
-            "{} was left by a run that was killed: remove it, unless that run goes on",
-            Shown(name.as_str())
-        )?;
-        files.remark(text.as_str());
+        end.push('~')?;
     }
     Ok(())
 }

@@ -8,7 +8,7 @@ use Rattle.udfs_lattice.specs.States.{State, is_conflict, join_of}
 use Rattle.udfs_lattice.specs.TableLaws.{state_of-empty, state_of-join_tables, state_of-one_record}
 use Rattle.udfs_lattice.specs.Tables.{IsStateAt, IsStateAt-join_of, IsTable, Table, conflict_count, entries_of, join_tables, one_record, state_of}
 use Rattle.udfs_lattice.specs.declared.facts.Fact.TheVariants.{Unknown, Known, Conflict}
-use Rattle.udfs_compare.specs.Comparing.{are_known, are_other, disagreeing, is_other_disc}
+use Rattle.udfs_index.specs.Comparing.{are_known, are_other, disagreeing, is_other_disc}
 use Rattle.udfs_index.proofs.EntryLemmas.{all_entries, entries_below, entries-more, entries-none}
 use Rattle.udfs_reading.specs.Inputs.{named}
 use Rattle.udfs_reading.specs.PacketReading.{entry_at}

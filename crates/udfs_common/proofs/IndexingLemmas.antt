@@ -1,7 +1,7 @@
 -- Inputs are taken into an index one after the other, and an image may be compared with those before it.
 use Rattle.std.proofs.Common.{◌≡◌, ◌<◌, ◌+◌, ◌-◌, ◌∙◌, arith, ap, sym, refl, subst, ℕ, zero, suc, Bool, true, false, List, [], ◌∷◌, ◌++◌, Option, Some, IfSome, Err, length, map, slice_get, take, drop}
 use Rattle.std.specs.Borrow.{Bor}
-use Rattle.udfs_compare.specs.Comparing.{disagreeing, is_other_disc, shared}
+use Rattle.udfs_index.specs.Comparing.{disagreeing, is_other_disc, shared}
 use Rattle.udfs_index.proofs.IndexLemmas.{told_all}
 use Rattle.udfs_index.proofs.StoreLemmas.{took_states}
 use Rattle.udfs_index.specs.Copying.{AreAllTold}

@@ -1,7 +1,7 @@
 -- What a job's file leaves where only some bytes can be in it.
 use Rattle.std.proofs.Common.{◌≡◌, ◌≢◌, IfOk, OnErr, Result, Ok, Err, ◌⊎◌, ℕ, List, Option, Some, inl, inr, refl, ap, subst, ◌∙◌, ⊎_elim, le_refl}
-use Rattle.udfs_files.specs.Disk.{Disk, After, Goes, IsOwn, Replaced}
-use Rattle.udfs_files.specs.Jobs.{HoldsSome, LeavesSome, ReplacedBySome}
+use Rattle.udfs_host_fs.specs.Disk.{Disk, After, Goes, IsOwn, Replaced}
+use Rattle.udfs_host_fs.specs.Jobs.{HoldsSome, LeavesSome, ReplacedBySome}
 use Rattle.udfs_common.specs.Jobs.{AreOnly}
 use Rattle.udfs_common.specs.Keeping.{IsKept}
 

@@ -1,6 +1,6 @@
 -- What is said of a path where a file is put, of more bytes, of nothing, and whatever came of it.
 use Rattle.std.proofs.Common.{◌≡◌, ◌⊎◌, ℕ, List, Ok, Err, Result, IfErr, OnOk, inl, inr, ap, refl, ⊎_elim}
-use Rattle.udfs_files.specs.Disk.{After, Disk, Replaced}
+use Rattle.udfs_host_fs.specs.Disk.{After, Disk, Replaced}
 use Rattle.udfs_common.specs.declared.refusal.Refusal.{Refusal}
 use Rattle.udfs_common.specs.Reach.{Reach}
 use Rattle.udfs_common.specs.Keeping.{IsKept, IsTaken, RefusedOut}

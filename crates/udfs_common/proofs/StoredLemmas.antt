@@ -1,7 +1,7 @@
 -- Inputs that are read at positions have the tables of their paths.
 use Rattle.std.proofs.Common.{◌≡◌, ◌⊎◌, ◌+◌, ◌-◌, Err, alloc_error, ℕ, zero, suc, List, [], ◌∷◌, ◌++◌, length, take, Option, None, Some, IfSome, slice_get, refl, sym, ap, subst, ◌∙◌, inl, inr, arith}
 use Rattle.std.specs.Io.KnownBytes.{Appends}
-use Rattle.udfs_files.specs.Telling.{ToldOrSilent}
+use Rattle.udfs_host_fs.specs.Telling.{ToldOrSilent}
 use Rattle.udfs_index.specs.Copying.{AreAllTold}
 use Rattle.udfs_reading.specs.Device.{Stream}
 use Rattle.udfs_lattice.specs.Tables.{Table}
@@ -18,9 +18,9 @@ use Rattle.udfs_common.specs.declared.refusal.Refusal.{Refusal}
 use Rattle.udfs_common.specs.declared.refusal.Refusal.TheVariants.{Memory}
 use Rattle.udfs_common.specs.declared.sources.AnySource.{AnySource}
 use Rattle.udfs_common.specs.declared.sources.AnySource.TheVariants.{File, Paired, Refused}
-use Rattle.udfs_pairs.specs.AnyStored.{stored_in}
-use Rattle.udfs_pairs.specs.declared.any_stored.AnyStored.{AnyStored}
-use Rattle.udfs_pairs.specs.declared.any_stored.AnyStored.TheVariants as any
+use Rattle.udfs_index.specs.AnyStored.{stored_in}
+use Rattle.udfs_index.specs.declared.any_stored.AnyStored.{AnyStored}
+use Rattle.udfs_index.specs.declared.any_stored.AnyStored.TheVariants as any
 use Rattle.udfs_reading.specs.Format.{header}
 use Rattle.udfs_reading.specs.Reading.{magic}
 use Rattle.udfs_rescue.specs.Blocks.{left_bytes, reading_known, reading_of, records_of}

@@ -9,7 +9,7 @@ use Rattle.udfs_lattice.specs.Records.{join_all}
 use Rattle.udfs_lattice.specs.States.{State}
 use Rattle.udfs_lattice.specs.TableLaws.{join_tables-assoc, join_tables-empty, join_tables-empty_right, state_of-empty}
 use Rattle.udfs_lattice.specs.Tables.{Table, empty_table, entries_of, join_tables, state_of}
-use Rattle.udfs_compare.specs.Comparing.{are_other, disagreeing, is_other_disc, shared}
+use Rattle.udfs_index.specs.Comparing.{are_other, disagreeing, is_other_disc, shared}
 use Rattle.udfs_reading.specs.Answers.{FailsAfter, GivesFault, RefusesFaulty}
 use Rattle.udfs_reading.specs.Inputs.{inputs}
 use Rattle.udfs_reading.specs.Several.{HasTable, InputFails, TablesAre}

@@ -10,8 +10,8 @@ use Rattle.udfs_reading.specs.Several.{InputFails}
 use Rattle.udfs_reading.specs.declared.inputs.InputError.{InputError}
 use Rattle.udfs_rescue.specs.Opening.{PairFails}
 use Rattle.udfs_rescue.specs.declared.opening.PairFault.{PairFault}
-use Rattle.udfs_pairs.specs.declared.any_stored.AnyStored.{AnyStored}
-use Rattle.udfs_pairs.specs.declared.any_stored.AnyStored.TheVariants as any
+use Rattle.udfs_index.specs.declared.any_stored.AnyStored.{AnyStored}
+use Rattle.udfs_index.specs.declared.any_stored.AnyStored.TheVariants as any
 use Rattle.udfs_common.specs.Keeping.{Opens}
 use Rattle.udfs_common.specs.OtherDiscs.{IsOtherDisc}
 use Rattle.udfs_common.specs.Refusing.{refusal_for}

@@ -17,10 +17,10 @@
 --     IsSparedPair               why they are not written
 use Rattle.std.specs.Prelude.{◌≡◌, ◌≢◌, ◌⊎◌, ⊤, ℕ, List, [], ◌∷◌, Bool, true, false, Option, Some, IfSome, ◌++◌, codes, nat_eq, if◌then◌else◌, None, string_bytes}
 use Rattle.udfs_rescue.specs.Writing.{made_by, mark_line}
-use Rattle.udfs_files.specs.Disk.{IsOwn}
-use Rattle.udfs_files.specs.Identities.{HaveOne, IsFileOf}
-use Rattle.udfs_files.specs.declared.files.Files.{Ghosts}
-use Rattle.udfs_files.specs.declared.files.Target.{Target}
+use Rattle.udfs_host_fs.specs.Disk.{IsOwn}
+use Rattle.udfs_host_fs.specs.Identities.{HaveOne, IsFileOf}
+use Rattle.udfs_host_fs.specs.declared.files.Files.{Ghosts}
+use Rattle.udfs_host_fs.specs.declared.files.Target.{Target}
 
 -- whether the second list starts with all bytes of the first
 abbrev pub begins : List ℕ → List ℕ → Bool

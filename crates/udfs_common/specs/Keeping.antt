@@ -6,7 +6,7 @@
 --     RefusedOut     what an error leaves: nothing has changed, or what `FailedOut` says
 use Rattle.std.specs.Prelude.{◌≡◌, ◌≢◌, ◌⊎◌, ℕ, List, Option, Some, length, slice_get}
 use Rattle.std.specs.Io.KnownBytes.{Appends}
-use Rattle.udfs_files.specs.Disk.{Disk, IsOwn}
+use Rattle.udfs_host_fs.specs.Disk.{Disk, IsOwn}
 use Rattle.udfs_lattice.specs.Tables.{Table}
 use Rattle.udfs_lattice.specs.Records.{join_all}
 use Rattle.udfs_reading.specs.Several.{TablesAre}

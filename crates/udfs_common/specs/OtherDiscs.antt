@@ -8,7 +8,7 @@
 use Rattle.std.specs.Prelude.{◌≡◌, ◌+◌, ℕ, Bool, true, false, List, [], ◌∷◌, ◌++◌, ◌&&◌, Option, None, Some, not, nat_lt, take, slice_get}
 use Rattle.udfs_lattice.specs.Records.{join_all}
 use Rattle.udfs_lattice.specs.Tables.{Table}
-use Rattle.udfs_compare.specs.Comparing.{disagreeing, is_other_disc, shared}
+use Rattle.udfs_index.specs.Comparing.{disagreeing, is_other_disc, shared}
 use Rattle.udfs_common.specs.Keeping.{Joined}
 use Rattle.udfs_common.specs.declared.refusal.Refusal.{Refusal}
 use Rattle.udfs_common.specs.declared.refusal.Refusal.TheVariants.{OtherDisc}

@@ -11,7 +11,7 @@
 --     Spares          the same, whatever the call returned
 --     PutsAs          what a call does with the path whose result says more of the bytes
 use Rattle.std.specs.Prelude.{◌≡◌, ◌≢◌, ◌⊎◌, ℕ, List, Some, Result, IfErr, IfOk, OnErr, OnOk}
-use Rattle.udfs_files.specs.Disk.{Disk, After, Fails, IsOwn, Replaced, Same, SinkFails}
+use Rattle.udfs_host_fs.specs.Disk.{Disk, After, Fails, IsOwn, Replaced, Same, SinkFails}
 use Rattle.udfs_common.specs.Keeping.{IsKept, IsTaken}
 use Rattle.udfs_common.specs.Reach.{Reach}
 use Rattle.udfs_common.specs.declared.refusal.Refusal.{Refusal}

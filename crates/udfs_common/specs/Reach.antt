@@ -2,7 +2,7 @@
 --     Reach                      all of it, as one value
 --     found_at reach at path     what the path leads to, at some moment
 use Rattle.std.specs.Prelude.{ℕ, List, Option}
-use Rattle.udfs_files.specs.declared.files.Files.{Ghosts}
+use Rattle.udfs_host_fs.specs.declared.files.Files.{Ghosts}
 use Rattle.udfs_reading.specs.Device.{Stream}
 use Rattle.udfs_common.specs.declared.sources.AnySource.{AnySource}
 

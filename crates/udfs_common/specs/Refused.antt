@@ -9,8 +9,8 @@
 --     IndexRefused                   the same of the inputs of some paths
 use Rattle.std.specs.Prelude.{◌≡◌, ◌≢◌, ◌⊎◌, ◌<◌, ◌+◌, ℕ, Bool, true, List, ◌∷◌, ◌++◌, Option, None, Some, Err, alloc_error, length}
 use Rattle.udfs_lattice.specs.Tables.{Table}
-use Rattle.udfs_pairs.specs.declared.any_stored.AnyStored.{AnyStored}
-use Rattle.udfs_pairs.specs.declared.any_stored.AnyStored.TheVariants.{File, Paired, Refused}
+use Rattle.udfs_index.specs.declared.any_stored.AnyStored.{AnyStored}
+use Rattle.udfs_index.specs.declared.any_stored.AnyStored.TheVariants.{File, Paired, Refused}
 use Rattle.udfs_reading.specs.Answers.{GivesFault, RefusesFaulty}
 use Rattle.udfs_reading.specs.Inputs.{inputs}
 use Rattle.udfs_reading.specs.Several.{TablesAre}

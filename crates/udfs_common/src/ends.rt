@@ -14,7 +14,7 @@ use crate::known::Known;
 use crate::refusal::Refusal;
 use crate::sources::AnySource;
 use std::alloc::{AllocError, Global};
-use udfs_files::{Aim, Kind};
+use udfs_host_fs::{Aim, Kind};
 use udfs_reading::Source;
 use udfs_rescue::{MapError, Mapfile};
 use udfs_words::input_path::InputPath;

@@ -1,3 +1,3 @@
 //! The files that a command reaches.
 
-pub use udfs_files::Files;
+pub use udfs_host_fs::Files;

@@ -1,13 +1,13 @@
 //! What an output may not take the place of: a pass can not be had again.
 
 ghost use Rattle.std.specs.Prelude.{◌≡◌, ◌≢◌, ◌⊎◌, ℕ, List, [], true, false, Some, IfOk, OnErr, map, string_bytes};
-ghost use Rattle.udfs_files.specs.Disk.{Fails};
-ghost use Rattle.udfs_files.specs.Identities.{HaveOne};
+ghost use Rattle.udfs_host_fs.specs.Disk.{Fails};
+ghost use Rattle.udfs_host_fs.specs.Identities.{HaveOne};
 ghost use Rattle.udfs_common.specs.Guarding.{AreOne, AreTwo, BeginsOtherwise, IsFree, IsFreeMap, IsFreeOwn, IsSpared, IsSparedMap, IsSparedOwn, IsTable, MayBegin, MayNotBeSeen, NoneLeads, OfFollowed, SomeLeads, SomeShut, begins};
 
 use crate::files::Files;
 use std::alloc::{AllocError, Global};
-use udfs_files::{Aim, Identity, Kind, Target};
+use udfs_host_fs::{Aim, Identity, Kind, Target};
 use udfs_reading::{DeviceFault, Source};
 
 /// The bytes with which a table file begins, in either version.

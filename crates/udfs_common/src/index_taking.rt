@@ -12,8 +12,7 @@ ghost use Rattle.udfs_common.specs.Refusing.{NamesNoOther, refusal_with};
 use crate::refusal::Refusal;
 use crate::sources::refused_pair;
 use std::alloc::{AllocError, Global};
-use udfs_index::{Cursor, Index, Stored, Unread, record_at, take_stored};
-use udfs_pairs::AnyStored;
+use udfs_index::{AnyStored, Cursor, Index, Stored, Unread, record_at, take_stored};
 use udfs_reading::{InputError, ReadingError, ReadingFault, Source, Taker};
 use udfs_rescue::PairFault;
 

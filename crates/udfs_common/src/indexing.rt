@@ -13,8 +13,7 @@ use crate::judging::judge;
 use crate::refusal::Refusal;
 use crate::taking::is_compared;
 use std::alloc::Global;
-use udfs_index::Stored;
-use udfs_pairs::AnyStored;
+use udfs_index::{AnyStored, Stored};
 use udfs_reading::InputError;
 use udfs_words::input_path::InputPath;
 

@@ -1,7 +1,7 @@
 //! What a job writes is put at a path, or written to what is there and is no file.
 
 ghost use Rattle.std.specs.Prelude.{◌≡◌, ◌≢◌, ◌⊎◌, ℕ, List, [], Some, IfOk, IfErr, OnOk, OnErr, IsErrOf};
-ghost use Rattle.udfs_files.specs.Disk.{Disk, After, IsOwn, Replaced, Fails, SinkFails};
+ghost use Rattle.udfs_host_fs.specs.Disk.{Disk, After, IsOwn, Replaced, Fails, SinkFails};
 ghost use Rattle.udfs_common.specs.Jobs.{AreOnly, IsDone};
 ghost use Rattle.udfs_common.specs.Keeping.{FailedOut, IsKept, RefusedOut};
 ghost use Rattle.udfs_common.specs.Refusing.{IsUnput};
@@ -9,7 +9,7 @@ ghost use Rattle.udfs_common.specs.Refusing.{IsUnput};
 use crate::files::Files;
 use crate::refusal::Refusal;
 use std::alloc::{AllocError, Global};
-use udfs_files::{Aim, Job, JobError, Kind, ReplaceError, Stage, fill_by, replace_by_job};
+use udfs_host_fs::{Aim, Job, JobError, Kind, ReplaceError, Stage, fill_by, replace_by_job};
 use udfs_reading::DeviceFault;
 
 /// Puts a file that a job writes at the path, whole or not at all, or has the job write to what is there and is no file.

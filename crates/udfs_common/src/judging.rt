@@ -1,7 +1,7 @@
 //! Whether an image that is read at positions is of another disc, where it may be.
 
 ghost use Rattle.std.specs.Prelude.{◌≡◌, ◌≢◌, ◌⊎◌, ◌<◌, ◌≤◌, cond, ◌+◌, ◌^◌, ℕ, List, [], ◌∷◌, IfOk, IfErr, OnOk, length, take, drop, alloc_error};
-ghost use Rattle.udfs_compare.specs.Comparing.{are_known, are_other, disagreeing, shared};
+ghost use Rattle.udfs_index.specs.Comparing.{are_known, are_other, disagreeing, shared};
 ghost use Rattle.udfs_index.specs.Copying.{AreAllTold};
 ghost use Rattle.udfs_lattice.specs.Records.{join_all};
 ghost use Rattle.udfs_lattice.specs.Tables.{Table, IsTable, state_of};
@@ -14,8 +14,7 @@ ghost use Rattle.udfs_common.specs.Refused.{IsUncompared};
 use crate::index_taking::cursors;
 use crate::refusal::Refusal;
 use std::alloc::{AllocError, Global};
-use udfs_compare::Comparison;
-use udfs_index::{Cursor, Index, Stored};
+use udfs_index::{Comparison, Cursor, Index, Stored};
 use udfs_lattice::{BlockStore, Fact, ReadFault};
 use udfs_reading::{ReadingError, ReadingFault, Taker, take_inputs};
 

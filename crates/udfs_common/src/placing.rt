@@ -1,16 +1,16 @@
 //! Where an image and its mapfile go: two paths, neither in the other's way, that take the place of nothing that is to stay.
 
 ghost use Rattle.std.specs.Prelude.{◌≡◌, ◌≢◌, ◌⊎◌, ◌++◌, ◌≤◌, ℕ, List, true, false, Some, None, IfOk, IfErr, OnOk, IsErrOf, length, map, string_bytes, alloc_error};
-ghost use Rattle.udfs_files.specs.Disk.{Fails, IsOwn};
-ghost use Rattle.udfs_files.specs.Identities.{HaveOne, IsFileOf};
-ghost use Rattle.udfs_files.specs.declared.files.Kind.{Kind};
+ghost use Rattle.udfs_host_fs.specs.Disk.{Fails, IsOwn};
+ghost use Rattle.udfs_host_fs.specs.Identities.{HaveOne, IsFileOf};
+ghost use Rattle.udfs_host_fs.specs.declared.files.Kind.{Kind};
 ghost use Rattle.udfs_common.specs.Guarding.{AreInTheWay, AreTwo, HaveNoPlace, NoneLeads, IsApart, IsFreePair, IsSparedPair, OfFollowed, SomeLeads, SomeShut};
 
 use crate::files::Files;
 use crate::guard::{are_one, is_among};
 use crate::refusal::Refusal;
 use std::alloc::{AllocError, Global};
-use udfs_files::{Aim, Kind, Target};
+use udfs_host_fs::{Aim, Kind, Target};
 use udfs_reading::DeviceFault;
 
 /// Where an image and its mapfile go, every link followed.

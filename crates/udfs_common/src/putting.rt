@@ -1,7 +1,7 @@
 //! A file is put at a path, or written to what is there and is no file.
 
 ghost use Rattle.std.specs.Prelude.{◌≡◌, ◌≢◌, ◌⊎◌, ℕ, List, Some, IfErr, OnOk, OnErr, IsErrOf};
-ghost use Rattle.udfs_files.specs.Disk.{Disk, After, IsOwn, Replaced, Fails, SinkFails};
+ghost use Rattle.udfs_host_fs.specs.Disk.{Disk, After, IsOwn, Replaced, Fails, SinkFails};
 ghost use Rattle.udfs_common.specs.Keeping.{IsKept, IsTaken, RefusedOut};
 ghost use Rattle.udfs_common.specs.Puts.{Puts};
 ghost use Rattle.udfs_common.specs.Refusing.{IsUnput};
@@ -10,7 +10,7 @@ use crate::files::Files;
 use crate::known::Known;
 use crate::refusal::Refusal;
 use std::alloc::{AllocError, Global};
-use udfs_files::{Aim, Content, Kind, ReplaceError, Stage, fill, replace};
+use udfs_host_fs::{Aim, Content, Kind, ReplaceError, Stage, fill, replace};
 use udfs_reading::DeviceFault;
 
 /// Puts a file with this content at the path, whole or not at all, or writes it to what is there and is no file.

@@ -9,7 +9,7 @@ ghost use Rattle.udfs_common.specs.Sources.{left_in, faults_in, IsPathOpened};
 use crate::files::Files;
 use crate::refusal::Refusal;
 use std::alloc::{AllocError, Global};
-use udfs_files::Stage;
+use udfs_host_fs::Stage;
 use udfs_reading::{DeviceFault, InputError, Source};
 use udfs_rescue::{Image, Pair, PairFault, open_pair};
 use udfs_words::input_path::InputPath;

@@ -14,8 +14,7 @@ use crate::known::Known;
 use crate::refusal::Refusal;
 use crate::stored_inputs::open_all_stored;
 use std::alloc::{AllocError, Global};
-use udfs_index::{Cursor, Index, Stored, Unread};
-use udfs_pairs::AnyStored;
+use udfs_index::{AnyStored, Cursor, Index, Stored, Unread};
 use udfs_reading::Taker;
 use udfs_words::request::VolumeSource;
 

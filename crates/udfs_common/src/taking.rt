@@ -10,7 +10,7 @@ ghost use Rattle.udfs_common.specs.Taking.{AreUntaken, BlamesAlone, IsUntaken, N
 use crate::refusal::Refusal;
 use crate::sources::{AnySource, refused_pair};
 use std::alloc::{AllocError, Global};
-use udfs_compare::compare;
+use udfs_index::compare;
 use udfs_lattice::{BlockTable, Join};
 use udfs_reading::{InputError, Source, Taker, take_inputs};
 use udfs_rescue::{Image, PairFault};

@@ -4,7 +4,7 @@ use Rattle.std.proofs.lemmas.Bool.{cond-true, cond-false, cond_both}
 use Rattle.std.proofs.lemmas.Str.Pattern.{NoCharPasses-char, drop_at_char}
 use Rattle.std.specs.Prelude.{Option, nat_eq}
 use Rattle.std.specs.Str.Pattern.{RFindsChar}
-use Rattle.udfs_files.specs.Disk.{folder_of, has_slash}
+use Rattle.udfs_host_fs.specs.Disk.{folder_of, has_slash}
 
 -- a text without a slash
 abbrev Lacks : List ℕ → Type 0

@@ -7,8 +7,12 @@ use Rattle.udfs_lattice.specs.Volumes.{Blocks}
 use Rattle.udfs_volume.specs.Answers.{Answer, found}
 use Rattle.udfs_space.specs.Places.{View, view}
 use Rattle.udfs_walk.specs.Bare.{full_entry}
+use Rattle.udfs_walk.specs.GivingUp.{IfTold}
 use Rattle.udfs_walk.specs.Targets.{Icb}
 use Rattle.udfs_walk.specs.declared.answers.NodesError.{NodesError}
+use Rattle.udfs_walk.specs.declared.answers.NodesError.TheVariants as errors
+use Rattle.udfs_walk.specs.declared.answers.NodesGaveUp.{NodesGaveUp}
+use Rattle.udfs_walk.specs.declared.answers.NodesGaveUp.TheVariants.{TooManyPaths, OutOfMemory, Unread}
 use Rattle.udfs_walk.specs.declared.answers.Unnamed.{Unnamed}
 use Rattle.udfs_lost.specs.Folders.{AreLostRoots, icb_of_entry}
 use Rattle.udfs_lost.specs.LostFiles.{lost_files}
@@ -152,3 +156,11 @@ pub unlost_seen : (deleted : Bool) (M : Blocks) (answer : Answer Found) (f : Fou
     → IsUnfoundIn v deleted es error → IsUnfoundOf deleted M answer told error
 unlost_seen deleted M answer f v es told error opened seen are a =
     subst (λ us. IsUnfoundOf deleted M answer us error) are (subst (λ z. IsUnfoundOf deleted M z (map (full_entry_in M z) es) error) (sym opened) (unfound_full M f deleted es error (subst (λ w. IsUnfoundIn w deleted es error) seen a)))
+
+-- ---- why it was not found
+
+-- what follows from an error that a walk over a table has too
+pub told_by : (P Q : NodesError → Type 0) → ((error : NodesError) → P error → Q error) → (e : NodesGaveUp) → IfTold P e → IfTold Q e
+told_by P Q by TooManyPaths h = by errors.TooManyPaths h
+told_by P Q by OutOfMemory h = by errors.OutOfMemory h
+told_by P Q by Unread h = tt

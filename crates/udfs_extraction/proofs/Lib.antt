@@ -19,3 +19,6 @@ mod ListedLemmas
 mod NoNode
 mod RefusedLemmas
 pub mod ManifestJob
+mod StoredLemmas
+mod ToldVolumes
+mod StopLemmas

@@ -1,9 +1,9 @@
 -- How the entries that no name leads to are gone through, and what was written stays.
 use Rattle.std.proofs.Common.{◌≡◌, ◌≢◌, inl, ⊎_elim, ℕ, ◌++◌, ◌≤◌, List, [], ◌∷◌, Option, Some, None, refl, sym, ◌∙◌, subst, arith, length, ap, slice_get, append_assoc, rules, Bool, Bor, true}
 use Rattle.std.specs.Prelude.{MatchOption}
-use Rattle.udfs_files.specs.Disk.{Disk, Same, SameBut, Goes}
-use Rattle.udfs_files.specs.declared.files.Files.{Ghosts}
-use Rattle.udfs_lattice.specs.Tables.{Table}
+use Rattle.udfs_host_fs.specs.Disk.{Disk, Same, SameBut, Goes}
+use Rattle.udfs_host_fs.specs.declared.files.Files.{Ghosts}
+use Rattle.udfs_lattice.specs.Volumes.{Blocks}
 use Rattle.udfs_walk.specs.declared.answers.Unnamed.{Unnamed}
 use Rattle.udfs_salvage.specs.Reports.{Report}
 use Rattle.udfs_extraction.specs.Extracting.{IsSafe, TellsLines, all_good}
@@ -96,9 +96,9 @@ module _ {F I M S W : Type 0} (known : Ghosts F I M S W) where
       }
 
   -- what was put stays put
-  pub lost_still : (fails : Type 0) (table : Table) (report : Report) (folder : List ℕ) (two : Bool) (mid new : F) → ((t : ℕ) (c : Disk) → t ≤ known.moment mid → known.may_leave mid c → known.left_since mid t c) → Lost folder mid new
-      → (u : Unnamed) (fate : Fate) → IsLostPut known.tells fails table report folder two (known.holds mid) (known.moment mid) (known.left_since mid) u fate → IsLostPut known.tells fails table report folder two (known.holds new) (known.moment new) (known.left_since new) u fate
-  lost_still fails table report folder two mid new counts_now step u fate put = record {
+  pub lost_still : (fails : Type 0) (blocks : Blocks) (report : Report) (folder : List ℕ) (two : Bool) (mid new : F) → ((t : ℕ) (c : Disk) → t ≤ known.moment mid → known.may_leave mid c → known.left_since mid t c) → Lost folder mid new
+      → (u : Unnamed) (fate : Fate) → IsLostPut known.tells fails blocks report folder two (known.holds mid) (known.moment mid) (known.left_since mid) u fate → IsLostPut known.tells fails blocks report folder two (known.holds new) (known.moment new) (known.left_since new) u fate
+  lost_still fails blocks report folder two mid new counts_now step u fate put = record {
     done = put.done;
     written = λ is told profile last reported. let w = put.written is told profile last reported in (w.0, w.1, safe_lost folder _ _ mid new counts_now told step w.2);
     failed = put.failed;

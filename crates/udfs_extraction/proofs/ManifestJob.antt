@@ -2,11 +2,11 @@
 use Rattle.std.proofs.Common.{◌≡◌, ◌≢◌, ◌⊎◌, ◌∙◌, ◌+◌, ◌<◌, ◌≤◌, ℕ, zero, suc, List, [], ◌∷◌, ◌++◌, Bool, Option, Some, None, ap, append_assoc, arith, get_or, inl, inr, length, map, refl, slice_get, sym, take, ⊎_elim}
 use Rattle.std.specs.Io.KnownBytes.{Appends}
 use Rattle.std.proofs.lemmas.List.{append-nil, take_more}
-use Rattle.udfs_files.specs.Disk.{Disk, Goes, Replaced}
-use Rattle.udfs_files.specs.Jobs.{HoldsSome, LeavesSome, ReplacedBySome}
-use Rattle.udfs_files.specs.declared.replacing.JobError.{JobError}
-use Rattle.udfs_files.specs.declared.replacing.JobError.TheVariants.{Files, Refused, RefusedLeft}
-use Rattle.udfs_files.specs.declared.replacing.ReplaceError.TheVariants.{LeftBehind, NotKept, NotMade, NotWritten, OutOfMemory}
+use Rattle.udfs_host_fs.specs.Disk.{Disk, Goes, Replaced}
+use Rattle.udfs_host_fs.specs.Jobs.{HoldsSome, LeavesSome, ReplacedBySome}
+use Rattle.udfs_host_fs.specs.declared.replacing.JobError.{JobError}
+use Rattle.udfs_host_fs.specs.declared.replacing.JobError.TheVariants.{Files, Refused, RefusedLeft}
+use Rattle.udfs_host_fs.specs.declared.replacing.ReplaceError.TheVariants.{LeftBehind, NotKept, NotMade, NotWritten, OutOfMemory}
 use Rattle.udfs_common.specs.Keeping.{IsKept}
 use Rattle.udfs_salvage.specs.Reports.{Report}
 use Rattle.udfs_extraction.specs.Manifests.{note_text, notes_text}

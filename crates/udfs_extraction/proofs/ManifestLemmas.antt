@@ -3,10 +3,10 @@ use Rattle.std.proofs.lemmas.List.{append-nil}
 use Rattle.std.proofs.lemmas.List.Concat.{flat_map-append}
 use Rattle.sha2.specs.Sha256.{sha256}
 use Rattle.std.proofs.Common.{◌≡◌, ◌≢◌, ◌⊎◌, inl, inr, ⊎_elim, ℕ, suc, ◌+◌, arith, ◌++◌, List, [], ◌∷◌, Bool, true, false, Option, Some, None, refl, sym, ◌∙◌, subst, length, ap, slice_get, drop, append_assoc, codes}
-use Rattle.udfs_files.specs.Disk.{Fails, SinkFails}
+use Rattle.udfs_host_fs.specs.Disk.{Fails, SinkFails}
 use Rattle.std.specs.Prelude.{◌&&◌, MatchOption, is_some, option_map}
 use Rattle.std.specs.List.{list_all}
-use Rattle.udfs_lattice.specs.Tables.{Table}
+use Rattle.udfs_lattice.specs.Volumes.{Blocks}
 use Rattle.udfs_osta.specs.Escapes.{escaped}
 use Rattle.udfs_volume.specs.Answers.{Answer, found, holes, faulty}
 use Rattle.udfs_walk.specs.NodeFields.{NodeFields}
@@ -132,17 +132,17 @@ puts_with only lined P Is nodes old new good fates heard nothing_failed whole te
 
 -- ---- the manifest is put
 
-module _ {F I M S W : Type 0} (reach : Reach F I M S W) (r : ExtractRequest) (table : Table) (report : Report) (old one two : F) (before after : Stream) (good : Bool) where
+module _ {F I M S W : Type 0} (reach : Reach F I M S W) (r : ExtractRequest) (blocks : Blocks) (report : Report) (old one two : F) (before after : Stream) (good : Bool) where
   abbrev WasNoted : Bool → Option (List ℕ) → Type 0
-  WasNoted digest text = PutsNoted (texts r.only.items) r.short_names (IsNodePut reach r one table)
+  WasNoted digest text = PutsNoted (texts r.only.items) r.short_names (IsNodePut reach r one blocks)
       (λ told fates t. digest ≡ true → reach.files.tells → IsManifest (reach.files.holds one) r.folder.now r.short_names told fates t) old one report before after good text
 
   -- of a volume that opens
   with_text : (place text : Option (List ℕ)) (digest : Bool) → digest ≡ is_some place
-      → PutsWith (texts r.only.items) (node_line [] r.short_names report) (IsNodePut reach r one table report)
+      → PutsWith (texts r.only.items) (node_line [] r.short_names report) (IsNodePut reach r one blocks report)
       (λ fates t. digest ≡ true → reach.files.tells → IsManifest (reach.files.holds one) r.folder.now r.short_names report fates t) report.nodes before after good text
       → ByManifest (two ≡ one) place text (λ there t. reach.files.tells → IsPutLast reach.files there one two t)
-      → PutsListed (texts r.only.items) (node_line [] r.short_names report) (IsNodePut reach r one table report) (PutsManifest reach r place one two report) report.nodes before after good
+      → PutsListed (texts r.only.items) (node_line [] r.short_names report) (IsNodePut reach r one blocks report) (PutsManifest reach r place one two report) report.nodes before after good
   with_text None text digest is puts put = record { puts = puts.puts; listed = put }
   with_text (Some there) None digest is puts put = let bad : None ≡ Some puts.text = puts.has in absurd (let no : ⊥ = cc in no)
   with_text (Some there) (Some t) digest is puts put =
@@ -157,32 +157,32 @@ module _ {F I M S W : Type 0} (reach : Reach F I M S W) (r : ExtractRequest) (ta
   without_text (Some there) (Some t) none put = absurd (let no : ⊥ = cc in no)
 
 -- the nodes and their manifest
-pub listed : {F I M S W : Type 0} (reach : Reach F I M S W) (r : ExtractRequest) (table : Table) (report : Report) (old one two : F) (before after : Stream) (good : Bool) (place text : Option (List ℕ)) (digest : Bool) → digest ≡ is_some place
-    → WasNoted reach r table report old one two before after good digest text → ByManifest (two ≡ one) place text (λ there t. reach.files.tells → IsPutLast reach.files there one two t)
-    → ((q : List ℕ) → IsElsewhere (texts r.only.items) (fill_of r.fill) r.short_names report r.folder.now q → reach.files.holds one q ≡ reach.files.holds old q) → MakesNodes reach r place old one two before after table report good
-listed reach r table report old one two before after good place text digest is puts put elsewhere = record { puts = by report.volume puts; elsewhere = elsewhere }
+pub listed : {F I M S W : Type 0} (reach : Reach F I M S W) (r : ExtractRequest) (blocks : Blocks) (report : Report) (old one two : F) (before after : Stream) (good : Bool) (place text : Option (List ℕ)) (digest : Bool) → digest ≡ is_some place
+    → WasNoted reach r blocks report old one two before after good digest text → ByManifest (two ≡ one) place text (λ there t. reach.files.tells → IsPutLast reach.files there one two t)
+    → ((q : List ℕ) → IsElsewhere (texts r.only.items) (fill_of r.fill) r.short_names report r.folder.now q → reach.files.holds one q ≡ reach.files.holds old q) → MakesNodes reach r place old one two before after blocks report good
+listed reach r blocks report old one two before after good place text digest is puts put elsewhere = record { puts = by report.volume puts; elsewhere = elsewhere }
   where
     by : (volume : Answer Found)
-        → PutsBy volume (PutsWith (texts r.only.items) (node_line [] r.short_names report) (IsNodePut reach r one table report)
+        → PutsBy volume (PutsWith (texts r.only.items) (node_line [] r.short_names report) (IsNodePut reach r one blocks report)
         (λ fates t. digest ≡ true → reach.files.tells → IsManifest (reach.files.holds one) r.folder.now r.short_names report fates t) report.nodes before after good text) (PutsNone old one report.volume before after good × (text ≡ None))
-        → PutsBy volume (PutsListed (texts r.only.items) (node_line [] r.short_names report) (IsNodePut reach r one table report) (PutsManifest reach r place one two report) report.nodes before after good)
+        → PutsBy volume (PutsListed (texts r.only.items) (node_line [] r.short_names report) (IsNodePut reach r one blocks report) (PutsManifest reach r place one two report) report.nodes before after good)
         (PutsNone old one report.volume before after good × (two ≡ one))
-    by (found f) p = with_text reach r table report old one two before after good place text digest is p put
-    by (holes blocks) n = (n.0, without_text reach r table report old one two before after good place text n.1 put)
-    by (faulty fault) n = (n.0, without_text reach r table report old one two before after good place text n.1 put)
+    by (found f) p = with_text reach r blocks report old one two before after good place text digest is p put
+    by (holes needed) n = (n.0, without_text reach r blocks report old one two before after good place text n.1 put)
+    by (faulty fault) n = (n.0, without_text reach r blocks report old one two before after good place text n.1 put)
 
 -- what may be at its place is a manifest of the files
-pub spares_listed : {F I M S W : Type 0} (reach : Reach F I M S W) (r : ExtractRequest) (table : Table) (report : Report) (old one two : F) (before after : Stream) (good : Bool) (place text : Option (List ℕ)) (digest : Bool) → digest ≡ is_some place
-    → WasNoted reach r table report old one two before after good digest text → ByManifest (two ≡ one) place text (λ there t. reach.files.tells → MayPut reach.files there one two t)
+pub spares_listed : {F I M S W : Type 0} (reach : Reach F I M S W) (r : ExtractRequest) (blocks : Blocks) (report : Report) (old one two : F) (before after : Stream) (good : Bool) (place text : Option (List ℕ)) (digest : Bool) → digest ≡ is_some place
+    → (reach.files.tells → WasNoted reach r blocks report old one two before after good digest text) → ByManifest (two ≡ one) place text (λ there t. reach.files.tells → MayPut reach.files there one two t)
     → SparesNodes reach.files r.folder.now old one → SparesListed reach r place old two
-spares_listed reach r table report old one two before after good place text digest is puts may nodes = record { one = one; nodes = nodes; last = by place text is puts may }
+spares_listed reach r blocks report old one two before after good place text digest is puts may nodes = record { one = one; nodes = nodes; last = by place text is puts may }
   where
-    by : (p t : Option (List ℕ)) → digest ≡ is_some p → WasNoted reach r table report old one two before after good digest t → ByManifest (two ≡ one) p t (λ there x. reach.files.tells → MayPut reach.files there one two x)
+    by : (p t : Option (List ℕ)) → digest ≡ is_some p → (reach.files.tells → WasNoted reach r blocks report old one two before after good digest t) → ByManifest (two ≡ one) p t (λ there x. reach.files.tells → MayPut reach.files there one two x)
         → MatchOption p (two ≡ one) (λ there. reach.files.tells → (two ≡ one) ⊎ MayPutLast reach.files r.short_names r.folder.now there one two)
     by None t is puts may = may
     by (Some there) None is puts may = λ told. inl may
     by (Some there) (Some t) is puts may = λ told.
-        let of = text_of report.volume (texts r.only.items) (node_line [] r.short_names report) (IsNodePut reach r one table report) (λ fates x. digest ≡ true → reach.files.tells → IsManifest (reach.files.holds one) r.folder.now r.short_names report fates x) report.nodes before after good (Some t) t _ puts refl in
+        let of = text_of report.volume (texts r.only.items) (node_line [] r.short_names report) (IsNodePut reach r one blocks report) (λ fates x. digest ≡ true → reach.files.tells → IsManifest (reach.files.holds one) r.folder.now r.short_names report fates x) report.nodes before after good (Some t) t _ (puts told) refl in
         inr (record { report = report; fates = of.0; text = t; is_manifest = of.1 is told; may = may told })
 
 -- nothing was begun of a manifest, if one is asked for
@@ -194,12 +194,12 @@ spares_unlisted reach r place old one nodes = record { one = one; nodes = nodes;
     by (Some there) = λ told. inl refl
 
 -- the nodes were put, and their manifest was not
-pub unlisted : {F I M S W : Type 0} (reach : Reach F I M S W) (r : ExtractRequest) (table : Table) (report : Report) (old one two : F) (before after : Stream) (good : Bool) (place text : Option (List ℕ)) (digest : Bool) (refusal : Refusal)
-    → WasNoted reach r table report old one two before after good digest text
+pub unlisted : {F I M S W : Type 0} (reach : Reach F I M S W) (r : ExtractRequest) (blocks : Blocks) (report : Report) (old one two : F) (before after : Stream) (good : Bool) (place text : Option (List ℕ)) (digest : Bool) (refusal : Refusal)
+    → WasNoted reach r blocks report old one two before after good digest text
     → MatchOption place ⊥ (λ there. IsUnput (Fails reach.files.faults ⊎ SinkFails reach.output) refusal × (refusal ≢ Unkept → reach.files.holds two there ≡ reach.files.holds one there))
-    → MatchOption place ⊥ (λ there. Unlisted reach r there old two before after table report refusal)
-unlisted reach r table report old one two before after good None text digest refusal puts why = why
-unlisted reach r table report old one two before after good (Some there) text digest refusal puts why = record {
+    → MatchOption place ⊥ (λ there. Unlisted reach r there old two before after blocks report refusal)
+unlisted reach r blocks report old one two before after good None text digest refusal puts why = why
+unlisted reach r blocks report old one two before after good (Some there) text digest refusal puts why = record {
   one = one;
   good = good;
   puts = by_both report.volume _ _ _ _ (λ p. p.puts) (λ n. n.0) puts;

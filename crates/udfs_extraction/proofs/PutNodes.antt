@@ -7,8 +7,8 @@ use Rattle.std.specs.Io.KnownBytes.{Appends}
 use Rattle.std.proofs.KnownBytes.{Appends-trans}
 use Rattle.udfs_file.specs.declared.faults.Kind.{Kind}
 use Rattle.udfs_file.specs.declared.faults.Kind.TheVariants as kind
-use Rattle.udfs_files.specs.Disk.{Disk, Same, SameBut, After, Goes}
-use Rattle.udfs_lattice.specs.Tables.{Table}
+use Rattle.udfs_host_fs.specs.Disk.{Disk, Same, SameBut, After, Goes}
+use Rattle.udfs_lattice.specs.Volumes.{Blocks}
 use Rattle.udfs_walk.specs.NodeFields.{NodeFields}
 use Rattle.udfs_walk.specs.declared.standings.Standing.{Standing}
 use Rattle.udfs_walk.specs.declared.standings.Standing.TheVariants as standing
@@ -125,21 +125,21 @@ module _ {F : Type 0} (moment : F → ℕ) (may_leave : F → Disk → Type 0) (
   }
 
   -- what was put stays put
-  pub put_still : (tells fails : Type 0) (table : Table) (report : Report) (fill : Fill) (short : Bool) (folder : List ℕ) (mid new : F) (before after : Held) → ((t : ℕ) (c : Disk) → t ≤ moment mid → may_leave mid c → left_since mid t c)
+  pub put_still : (tells fails : Type 0) (blocks : Blocks) (report : Report) (fill : Fill) (short : Bool) (folder : List ℕ) (mid new : F) (before after : Held) → ((t : ℕ) (c : Disk) → t ≤ moment mid → may_leave mid c → left_since mid t c)
       → (tells → Stay before after) → (tells → GoesBy mid new (Spares folder before)) → (k : ℕ) (n : NodeFields) (fate : Fate)
-      → IsPut tells fails table report fill short folder before (moment mid) (left_since mid) k n fate → IsPut tells fails table report fill short folder after (moment new) (left_since new) k n fate
-  put_still tells fails table report fill short folder mid new before after counts_now stay goes k n fate put = record {
+      → IsPut tells fails blocks report fill short folder before (moment mid) (left_since mid) k n fate → IsPut tells fails blocks report fill short folder after (moment new) (left_since new) k n fate
+  put_still tells fails blocks report fill short folder mid new before after counts_now stay goes k n fate put = record {
     done = put.done;
     written = λ is told profile last reported. let w = put.written is told profile last reported in (w.0, w.1, safe_still mid new folder _ _ before after counts_now (stay told) (goes told) w.2);
     failed = put.failed;
   }
 
   -- and so did what was done of nodes that are asked for
-  pub done_still : (only : List (List ℕ)) (tells fails : Type 0) (table : Table) (report : Report) (fill : Fill) (short : Bool) (folder : List ℕ) (mid new : F) (before after : Held) → ((t : ℕ) (c : Disk) → t ≤ moment mid → may_leave mid c → left_since mid t c)
+  pub done_still : (only : List (List ℕ)) (tells fails : Type 0) (blocks : Blocks) (report : Report) (fill : Fill) (short : Bool) (folder : List ℕ) (mid new : F) (before after : Held) → ((t : ℕ) (c : Disk) → t ≤ moment mid → may_leave mid c → left_since mid t c)
       → (tells → Stay before after) → (tells → GoesBy mid new (Spares folder before)) → (k : ℕ) (n : NodeFields) (fate : Fate)
-      → IsDone only (IsPut tells fails table report fill short folder before (moment mid) (left_since mid)) k n fate → IsDone only (IsPut tells fails table report fill short folder after (moment new) (left_since new)) k n fate
-  done_still only tells fails table report fill short folder mid new before after counts_now stay goes k n fate done = record {
-    asked = λ is. put_still tells fails table report fill short folder mid new before after counts_now stay goes k n fate (done.asked is);
+      → IsDone only (IsPut tells fails blocks report fill short folder before (moment mid) (left_since mid)) k n fate → IsDone only (IsPut tells fails blocks report fill short folder after (moment new) (left_since new)) k n fate
+  done_still only tells fails blocks report fill short folder mid new before after counts_now stay goes k n fate done = record {
+    asked = λ is. put_still tells fails blocks report fill short folder mid new before after counts_now stay goes k n fate (done.asked is);
     passed = done.passed;
   }
 

@@ -1,9 +1,9 @@
 -- Why `extract` refuses: what is said of a listing is said of its report.
 use Rattle.std.proofs.Common.{◌≡◌, ◌≢◌, ◌⊎◌, ◌∙◌, ℕ, List, alloc_error, inl, inr, map, refl, ⊎_elim}
-use Rattle.udfs_files.specs.Jobs.{JobBlames}
-use Rattle.udfs_files.specs.declared.replacing.JobError.{JobError}
-use Rattle.udfs_files.specs.declared.replacing.JobError.TheVariants as job
-use Rattle.udfs_files.specs.declared.replacing.ReplaceError.TheVariants as replace
+use Rattle.udfs_host_fs.specs.Jobs.{JobBlames}
+use Rattle.udfs_host_fs.specs.declared.replacing.JobError.{JobError}
+use Rattle.udfs_host_fs.specs.declared.replacing.JobError.TheVariants as job
+use Rattle.udfs_host_fs.specs.declared.replacing.ReplaceError.TheVariants as replace
 use Rattle.udfs_lattice.specs.Volumes.{Blocks}
 use Rattle.udfs_reading.specs.Device.{Stream}
 use Rattle.udfs_volume.specs.Answers.{Answer}

@@ -2,9 +2,9 @@
 use Rattle.std.proofs.Common.{◌≡◌, ◌≢◌, ◌⊎◌, inl, inr, ⊎_elim, ℕ, zero, suc, ◌+◌, ◌<◌, ◌≤◌, arith, ◌++◌, List, [], ◌∷◌, Bool, true, false, Option, Some, None, refl, sym, ◌∙◌, subst, length, ap, slice_get, drop, append_assoc, string_bytes, if◌then◌else◌}
 use Rattle.std.proofs.lemmas.Bool.{cases_Bool}
 use Rattle.udfs_common.specs.Keeping.{IsKept}
-use Rattle.udfs_files.specs.Disk.{Disk, Fails, Goes, Same, SameBut, SinkFails}
-use Rattle.udfs_files.specs.declared.files.Files.{Ghosts}
-use Rattle.udfs_lattice.specs.Tables.{Table}
+use Rattle.udfs_host_fs.specs.Disk.{Disk, Fails, Goes, Same, SameBut, SinkFails}
+use Rattle.udfs_host_fs.specs.declared.files.Files.{Ghosts}
+use Rattle.udfs_lattice.specs.Volumes.{Blocks}
 use Rattle.udfs_reading.specs.Device.{Stream}
 use Rattle.udfs_salvage.specs.Choosing.{is_chosen}
 use Rattle.udfs_salvage.specs.Reports.{Report}
@@ -12,7 +12,7 @@ use Rattle.udfs_salvage.specs.declared.extraction.Fill.{Fill}
 use Rattle.udfs_walk.specs.NodeFields.{NodeFields}
 use Rattle.udfs_extraction.specs.Extracting.{Each, IsDone, IsElsewhere, IsFateOf, IsIn, IsPutAt, IsPutBy, Puts, Spares, SparesNodes, Stay, TellsLines, TellsOn, all_good, deed, fate_lines, is_good, path_below}
 use Rattle.udfs_extraction.specs.Manifests.{AreLines, IsLine, IsManifest, IsNoted}
-use Rattle.udfs_extraction.specs.Runs.{AreFresh, AreHeld, IsEnd, IsHeld, IsOfPut, RunsOn, SameButPuts, SparesRun}
+use Rattle.udfs_extraction.specs.Runs.{AreFresh, AreHeld, ArePlaced, IsEnd, IsHeld, IsOfPut, IsPlaced, RunsOn, SameButPuts, SparesRun}
 use Rattle.udfs_extraction.specs.ShortNames.{placed}
 use Rattle.udfs_extraction.specs.declared.naming.Put.{Put}
 use Rattle.udfs_extraction.specs.declared.nodes.Deed.{Deed}
@@ -96,9 +96,9 @@ unnamed_unwritten named before after end not written = let is = (end_written nam
 
 -- ---- nodes
 
-module _ (only : List (List ℕ)) (tells fails : Type 0) (table : Table) (report : Report) (fill : Fill) (short : Bool) (folder : List ℕ) where
+module _ (only : List (List ℕ)) (tells fails : Type 0) (blocks : Blocks) (report : Report) (fill : Fill) (short : Bool) (folder : List ℕ) where
   abbrev DoneBy : (List ℕ → List ℕ → Type 0) → ℕ → NodeFields → Fate → Type 0
-  DoneBy Stands = IsDone only (IsPutBy tells fails table report fill short folder Stands)
+  DoneBy Stands = IsDone only (IsPutBy tells fails blocks report fill short folder Stands)
 
   -- what was done stays done where what was written stands so too
   pub done_on : (One Other : List ℕ → List ℕ → Type 0) (k : ℕ) (n : NodeFields) (fate : Fate) → (fate ≡ Written → tells → (bytes : List ℕ) → One (path_below folder (placed short report k n)) bytes → Other (path_below folder (placed short report k n)) bytes)
@@ -254,10 +254,10 @@ module _ {F I M S W : Type 0} (files : Ghosts F I M S W) (only : List (List ℕ)
   }
 
   -- files of a run are removed
-  pub run_removed : (output : W → Stream) (table : Table) (digest : Bool) (before mid after : F) (first : ℕ) (puts : List Put) → first + length puts ≤ length report.nodes
-      → AreHeld files output mid only table report fill short digest folder first puts → (files.tells → AreFresh (files.holds before) puts) → Spared before mid
+  pub run_removed : (before mid after : F) (first : ℕ) (puts : List Put) → first + length puts ≤ length report.nodes
+      → ArePlaced only report fill short folder first puts → (files.tells → AreFresh (files.holds before) puts) → Spared before mid
       → ((q : List ℕ) → (¬ IsOfPut puts q) → files.holds after q ≡ files.holds mid q) → Goes files.moment files.may_leave files.left_since mid after (SameButPuts puts) → Spared before after
-  run_removed output table digest before mid after first puts few held fresh spares others goes = record {
+  run_removed before mid after first puts few are fresh spares others goes = record {
     stays = λ told q bytes is. others q (apart told q bytes is) ∙ spares.stays told q bytes is;
     outside = λ q out. others q (away q out) ∙ spares.outside q out;
     elsewhere = λ q other. others q (beside q other) ∙ spares.elsewhere q other;
@@ -275,22 +275,21 @@ module _ {F I M S W : Type 0} (files : Ghosts F I M S W) (only : List (List ℕ)
       apart told q bytes is of = fresh told of.0 of.1 bytes of.2 of.3 (subst (λ p. files.holds before p ≡ Some (Some bytes)) of.4 is)
 
       away : (q : List ℕ) → (¬ IsIn folder q) → ¬ IsOfPut puts q
-      away q out of = let n = node of.0 of.1 of.2 in out (placed short report (first + of.0) n.0, of.4 ∙ (held of.0 n.0 of.1 of.2 n.1).path)
+      away q out of = let n = node of.0 of.1 of.2 in out (placed short report (first + of.0) n.0, of.4 ∙ (are of.0 n.0 of.1 of.2 n.1).path)
 
       beside : (q : List ℕ) → IsElsewhere only fill short report folder q → ¬ IsOfPut puts q
       beside q other of =
           let n = node of.0 of.1 of.2 in
-          let h = held of.0 n.0 of.1 of.2 n.1 in
-          let chosen = was_chosen only _ (first + of.0) n.0 of.1.done.fate h.done of.3 in
-          other (first + of.0) n.0 n.1 chosen (written_file _ of.1.done.fate (h.done.asked chosen).done of.3) (of.4 ∙ h.path)
+          let h = are of.0 n.0 of.1 of.2 n.1 in
+          other (first + of.0) n.0 n.1 (h.chosen of.3) (h.file of.3) (of.4 ∙ h.path)
 
   -- what is held stays so
-  pub held_still : (output : W → Stream) (table : Table) (digest : Bool) (before after : F) (index : ℕ) (n : NodeFields) (put : Put) → (files.tells → Stay (files.holds before) (files.holds after))
-      → IsHeld files output before only table report fill short digest folder index n put → IsHeld files output after only table report fill short digest folder index n put
-  held_still output table digest before after index n put stay held = record {
+  pub held_still : (output : W → Stream) (blocks : Blocks) (digest : Bool) (before after : F) (index : ℕ) (n : NodeFields) (put : Put) → (files.tells → Stay (files.holds before) (files.holds after))
+      → IsHeld files output before only blocks report fill short digest folder index n put → IsHeld files output after only blocks report fill short digest folder index n put
+  held_still output blocks digest before after index n put stay held = record {
     path = held.path;
     own = held.own;
-    done = done_on only files.tells (Fails files.faults ⊎ SinkFails output) table report fill short folder _ _ index n put.done.fate (λ written told bytes is. stay told _ bytes is) held.done;
+    done = done_on only files.tells (Fails files.faults ⊎ SinkFails output) blocks report fill short folder _ _ index n put.done.fate (λ written told bytes is. stay told _ bytes is) held.done;
     noted = λ written wanted told. let w = held.noted written wanted told in (w.0, stay told _ w.0 w.1, w.2);
   }
 
@@ -328,9 +327,9 @@ put_others holds before after put same others q out = elim (cases_Written put.do
 
 -- ---- what is told stays so where only files that are not told as written are removed
 
-module _ {F I M S W : Type 0} (files : Ghosts F I M S W) (output : W → Stream) (only : List (List ℕ)) (table : Table) (report : Report) (fill : Fill) (short : Bool) (folder : List ℕ) where
+module _ {F I M S W : Type 0} (files : Ghosts F I M S W) (output : W → Stream) (only : List (List ℕ)) (blocks : Blocks) (report : Report) (fill : Fill) (short : Bool) (folder : List ℕ) where
   abbrev DoneAt : F → ℕ → NodeFields → Fate → Type 0
-  DoneAt at = IsDone only (IsPutAt files output at table report fill short folder)
+  DoneAt at = IsDone only (IsPutAt files output at blocks report fill short folder)
 
   abbrev ToldAt : F → Bool → ℕ → NodeFields → Fate → Type 0
   ToldAt at named k n fate = DoneAt at k n fate × (named ≡ false → fate ≢ Written)
@@ -338,7 +337,7 @@ module _ {F I M S W : Type 0} (files : Ghosts F I M S W) (output : W → Stream)
   pub told_moved : (before after : F) (named : Bool) → (named ≡ true → after ≡ before) → (k : ℕ) (n : NodeFields) (fate : Fate) → ToldAt before named k n fate → DoneAt after k n fate
   told_moved before after named same k n fate told = elim (cases_Bool named) [
     | inl is ↦ subst (λ x. DoneAt x k n fate) (sym (same is)) told.0
-    | inr not ↦ done_on only files.tells (Fails files.faults ⊎ SinkFails output) table report fill short folder _ _ k n fate (λ written. absurd (told.1 not written)) told.0
+    | inr not ↦ done_on only files.tells (Fails files.faults ⊎ SinkFails output) blocks report fill short folder _ _ k n fate (λ written. absurd (told.1 not written)) told.0
   ]
 
   pub texts_moved : (before after : F) (named : Bool) → (named ≡ true → after ≡ before) → (k : ℕ) (ns : List NodeFields) (fates : List Fate) (text : List ℕ) → Each (ToldAt before named) k ns fates
@@ -351,9 +350,9 @@ module _ {F I M S W : Type 0} (files : Ghosts F I M S W) (output : W → Stream)
   -- what was held is told in the end
   pub told_of : (digest : Bool) (at : F) (index : ℕ) (n : NodeFields) (put : Put) (named : Bool) (fate : Fate) → ((c : Disk) → files.left_since at (files.moment at) c → files.may_leave at c) → (named ≡ false → Fails files.faults)
       → (named ≡ true → files.tells → put.done.fate ≡ Written → (bytes : List ℕ) → files.holds at (string_bytes put.path) ≡ Some (Some bytes) → IsKept (files.holds at) (files.may_leave at) (string_bytes put.path) bytes)
-      → IsHeld files output at only table report fill short digest folder index n put → IsEnd named put.done.fate fate → ToldAt at named index n fate
+      → IsHeld files output at only blocks report fill short digest folder index n put → IsEnd named put.done.fate fate → ToldAt at named index n fate
   told_of digest at index n put named fate only_now cause kept held end = (
-    end_done only files.tells (Fails files.faults ⊎ SinkFails output) table report fill short folder _ _ index n named put.done.fate fate end (λ not. inl (cause not))
+    end_done only files.tells (Fails files.faults ⊎ SinkFails output) blocks report fill short folder _ _ index n named put.done.fate fate end (λ not. inl (cause not))
         (λ is written told bytes there.
         safe files.moment files.may_leave files.left_since at (files.holds at) _ bytes only_now
         (subst (λ p. IsKept (files.holds at) (files.may_leave at) p bytes) held.path (kept is told written bytes (subst (λ p. files.holds at p ≡ Some (Some bytes)) (sym held.path) there)))) held.done,
@@ -366,21 +365,32 @@ noted_of wanted tells holds path named before after digest end noted written = n
 
 -- ---- one more node of a run
 
-module _ {F I M S W : Type 0} (files : Ghosts F I M S W) (output : W → Stream) (only : List (List ℕ)) (table : Table) (report : Report) (fill : Fill) (short digest : Bool) (folder : List ℕ) where
+module _ {F I M S W : Type 0} (files : Ghosts F I M S W) (output : W → Stream) (only : List (List ℕ)) (blocks : Blocks) (report : Report) (fill : Fill) (short digest : Bool) (folder : List ℕ) where
   pub are_held_still : (before after : F) (first : ℕ) (puts : List Put) → (files.tells → Stay (files.holds before) (files.holds after))
-      → AreHeld files output before only table report fill short digest folder first puts → AreHeld files output after only table report fill short digest folder first puts
-  are_held_still before after first puts stay held k n put at there = held_still files only fill short report folder output table digest before after (first + k) n put stay (held k n put at there)
+      → AreHeld files output before only blocks report fill short digest folder first puts → AreHeld files output after only blocks report fill short digest folder first puts
+  are_held_still before after first puts stay held k n put at there = held_still files only fill short report folder output blocks digest before after (first + k) n put stay (held k n put at there)
 
   pub are_held_more : (before after : F) (first index : ℕ) (puts : List Put) (put : Put) → first + length puts ≡ index → (files.tells → Stay (files.holds before) (files.holds after))
-      → AreHeld files output before only table report fill short digest folder first puts → ((n : NodeFields) → slice_get report.nodes index ≡ Some n → IsHeld files output after only table report fill short digest folder index n put)
-      → AreHeld files output after only table report fill short digest folder first (puts ++ put ∷ [])
+      → AreHeld files output before only blocks report fill short digest folder first puts → ((n : NodeFields) → slice_get report.nodes index ≡ Some n → IsHeld files output after only blocks report fill short digest folder index n put)
+      → AreHeld files output after only blocks report fill short digest folder first (puts ++ put ∷ [])
   are_held_more before after first index puts put count stay held one k n p at there = ⊎_elim
       (λ is. are_held_still before after first puts stay held k n p is there)
       (λ last.
       let here : first + k ≡ index = ap (λ j. first + j) last.0 ∙ count in
-      subst (λ j. IsHeld files output after only table report fill short digest folder j n p) (sym here)
-      (subst (IsHeld files output after only table report fill short digest folder index n) (sym last.1) (one n (subst (λ j. slice_get report.nodes j ≡ Some n) here there))))
+      subst (λ j. IsHeld files output after only blocks report fill short digest folder j n p) (sym here)
+      (subst (IsHeld files output after only blocks report fill short digest folder index n) (sym last.1) (one n (subst (λ j. slice_get report.nodes j ≡ Some n) here there))))
       (get_more puts put p k at)
+
+-- one more is placed
+pub are_placed_more : (only : List (List ℕ)) (report : Report) (fill : Fill) (short : Bool) (folder : List ℕ) (first index : ℕ) (puts : List Put) (put : Put) → first + length puts ≡ index
+    → ArePlaced only report fill short folder first puts → ((n : NodeFields) → slice_get report.nodes index ≡ Some n → IsPlaced only report fill short folder index n put) → ArePlaced only report fill short folder first (puts ++ put ∷ [])
+are_placed_more only report fill short folder first index puts put count are one k n p at there = ⊎_elim
+    (λ is. are k n p is there)
+    (λ last.
+    let here : first + k ≡ index = ap (λ j. first + j) last.0 ∙ count in
+    subst (λ j. IsPlaced only report fill short folder j n p) (sym here)
+    (subst (IsPlaced only report fill short folder index n) (sym last.1) (one n (subst (λ j. slice_get report.nodes j ≡ Some n) here there))))
+    (get_more puts put p k at)
 
 pub are_fresh_more : (before held : Held) (puts : List Put) (put : Put) → Stay before held → AreFresh before puts → (put.done.fate ≡ Written → held (string_bytes put.path) ≡ Some None) → AreFresh before (puts ++ put ∷ [])
 are_fresh_more before held puts put stay fresh none k p bytes at written is = ⊎_elim (λ there. fresh k p bytes there written is)

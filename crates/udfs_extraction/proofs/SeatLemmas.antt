@@ -2,7 +2,7 @@
 use Rattle.std.proofs.Common.{◌≡◌, ◌∙◌, ◌<◌, inl, inr, sym, subst, ⊎_elim, ℕ, Bool, Bor, List, [], ◌∷◌, ◌++◌, Option, Some, None, get_or, length, map}
 use Rattle.std.specs.Prelude.{Contains}
 use Rattle.std.proofs.lemmas.List.Elements.{Contains-push_cases}
-use Rattle.udfs_files.specs.Disk.{Disk, Goes, Same}
+use Rattle.udfs_host_fs.specs.Disk.{Disk, Goes, Same}
 use Rattle.udfs_lattice.specs.Volumes.{Blocks}
 use Rattle.udfs_lattice.proofs.Inclusion.{contained, in_nothing, included}
 use Rattle.udfs_volume.specs.Answers.{Answer, found}

@@ -1,11 +1,11 @@
 -- How lost trees are gone through, and what was written stays.
-use Rattle.std.proofs.Common.{◌≡◌, ◌⊎◌, refl, sym, ◌∙◌, ap, subst, arith, ℕ, zero, suc, ◌+◌, ◌≤◌, Bool, true, false, List, [], ◌∷◌, ◌++◌, Some, None, append_assoc, codes, drop, length, slice_get, alloc_error}
-use Rattle.std.specs.Prelude.{◌&&◌}
+use Rattle.std.proofs.Common.{◌≡◌, ◌⊎◌, inl, inr, refl, sym, ◌∙◌, ap, subst, arith, ℕ, zero, suc, ◌+◌, ◌≤◌, Bool, true, false, List, [], ◌∷◌, ◌++◌, Some, None, append_assoc, codes, drop, length, slice_get, alloc_error}
+use Rattle.std.specs.Prelude.{◌&&◌, ⊤}
 use Rattle.std.specs.List.{list_all}
 use Rattle.std.proofs.lemmas.List.{append-nil}
-use Rattle.udfs_files.specs.Disk.{Disk, Fails, SinkFails}
-use Rattle.udfs_files.specs.declared.files.Files.{Ghosts}
-use Rattle.udfs_lattice.specs.Tables.{Table}
+use Rattle.udfs_host_fs.specs.Disk.{Disk, Fails, SinkFails}
+use Rattle.udfs_host_fs.specs.declared.files.Files.{Ghosts}
+use Rattle.udfs_lattice.specs.Volumes.{Blocks}
 use Rattle.udfs_reading.specs.Device.{Stream}
 use Rattle.udfs_volume.specs.Answers.{Answer}
 use Rattle.udfs_walk.specs.NodeFields.{NodeFields}
@@ -20,8 +20,12 @@ use Rattle.udfs_common.specs.declared.refusal.Refusal.{Refusal}
 use Rattle.udfs_common.specs.declared.refusal.Refusal.TheVariants.{Memory, Output}
 use Rattle.udfs_extraction.specs.Extracting.{Each, IsDone, IsIn, IsPut, SparesNodes, TellsLines, all_good, fate_lines}
 use Rattle.udfs_extraction.specs.LostFiles.{IsUnder, SparesLost}
-use Rattle.udfs_extraction.specs.LostTrees.{EachTree, IsAllOf, IsTreePut, StopsAt, TreePut, is_put_well, tree_report, trees_lines}
+use Rattle.udfs_extraction.specs.LostTrees.{AreFoundOf, CutAt, EachTree, IsAllOf, IsTreePut, StopsAt, TreePut, is_put_well, tree_lines, tree_report, trees_lines}
+use Rattle.udfs_extraction.specs.Refused.{TreesCut, TreesStop}
 use Rattle.udfs_extraction.specs.Seats.{FoundAt, seat_path}
+use Rattle.udfs_extraction.specs.Stopping.{IfStopped}
+use Rattle.udfs_extraction.specs.declared.stopping.Stop.{Stop}
+use Rattle.udfs_extraction.specs.declared.stopping.Stop.TheVariants.{Refused, Unread}
 use Rattle.udfs_extraction.specs.declared.nodes.Fate.{Fate}
 use Rattle.udfs_extraction.proofs.LostLemmas.{safe_lost}
 use Rattle.udfs_extraction.proofs.PutNodes.{each_map, goes_wider, spares_nothing, spares_on, tells_more}
@@ -82,10 +86,10 @@ module _ {F I M S W : Type 0} (known : Ghosts F I M S W) where
   }
 
   -- what was put stays put
-  pub tree_still : (fails : Type 0) (table : Table) (report : Report) (fill : Fill) (short : Bool) (within folder : List ℕ) (mid new : F) → ((t : ℕ) (c : Disk) → t ≤ known.moment mid → known.may_leave mid c → known.left_since mid t c) → SparesLost known within mid new
-      → (k : ℕ) (n : NodeFields) (fate : Fate) → IsPut known.tells fails table report fill short folder (known.holds mid) (known.moment mid) (known.left_since mid) k n fate
-      → IsPut known.tells fails table report fill short folder (known.holds new) (known.moment new) (known.left_since new) k n fate
-  tree_still fails table report fill short within folder mid new counts_now step k n fate put = record {
+  pub tree_still : (fails : Type 0) (blocks : Blocks) (report : Report) (fill : Fill) (short : Bool) (within folder : List ℕ) (mid new : F) → ((t : ℕ) (c : Disk) → t ≤ known.moment mid → known.may_leave mid c → known.left_since mid t c) → SparesLost known within mid new
+      → (k : ℕ) (n : NodeFields) (fate : Fate) → IsPut known.tells fails blocks report fill short folder (known.holds mid) (known.moment mid) (known.left_since mid) k n fate
+      → IsPut known.tells fails blocks report fill short folder (known.holds new) (known.moment new) (known.left_since new) k n fate
+  tree_still fails blocks report fill short within folder mid new counts_now step k n fate put = record {
     done = put.done;
     written = λ is told f root from. let w = put.written is told f root from in (w.0, w.1, safe_lost known within _ _ mid new counts_now told step w.2);
     failed = put.failed;
@@ -93,11 +97,11 @@ module _ {F I M S W : Type 0} (known : Ghosts F I M S W) where
 
 module _ {F I M S W : Type 0} (known : Ghosts F I M S W) (output : W → Stream) where
   -- and so do trees
-  pub trees_still : (table : Table) (volume : Answer Found) (short : Bool) (folder : List ℕ) (names : List FoundAt) (mid new : F) → ((t : ℕ) (c : Disk) → t ≤ known.moment mid → known.may_leave mid c → known.left_since mid t c) → SparesLost known folder mid new
-      → (tree : LostTree) (done : TreePut) → IsTreePut known output mid table volume short folder names tree done → IsTreePut known output new table volume short folder names tree done
-  trees_still table volume short folder names mid new counts_now step tree done put = (
+  pub trees_still : (blocks : Blocks) (volume : Answer Found) (short : Bool) (folder : List ℕ) (names : List FoundAt) (mid new : F) → ((t : ℕ) (c : Disk) → t ≤ known.moment mid → known.may_leave mid c → known.left_since mid t c) → SparesLost known folder mid new
+      → (tree : LostTree) (done : TreePut) → IsTreePut known output mid blocks volume short folder names tree done → IsTreePut known output new blocks volume short folder names tree done
+  trees_still blocks volume short folder names mid new counts_now step tree done put = (
     put.0,
-    each_map _ _ (λ k n fate was. tree_still known (Fails known.faults ⊎ SinkFails output) table (tree_report table volume tree) Refuse short folder (seat_path folder (has_two volume) tree.folder done.seat) mid new counts_now step k n fate was) 0 _ done.fates put.1,
+    each_map _ _ (λ k n fate was. tree_still known (Fails known.faults ⊎ SinkFails output) blocks (tree_report blocks volume tree) Refuse short folder (seat_path folder (has_two volume) tree.folder done.seat) mid new counts_now step k n fate was) 0 _ done.fates put.1,
   )
 
 -- ---- tree after tree
@@ -153,6 +157,22 @@ trees_stop P Q lined trees old mid new all k tree heard put refusal still count 
   where
     there : slice_get trees (length all) ≡ Some tree
     there = subst (λ j. slice_get trees j ≡ Some tree) (sym count) at
+
+-- the same where a block of the next could not be read again
+pub trees_cut : (P Q : LostTree → TreePut → Type 0) (lined : LostTree → TreePut → List ℕ) (trees : List LostTree) (old mid new : Stream) (all : List TreePut) (k : ℕ) (tree : LostTree) (heard : Bool) (put : TreePut) (stop : Stop)
+    → ((t : LostTree) (done : TreePut) → P t done → Q t done) → length all ≡ k → slice_get trees k ≡ Some tree → EachTree (IsAllOf P) trees all → TellsLines true old mid (trees_lines lined trees all)
+    → Q tree put → TellsLines heard mid new (lined tree put) → IfStopped (λ refusal. (refusal ≡ Memory alloc_error) ⊎ ((refusal ≡ Output) × (heard ≡ false))) ⊤ stop
+    → IfStopped (StopsAt Q lined trees old new) (CutAt Q lined trees old new) stop
+trees_cut P Q lined trees old mid new all k tree heard put (Refused refusal) still count at each lines one more why = trees_stop P Q lined trees old mid new all k tree heard put refusal still count at each lines one more why
+trees_cut P Q lined trees old mid new all k tree heard put Unread still count at each lines one more why = let s = trees_stop P Q lined trees old mid new all k tree heard put (Memory alloc_error) still count at each lines one more (inl refl) in
+    record { heard = s.heard; puts = s.puts; each = s.each; lines = s.lines }
+
+-- the same of the trees that are found
+pub stopped_in : {F I M S W : Type 0} (files : Ghosts F I M S W) (output : W → Stream) (deleted short : Bool) (folder : List ℕ) (new : F) (between after : Stream) (blocks : Blocks) (report : Report) (trees : List LostTree) (names : List FoundAt) (stop : Stop) → AreFoundOf deleted blocks report trees names
+    → IfStopped (StopsAt (IsTreePut files output new blocks report.volume short folder names) (tree_lines blocks report.volume short) trees between after) (CutAt (IsTreePut files output new blocks report.volume short folder names) (tree_lines blocks report.volume short) trees between after) stop
+    → IfStopped (TreesStop files output deleted short folder new between after blocks report) (TreesCut files output deleted short folder new between after blocks report) stop
+stopped_in files output deleted short folder new between after blocks report trees names (Refused refusal) are why = (trees, names, are, inr why)
+stopped_in files output deleted short folder new between after blocks report trees names Unread are why = (trees, names, are, why)
 
 pub good_trees_more : (all : List TreePut) (put : TreePut) → (list_all is_put_well all && all_good put.fates) ≡ list_all is_put_well (all ++ put ∷ [])
 good_trees_more [] put = last (all_good put.fates)

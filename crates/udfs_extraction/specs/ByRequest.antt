@@ -13,7 +13,8 @@
 --     IsExtracted                    all of this for the report of the volume
 use Rattle.std.specs.Prelude.{◌≡◌, ⊤, ℕ, Bool, true, false, List, [], ◌∷◌, ◌++◌, ◌&&◌, Option, Some, None, MatchOption}
 use Rattle.std.specs.Borrow.{Bor}
-use Rattle.udfs_lattice.specs.Tables.{Table, state_of}
+use Rattle.udfs_lattice.specs.Tables.{state_of}
+use Rattle.udfs_lattice.specs.Volumes.{Blocks}
 use Rattle.udfs_reading.specs.Device.{Stream}
 use Rattle.udfs_walk.specs.NodeFields.{NodeFields}
 use Rattle.udfs_lost.specs.declared.trees.LostTree.{LostTree}
@@ -24,7 +25,7 @@ use Rattle.udfs_salvage.specs.declared.extraction.Fill.TheVariants.{Refuse, Byte
 use Rattle.udfs_words.specs.Requests.{texts}
 use Rattle.udfs_words.specs.declared.request.ExtractRequest.{ExtractRequest}
 use Rattle.udfs_common.specs.Reach.{Reach}
-use Rattle.udfs_common.specs.Volumes.{OfVolume}
+use Rattle.udfs_common.specs.Volumes.{OfToldVolume}
 use Rattle.udfs_extraction.specs.BarePaths.{bare}
 use Rattle.udfs_extraction.specs.Extracting.{IsElsewhere, IsPutAt, PutsBy, PutsNone, node_line}
 use Rattle.udfs_extraction.specs.LostFiles.{IsLostPutAt, IsNewFolder, PutsLost, SparesLost}
@@ -84,8 +85,8 @@ module _ {F I M S W : Type 0} (reach : Reach F I M S W) (old : F) (r : ExtractRe
 
 module _ {F I M S W : Type 0} (reach : Reach F I M S W) where
   -- what the fate of a node says of its file at some moment
-  abbrev pub IsNodePut : ExtractRequest → F → Table → Report → ℕ → NodeFields → Fate → Type 0
-  IsNodePut r at table report = IsPutAt reach.files reach.output at table report (fill_of r.fill) r.short_names r.folder.now
+  abbrev pub IsNodePut : ExtractRequest → F → Blocks → Report → ℕ → NodeFields → Fate → Type 0
+  IsNodePut r at blocks report = IsPutAt reach.files reach.output at blocks report (fill_of r.fill) r.short_names r.folder.now
 
   -- the manifest of the nodes with these fates, as their files are at moment `one`, is put at its place; or none is asked for
   abbrev pub PutsManifest : ExtractRequest → Option (List ℕ) → F → F → Report → List Fate → Type 0
@@ -94,27 +95,27 @@ module _ {F I M S W : Type 0} (reach : Reach F I M S W) where
 
 -- At moment `one` the nodes that are asked for are made and reported, and any other is passed over; then their manifest is put. Of a volume that does not open there is none of this. No path
 -- has changed by then but those of nodes that are asked for and of which a file is to be written
-pub record MakesNodes {F I M S W : Type 0} (reach : Reach F I M S W) (r : ExtractRequest) (place : Option (List ℕ)) (old one two : F) (before after : Stream) (table : Table) (report : Report) (good : Bool) : Type 0 where
+pub record MakesNodes {F I M S W : Type 0} (reach : Reach F I M S W) (r : ExtractRequest) (place : Option (List ℕ)) (old one two : F) (before after : Stream) (blocks : Blocks) (report : Report) (good : Bool) : Type 0 where
   pub puts : PutsBy report.volume
-      (PutsListed (texts r.only.items) (node_line [] r.short_names report) (IsNodePut reach r one table report) (PutsManifest reach r place one two report) report.nodes before after good)
+      (PutsListed (texts r.only.items) (node_line [] r.short_names report) (IsNodePut reach r one blocks report) (PutsManifest reach r place one two report) report.nodes before after good)
       (PutsNone old one report.volume before after good × (two ≡ one))
   pub elsewhere : (q : List ℕ) → IsElsewhere (texts r.only.items) (fill_of r.fill) r.short_names report r.folder.now q → reach.files.holds one q ≡ reach.files.holds old q
 
 -- the lost files are made and reported, and nothing outside of their folder changes; or they are not asked for
-abbrev pub MakesLost : {F I M S W O : Type 0} → Reach F I M S W → (O → Stream) → Option (Bor (List ℕ)) → F → F → O → O → Table → Report → Bool → Type 0
-MakesLost reach stream lost two new between after table report good = MatchOption lost ((new ≡ two) × (after ≡ between) × (good ≡ true))
-    (λ folder. PutsLost (IsLostPutAt reach.files reach.output new table report folder.now (has_two report.volume))
+abbrev pub MakesLost : {F I M S W O : Type 0} → Reach F I M S W → (O → Stream) → Option (Bor (List ℕ)) → F → F → O → O → Blocks → Report → Bool → Type 0
+MakesLost reach stream lost two new between after blocks report good = MatchOption lost ((new ≡ two) × (after ≡ between) × (good ≡ true))
+    (λ folder. PutsLost (IsLostPutAt reach.files reach.output new blocks report folder.now (has_two report.volume))
     (has_two report.volume) report.unnamed (stream between) (stream after) good × SparesLost reach.files folder.now two new)
 
 -- the lost folders are made and reported with what is in them, and then lost files, each by its number or by a name that is found for it, and nothing outside of their folder changes; or they are not asked for
-abbrev pub MakesTrees : {F I M S W O : Type 0} → Reach F I M S W → (O → Stream) → ExtractRequest → F → F → O → O → Table → Report → Bool → Type 0
-MakesTrees reach stream r three new between after table report good = MatchOption r.trees ((new ≡ three) × (after ≡ between) × (good ≡ true))
-    (λ folder. ((trees : List LostTree) × (names : List FoundAt) × AreFoundOf r.deleted (state_of table) report trees names ×
-    PutsTrees (IsTreePut reach.files reach.output new table report.volume r.short_names folder.now names) (tree_lines table report.volume r.short_names) trees (stream between) (stream after) good) ×
+abbrev pub MakesTrees : {F I M S W O : Type 0} → Reach F I M S W → (O → Stream) → ExtractRequest → F → F → O → O → Blocks → Report → Bool → Type 0
+MakesTrees reach stream r three new between after blocks report good = MatchOption r.trees ((new ≡ three) × (after ≡ between) × (good ≡ true))
+    (λ folder. ((trees : List LostTree) × (names : List FoundAt) × AreFoundOf r.deleted blocks report trees names ×
+    PutsTrees (IsTreePut reach.files reach.output new blocks report.volume r.short_names folder.now names) (tree_lines blocks report.volume r.short_names) trees (stream between) (stream after) good) ×
     SparesLost reach.files folder.now three new)
 
 -- the nodes and their manifest, then the lost files, and then the lost folders, of which a volume that does not open may have some too; it is good where all are
-pub record Makes {F I M S W O : Type 0} (reach : Reach F I M S W) (stream : O → Stream) (r : ExtractRequest) (place : Option (List ℕ)) (old new : F) (before after : O) (last : ℕ) (table : Table) (report : Report) (good : Bool) : Type 0 where
+pub record Makes {F I M S W O : Type 0} (reach : Reach F I M S W) (stream : O → Stream) (r : ExtractRequest) (place : Option (List ℕ)) (old new : F) (before after : O) (last : ℕ) (blocks : Blocks) (report : Report) (good : Bool) : Type 0 where
   pub one : F
   pub two : F
   pub three : F
@@ -123,9 +124,9 @@ pub record Makes {F I M S W O : Type 0} (reach : Reach F I M S W) (stream : O �
   pub nodes_good : Bool
   pub lost_good : Bool
   pub trees_good : Bool
-  pub nodes : MakesNodes reach r place old one two (stream before) (stream between) table report nodes_good
-  pub lost : MakesLost reach stream r.lost two three between beyond table report lost_good
-  pub trees : MakesTrees reach stream r three new beyond after table (lost_report r.volume.profile table last report) trees_good
+  pub nodes : MakesNodes reach r place old one two (stream before) (stream between) blocks report nodes_good
+  pub lost : MakesLost reach stream r.lost two three between beyond blocks report lost_good
+  pub trees : MakesTrees reach stream r three new beyond after blocks (lost_report r.volume.profile blocks last report) trees_good
   pub says : good ≡ (nodes_good && (lost_good && trees_good))
 
 -- without times `all` is `good`; with them it is true only where `good` is, and may be false for a time that could not be set
@@ -139,5 +140,5 @@ pub record IsExtracted {F I M S W O : Type 0} (reach : Reach F I M S W) (stream 
   pub place : Option (List ℕ)
   pub is_place : IsPlace reach old r place
   pub good : Bool
-  pub of : OfVolume reach old r.volume (λ last table. (report : Report) × IsReportBy r.volume.profile (state_of table) last report × Makes reach stream r place old new before after last table report good)
+  pub of : OfToldVolume reach old r.volume (λ last table. (report : Report) × IsReportBy r.volume.profile (state_of table) last report × Makes reach stream r place old new before after last (state_of table) report good)
   pub says : IsGoodWithTimes r.times good all

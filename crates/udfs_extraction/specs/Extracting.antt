@@ -14,13 +14,13 @@
 use Rattle.std.specs.Prelude.{◌≡◌, ◌≢◌, ◌⊎◌, ℕ, ◌≤◌, Bool, true, false, List, [], ◌∷◌, ◌++◌, ⊤, suc, Option, Some, None, cond, codes, drop, length, slice_get, if◌then◌else◌, ◌&&◌}
 use Rattle.std.specs.List.{list_all}
 use Rattle.udfs_file.specs.declared.cells.Cell.{Cell}
-use Rattle.udfs_files.specs.Disk.{Disk, Fails, Goes, SinkFails}
-use Rattle.udfs_files.specs.declared.files.Files.{Ghosts}
+use Rattle.udfs_host_fs.specs.Disk.{Disk, Fails, Goes, SinkFails}
+use Rattle.udfs_host_fs.specs.declared.files.Files.{Ghosts}
 use Rattle.udfs_reading.specs.Writing.{Wrote, Failed as WriteFailed}
 use Rattle.udfs_walk.specs.NodeFields.{NodeFields}
 use Rattle.udfs_tag.specs.declared.layouts.LongAd.{LongAd}
 use Rattle.udfs_space.specs.Places.{view}
-use Rattle.udfs_tree.specs.Cells.{HasCellsAt}
+use Rattle.udfs_walk.specs.Cells.{HasCellsAt}
 use Rattle.udfs_salvage.specs.Extraction.{fill_byte, filled}
 use Rattle.udfs_osta.specs.Escapes.{escaped}
 use Rattle.udfs_salvage.specs.NodeTexts.{names_text}
@@ -29,7 +29,7 @@ use Rattle.udfs_salvage.specs.Found.{Found}
 use Rattle.udfs_volume.specs.Answers.{Answer, found, holes, faulty}
 use Rattle.udfs_file.specs.declared.faults.Kind.{Kind}
 use Rattle.udfs_file.specs.declared.faults.Kind.TheVariants as kind
-use Rattle.udfs_lattice.specs.Tables.{Table, state_of}
+use Rattle.udfs_lattice.specs.Volumes.{Blocks}
 use Rattle.udfs_walk.specs.declared.standings.Standing.{Standing}
 use Rattle.udfs_walk.specs.declared.standings.Standing.TheVariants as standing
 use Rattle.udfs_salvage.specs.Extraction.{is_offered}
@@ -135,19 +135,19 @@ pub record IsSafe (holds : List ℕ → Option (Option (List ℕ))) (moment : �
   pub durable : (c : Disk) → left_since since c → c path ≡ Some bytes
 
 -- A file reported as written stands at its path, or with short names its place, with exactly the bytes of the node at this index, where the nodes are those from some root; nothing fails but for a fault.
-pub record IsPutBy (tells fails : Type 0) (table : Table) (report : Report) (fill : Fill) (short : Bool) (folder : List ℕ) (Stands : List ℕ → List ℕ → Type 0) (index : ℕ) (n : NodeFields) (fate : Fate) : Type 0 where
+pub record IsPutBy (tells fails : Type 0) (blocks : Blocks) (report : Report) (fill : Fill) (short : Bool) (folder : List ℕ) (Stands : List ℕ → List ℕ → Type 0) (index : ℕ) (n : NodeFields) (fate : Fate) : Type 0 where
   pub done : IsFateOf (deed n.kind n.standing n.size fill) fate
-  pub written : fate ≡ Written → tells → (f : Found) (root : LongAd) → AreNodesFrom (state_of table) f root report → (cs : List Cell) × HasCellsAt (view (state_of table) f.space) root index cs
+  pub written : fate ≡ Written → tells → (f : Found) (root : LongAd) → AreNodesFrom blocks f root report → (cs : List Cell) × HasCellsAt (view blocks f.space) root index cs
       × Stands (path_below folder (placed short report index n)) (filled (fill_byte fill) cs)
-  pub failed : is_good fate ≡ false → (f : Found) (root : LongAd) → AreNodesFrom (state_of table) f root report → fails
+  pub failed : is_good fate ≡ false → (f : Found) (root : LongAd) → AreNodesFrom blocks f root report → fails
 
 -- the same, where each crash since some moment leaves the file
-abbrev pub IsPut : (tells fails : Type 0) → Table → Report → Fill → Bool → List ℕ → (List ℕ → Option (Option (List ℕ))) → ℕ → (ℕ → Disk → Type 0) → ℕ → NodeFields → Fate → Type 0
-IsPut tells fails table report fill short folder holds moment left_since = IsPutBy tells fails table report fill short folder (IsSafe holds moment left_since)
+abbrev pub IsPut : (tells fails : Type 0) → Blocks → Report → Fill → Bool → List ℕ → (List ℕ → Option (Option (List ℕ))) → ℕ → (ℕ → Disk → Type 0) → ℕ → NodeFields → Fate → Type 0
+IsPut tells fails blocks report fill short folder holds moment left_since = IsPutBy tells fails blocks report fill short folder (IsSafe holds moment left_since)
 
 -- the same at some moment
-abbrev pub IsPutAt : {F I M S W : Type 0} → Ghosts F I M S W → (W → Stream) → F → Table → Report → Fill → Bool → List ℕ → ℕ → NodeFields → Fate → Type 0
-IsPutAt files output at table report fill short folder = IsPut files.tells (Fails files.faults ⊎ SinkFails output) table report fill short folder (files.holds at) (files.moment at) (files.left_since at)
+abbrev pub IsPutAt : {F I M S W : Type 0} → Ghosts F I M S W → (W → Stream) → F → Blocks → Report → Fill → Bool → List ℕ → ℕ → NodeFields → Fate → Type 0
+IsPutAt files output at blocks report fill short folder = IsPut files.tells (Fails files.faults ⊎ SinkFails output) blocks report fill short folder (files.holds at) (files.moment at) (files.left_since at)
 
 -- this holds of each node, of which the first has this index, and its fate, as far as there are fates
 abbrev pub Each : (ℕ → NodeFields → Fate → Type 0) → ℕ → List NodeFields → List Fate → Type 0

@@ -12,7 +12,7 @@ use Rattle.udfs_file.specs.declared.cells.Cell.{Cell}
 use Rattle.udfs_walk.specs.Bare.{full_node}
 use Rattle.udfs_walk.specs.UnnamedEntries.{address_of}
 use Rattle.udfs_walk.specs.declared.answers.Unnamed.{Unnamed}
-use Rattle.udfs_tree.specs.Cells.{HasCellsAt}
+use Rattle.udfs_walk.specs.Cells.{HasCellsAt}
 use Rattle.udfs_lost.specs.Subtrees.{OverFolders, TellsBelow}
 use Rattle.udfs_lost.specs.declared.trees.LostTree.{LostTree}
 use Rattle.udfs_salvage.specs.Extraction.{HasCellsInBy}
@@ -24,7 +24,7 @@ use Rattle.udfs_extraction.specs.LostTrees.{AreLostIn, AreLostOf, tree_report}
 -- what is told of one of the trees that are written is told of the nodes of the walk from its folder, or from its file: so `written` says which bytes each file has
 abbrev pub LostTreesAreWalked : Type 0
 LostTreesAreWalked = (table : Table) (f : Found) (deleted : Bool) (entries : List Unnamed) (trees : List LostTree) → AreLostOf deleted (state_of table) (found f) entries trees
-    → (tree : LostTree) → Contains trees tree → AreNodesFrom (state_of table) f (address_of tree.folder) (tree_report table (found f) tree)
+    → (tree : LostTree) → Contains trees tree → AreNodesFrom (state_of table) f (address_of tree.folder) (tree_report (state_of table) (found f) tree)
 
 -- For each directory of a lawful volume's tree, over any part of the volume: where it is the folder of one of the trees that are written, what is told of that
 -- tree's nodes is what the volume has at the directory's path and then theirs.

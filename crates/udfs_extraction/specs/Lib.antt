@@ -14,3 +14,5 @@ pub mod Laws
 pub mod ShortNames
 pub mod Sparing
 pub mod Refused
+pub mod Stopping
+pub mod ListedStops

@@ -8,10 +8,10 @@
 --     IsNewFolder                      nothing is where the folder is to be, and other paths do not lead there
 use Rattle.std.specs.Prelude.{◌≡◌, ◌⊎◌, ℕ, Bool, false, List, [], ◌∷◌, ◌++◌, ⊤, Option, Some, None, cond, codes, length}
 use Rattle.udfs_file.specs.declared.cells.Cell.{Cell}
-use Rattle.udfs_files.specs.Disk.{Disk, Fails, Goes, SinkFails}
-use Rattle.udfs_files.specs.declared.files.Files.{Ghosts}
+use Rattle.udfs_host_fs.specs.Disk.{Disk, Fails, Goes, SinkFails}
+use Rattle.udfs_host_fs.specs.declared.files.Files.{Ghosts}
 use Rattle.udfs_reading.specs.Writing.{Wrote}
-use Rattle.udfs_lattice.specs.Tables.{Table, state_of}
+use Rattle.udfs_lattice.specs.Volumes.{Blocks}
 use Rattle.udfs_volume.specs.declared.profiles.Profile.{Profile}
 use Rattle.udfs_walk.specs.declared.answers.Unnamed.{Unnamed}
 use Rattle.udfs_salvage.specs.Extraction.{filled}
@@ -76,15 +76,15 @@ abbrev pub lost_deed : Unnamed → Deed
 lost_deed u = cond (is_lost_file u) File Skip
 
 -- A file reported as written holds exactly the bytes of the body of its entry, and from some moment on each crash leaves it; nothing fails but for a fault.
-pub record IsLostPut (tells fails : Type 0) (table : Table) (report : Report) (folder : List ℕ) (two : Bool) (holds : List ℕ → Option (Option (List ℕ))) (moment : ℕ) (left_since : ℕ → Disk → Type 0) (u : Unnamed) (fate : Fate) : Type 0 where
+pub record IsLostPut (tells fails : Type 0) (blocks : Blocks) (report : Report) (folder : List ℕ) (two : Bool) (holds : List ℕ → Option (Option (List ℕ))) (moment : ℕ) (left_since : ℕ → Disk → Type 0) (u : Unnamed) (fate : Fate) : Type 0 where
   pub done : IsFateOf (lost_deed u) fate
-  pub written : fate ≡ Written → tells → (profile : Profile) (last : ℕ) → IsReportBy profile (state_of table) last report → (cs : List Cell) × HasUnnamedCellsBy profile (state_of table) last u cs
+  pub written : fate ≡ Written → tells → (profile : Profile) (last : ℕ) → IsReportBy profile blocks last report → (cs : List Cell) × HasUnnamedCellsBy profile blocks last u cs
       × IsSafe holds moment left_since (lost_path folder two u) (filled 0 cs)
-  pub failed : is_good fate ≡ false → (profile : Profile) (last : ℕ) → IsReportBy profile (state_of table) last report → fails
+  pub failed : is_good fate ≡ false → (profile : Profile) (last : ℕ) → IsReportBy profile blocks last report → fails
 
 -- the same at some moment
-abbrev pub IsLostPutAt : {F I M S W : Type 0} → Ghosts F I M S W → (W → Stream) → F → Table → Report → List ℕ → Bool → Unnamed → Fate → Type 0
-IsLostPutAt files output at table report folder two = IsLostPut files.tells (Fails files.faults ⊎ SinkFails output) table report folder two (files.holds at) (files.moment at) (files.left_since at)
+abbrev pub IsLostPutAt : {F I M S W : Type 0} → Ghosts F I M S W → (W → Stream) → F → Blocks → Report → List ℕ → Bool → Unnamed → Fate → Type 0
+IsLostPutAt files output at blocks report folder two = IsLostPut files.tells (Fails files.faults ⊎ SinkFails output) blocks report folder two (files.holds at) (files.moment at) (files.left_since at)
 
 -- this holds of each entry and its fate, as far as there are fates
 abbrev pub EachLost : (Unnamed → Fate → Type 0) → List Unnamed → List Fate → Type 0

@@ -3,15 +3,15 @@
 --     AreNamesOf deleted blocks report names             these are names that are found of them behind holes
 --     AreFoundOf deleted blocks report trees names       both
 --     IsUnfoundOf deleted blocks volume entries error    why they are not found
---     tree_report table volume tree    what a report says of the nodes of a tree
+--     tree_report blocks volume tree   what a report says of the nodes of a tree
 --     TreePut                          where a tree is put, and the fates of its nodes
 --     IsTreePut .. tree put            what they say of its files
 --     PutsTrees                        all trees with their fates and lines
 --     StopsTrees                       why they were not put or reported, or only in part
+--     CutAt                            they were in part, until a block could not be read again
 use Rattle.std.specs.Prelude.{◌≡◌, ◌⊎◌, ℕ, Bool, true, false, List, [], Contains, ◌∷◌, ◌++◌, ⊤, Option, filter, length, map, alloc_error}
 use Rattle.std.specs.List.{AllZip, list_all}
-use Rattle.udfs_files.specs.declared.files.Files.{Ghosts}
-use Rattle.udfs_lattice.specs.Tables.{Table, state_of}
+use Rattle.udfs_host_fs.specs.declared.files.Files.{Ghosts}
 use Rattle.udfs_lattice.specs.Volumes.{Blocks}
 use Rattle.udfs_reading.specs.Device.{Stream}
 use Rattle.udfs_reading.specs.Writing.{Wrote}
@@ -96,15 +96,19 @@ IsUnfoundOf deleted blocks (found f) entries error = IsUnfoundIn (view blocks f.
 IsUnfoundOf deleted blocks (holes listed) entries error = ⊥
 IsUnfoundOf deleted blocks (faulty fault) entries error = ⊥
 
+-- the same by the report of the volume
+abbrev pub IsUnfoundBy : Bool → Blocks → Report → NodesError → Type 0
+IsUnfoundBy deleted blocks report error = IsUnfoundOf deleted blocks report.volume report.unnamed error
+
 -- ---- where it is written, and what is printed
 
 -- what a report says of these nodes
-abbrev pub nodes_report : Table → Answer Found → List NodeFields → Report
-nodes_report table volume ns = record { volume = volume; nodes = ns; unnamed = unnamed_in (state_of table) volume ns; reread = reread_in volume ns }
+abbrev pub nodes_report : Blocks → Answer Found → List NodeFields → Report
+nodes_report blocks volume ns = record { volume = volume; nodes = ns; unnamed = unnamed_in blocks volume ns; reread = reread_in volume ns }
 
 -- of those of a tree
-abbrev pub tree_report : Table → Answer Found → LostTree → Report
-tree_report table volume tree = nodes_report table volume (map (full_in (state_of table) volume) tree.nodes.items)
+abbrev pub tree_report : Blocks → Answer Found → LostTree → Report
+tree_report blocks volume tree = nodes_report blocks volume (map (full_in blocks volume) tree.nodes.items)
 
 -- where a tree is put, and the fates of its nodes, the first included
 pub record TreePut : Type 0 where
@@ -112,8 +116,8 @@ pub record TreePut : Type 0 where
   pub fates : List Fate
 
 -- the lines of a tree's nodes, as far as there are fates
-abbrev pub tree_lines : Table → Answer Found → Bool → LostTree → TreePut → List ℕ
-tree_lines table volume short tree put = fate_lines (node_line (seat_word (has_two volume) tree.folder put.seat) short (tree_report table volume tree)) (tree_report table volume tree).nodes put.fates
+abbrev pub tree_lines : Blocks → Answer Found → Bool → LostTree → TreePut → List ℕ
+tree_lines blocks volume short tree put = fate_lines (node_line (seat_word (has_two volume) tree.folder put.seat) short (tree_report blocks volume tree)) (tree_report blocks volume tree).nodes put.fates
 
 -- those of all trees
 abbrev pub trees_lines : (LostTree → TreePut → List ℕ) → List LostTree → List TreePut → List ℕ
@@ -124,9 +128,9 @@ trees_lines lined (tree ∷ trees) (put ∷ more) = lined tree put ++ trees_line
 -- ---- what is put
 
 -- a tree is put at its number, or at one of these names for it; and what the fates of its nodes say of their files at some moment, as far as there are fates
-abbrev pub IsTreePut : {F I M S W : Type 0} → Ghosts F I M S W → (W → Stream) → F → Table → Answer Found → Bool → List ℕ → List FoundAt → LostTree → TreePut → Type 0
-IsTreePut files output at table volume short folder names tree put = IsSeat names tree.folder put.seat ×
-    Each (IsPutAt files output at table (tree_report table volume tree) Refuse short (seat_path folder (has_two volume) tree.folder put.seat)) 0 (tree_report table volume tree).nodes put.fates
+abbrev pub IsTreePut : {F I M S W : Type 0} → Ghosts F I M S W → (W → Stream) → F → Blocks → Answer Found → Bool → List ℕ → List FoundAt → LostTree → TreePut → Type 0
+IsTreePut files output at blocks volume short folder names tree put = IsSeat names tree.folder put.seat ×
+    Each (IsPutAt files output at blocks (tree_report blocks volume tree) Refuse short (seat_path folder (has_two volume) tree.folder put.seat)) 0 (tree_report blocks volume tree).nodes put.fates
 
 -- this holds of each tree, as far as there are any put
 abbrev pub EachTree : (LostTree → TreePut → Type 0) → List LostTree → List TreePut → Type 0
@@ -157,6 +161,13 @@ pub record StopsAt (P : LostTree → TreePut → Type 0) (lined : LostTree → T
   pub each : EachTree P trees puts
   pub lines : TellsLines heard old new (trees_lines lined trees puts)
   pub why : (refusal ≡ Memory alloc_error) ⊎ ((refusal ≡ Output) × (heard ≡ false))
+
+-- nodes have their fates, and their lines as far as the output took them; then a block could not be read again
+pub record CutAt (P : LostTree → TreePut → Type 0) (lined : LostTree → TreePut → List ℕ) (trees : List LostTree) (old new : Stream) : Type 0 where
+  pub heard : Bool
+  pub puts : List TreePut
+  pub each : EachTree P trees puts
+  pub lines : TellsLines heard old new (trees_lines lined trees puts)
 
 -- nothing was reported, and the folder could not be made; or nodes have their fates and lines, up to some one
 abbrev pub StopsTrees : Type 0 → (LostTree → TreePut → Type 0) → (LostTree → TreePut → List ℕ) → List LostTree → Stream → Stream → Refusal → Type 0

@@ -10,8 +10,8 @@
 --     IsSparedManifest                        why its place is rejected
 use Rattle.std.specs.Prelude.{◌≡◌, ◌≢◌, ◌⊎◌, ℕ, Bool, true, false, List, [], ◌∷◌, ◌++◌, suc, Option, Some, None, MatchOption, codes, drop, flat_map, slice_get}
 use Rattle.sha2.specs.Sha256.{sha256}
-use Rattle.udfs_files.specs.Disk.{Goes, IsOwn, Replaced}
-use Rattle.udfs_files.specs.declared.files.Files.{Ghosts}
+use Rattle.udfs_host_fs.specs.Disk.{Goes, IsOwn, Replaced}
+use Rattle.udfs_host_fs.specs.declared.files.Files.{Ghosts}
 use Rattle.udfs_walk.specs.NodeFields.{NodeFields}
 use Rattle.udfs_salvage.specs.NodeTexts.{names_text}
 use Rattle.udfs_salvage.specs.Reports.{Report}

@@ -2,14 +2,14 @@
 
 ghost use Rattle.std.specs.Prelude.{◌≡◌, ◌<◌, ◌≤◌, ℕ, List, Some, [], true, IfOk, IfErr, length};
 ghost use Rattle.std.specs.Io.KnownBytes.{WriteAppends};
-ghost use Rattle.udfs_files.specs.Disk.{Fails, SinkFails};
+ghost use Rattle.udfs_host_fs.specs.Disk.{Fails, SinkFails};
 ghost use Rattle.udfs_extraction.specs.Digests.{HasTaken};
 ghost use Rattle.sha2.specs.Sha256.{sha256};
 ghost use Rattle.udfs_reading.specs.Device.{CountsFault};
 
 use sha2::{Digest, Sha256};
 use udfs_common::files::Files;
-use udfs_files::{Handle, Job, fill_by};
+use udfs_host_fs::{Handle, Job, fill_by};
 use udfs_reading::{DeviceFault, Sink};
 
 /// An output that hands on what it is given, and adds what was taken of it to a hasher.

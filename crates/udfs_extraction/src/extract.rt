@@ -3,91 +3,94 @@
 ghost use Rattle.std.specs.Prelude.{◌≡◌, ◌⊎◌, ℕ, IfOk, IfErr, option_map, string_bytes};
 ghost use Rattle.udfs_lattice.specs.Tables.{state_of};
 ghost use Rattle.udfs_salvage.specs.Reports.{IsReportBy, Report};
+ghost use Rattle.udfs_common.specs.Volumes.{OfToldVolume};
 ghost use Rattle.udfs_extraction.specs.ByRequest.{IsExtracted, Makes};
-ghost use Rattle.udfs_extraction.specs.Refused.{ExtractRefused, MakingRefused};
+ghost use Rattle.udfs_extraction.specs.Refused.{ExtractRefused, VolumeStops};
 ghost use Rattle.udfs_extraction.specs.Sparing.{LeavesExtract, SparesMaking};
 
-use crate::lost_places::{find_trees, put_lost, standing_in};
-use crate::manifest_put::list_report;
-use crate::nodes::is_all_good;
+use crate::making::make_all;
 use crate::out_places::find_places;
+use crate::stopping::Stop;
+use crate::stored_extract::extract_stored;
 use crate::times::{times_for, told_good};
-use crate::unnamed::{add_lost, lost_entries};
 use std::alloc::{AllocError, Global};
 use udfs_common::files::Files;
 use udfs_common::known::Known;
 use udfs_common::refusal::Refusal;
-use udfs_common::volumes::{Disc, joined_volume};
-use udfs_files::Stage;
+use udfs_common::stored_volumes::stored_volume;
+use udfs_common::volumes::joined_volume;
+use udfs_host_fs::Times;
 use udfs_reading::Sink;
-use udfs_remarks::looking::listed;
-use udfs_times::Times;
 use udfs_words::request::ExtractRequest;
 
-/// Makes what a request asks for of the volume of a disc: the nodes, their manifest at its place, the lost files, and the lost folders.
-fn extract_disc<F: Files, O: Sink>(
+/// Makes what a request asks for of its volume, and holds all blocks that are known.
+fn extract_held<F: Files, O: Sink>(
     alloc: Global,
-    disc: &Disc,
     request: &ExtractRequest<'_>,
     place: &Option<String>,
     times: &Times,
     files: &mut F,
     out: &mut O,
 ) -> Result<bool, Refusal>
-    ensures made { IfOk result (λ good. (report : Report) × IsReportBy request.now.volume.profile (state_of disc.now.table) disc.now.last report ×
-        Makes ⟦<F as Known>⟧.reach O.stream request.now (option_map string_bytes place.now) files.old files.new out.old out.new disc.now.last disc.now.table report good) }
-    ensures why { IfErr result (MakingRefused ⟦<F as Known>⟧.reach O.stream request.now (option_map string_bytes place.now) files.old files.new out.old out.new disc.now.last disc.now.table) }
+    ensures made { IfOk result (λ good. OfToldVolume ⟦<F as Known>⟧.reach files.old request.now.volume (λ last table. (report : Report) × IsReportBy request.now.volume.profile (state_of table) last report ×
+        Makes ⟦<F as Known>⟧.reach O.stream request.now (option_map string_bytes place.now) files.old files.new out.old out.new last (state_of table) report good)) }
+    ensures why { IfErr result (VolumeStops ⟦<F as Known>⟧.reach O.stream request.now (option_map string_bytes place.now) files.old files.new out.old out.new) }
+    ensures no_node { IfErr result (λ refusal. (i : ℕ) → refusal ≡ Refusal.NoNode i → files.new ≡ files.old) }
     ensures spares { (files.new ≡ files.old) ⊎ SparesMaking ⟦<F as Known>⟧.reach request.now (option_map string_bytes place.now) files.old files.new }
 {
-    files.begin(Stage::Walking);
-    let listing = match listed(alloc, &disc.table, disc.last, request.volume.profile) {
-        Ok(listing) => listing,
+    let disc = match joined_volume(alloc, &request.volume, files) {
+        Ok(disc) => disc,
         Err(refusal) => return Err(refusal),
     };
-    let entries = match lost_entries(alloc, &listing, request.lost, request.trees) {
-        Ok(entries) => entries,
-        Err(refusal) => return Err(refusal),
-    };
-    let standing = match standing_in(alloc, &listing) {
-        Ok(standing) => standing,
-        Err(AllocError) => return Err(Refusal::Memory(AllocError)),
-    };
-    let found = match find_trees(
+    match make_all(
         alloc,
-        &listing,
-        &standing,
-        request.trees,
-        request.deleted,
-        &entries,
+        &disc.table,
+        disc.last,
+        request,
+        place,
+        times,
+        files,
+        out,
     ) {
-        Ok(found) => found,
-        Err(refusal) => return Err(refusal),
-    };
-    files.begin(Stage::Writing);
-    let good = match list_report(alloc, &listing, request, place, times, files, out) {
-        Ok(good) => good,
-        Err(refusal) => return Err(refusal),
-    };
-    let lost_good = match add_lost(alloc, &listing, &entries, request.lost, times, files, out) {
-        Ok(lost_good) => lost_good,
-        Err(refusal) => return Err(refusal),
-    };
-    match put_lost(alloc, listing, standing, found, request, times, files, out) {
-        Ok(trees_good) => Ok(is_all_good(good, is_all_good(lost_good, trees_good))),
+        Ok(good) => Ok(good),
+        Err(Stop::Refused(refusal)) => Err(refusal),
+        Err(Stop::Unread) => unreachable!(),
+    }
+}
+
+/// Makes what a request asks for of its volume, by its inputs as they can be read: where all of them are regular files, no block is held.
+fn extract_volume<F: Files, O: Sink>(
+    alloc: Global,
+    request: &ExtractRequest<'_>,
+    place: &Option<String>,
+    times: &Times,
+    files: &mut F,
+    out: &mut O,
+) -> Result<bool, Refusal>
+    ensures made { IfOk result (λ good. OfToldVolume ⟦<F as Known>⟧.reach files.old request.now.volume (λ last table. (report : Report) × IsReportBy request.now.volume.profile (state_of table) last report ×
+        Makes ⟦<F as Known>⟧.reach O.stream request.now (option_map string_bytes place.now) files.old files.new out.old out.new last (state_of table) report good)) }
+    ensures why { IfErr result (VolumeStops ⟦<F as Known>⟧.reach O.stream request.now (option_map string_bytes place.now) files.old files.new out.old out.new) }
+    ensures no_node { IfErr result (λ refusal. (i : ℕ) → refusal ≡ Refusal.NoNode i → files.new ≡ files.old) }
+    ensures spares { (files.new ≡ files.old) ⊎ SparesMaking ⟦<F as Known>⟧.reach request.now (option_map string_bytes place.now) files.old files.new }
+{
+    match stored_volume(alloc, &request.volume, files) {
+        Ok(Some(disc)) => extract_stored(alloc, &disc, request, place, times, files, out),
+        Ok(None) => extract_held(alloc, request, place, times, files, out),
         Err(refusal) => Err(refusal),
     }
 }
 
 /// Does what is asked for, one stage after another: the places of the manifest and of the folders for what is lost are judged, the inputs are joined, the files of the
 /// volume are written into a new folder, and then the manifest, the lost files and the lost folders, where they are asked for. It returns whether all nodes that are asked for
-/// are whole, nothing failed and, where times are asked for, each could be set. All inputs are opened in order before one is read. Where the volume does not open, but its
-/// layout and the places of its blocks are found, lost folders and lost files are looked for by these alone, and the root is a lost folder too.
+/// are whole, nothing failed and, where times are asked for, each could be set. All inputs are opened in order before one is read. Where all of them are regular files, no
+/// block is held: what is asked of the volume is read where it is, and the bytes of each file once more. Where the volume does not open, but its layout and the places of its blocks are found, lost folders and lost files are looked for by these alone, and the root is a lost folder too.
 ///
 /// # Errors
 ///
 /// Those of [`find_places`], and then those of [`joined_volume`]; where the table has no report, why. Nothing is made then, nor where a path that is asked for is
 /// no node's (`NoNode`). `Folder` and `LostFolder` where a folder could not be made, `Output` where the output or the manifest failed, `Unkept` where a crash may
-/// bring an old manifest back, and `Memory` if memory runs out: what was reported by then is made. `TooManyPaths` also where the lost folders have more than 65,536
+/// bring an old manifest back, and `Memory` if memory runs out: what was reported by then is made. `Reread` where an input could not be read a second time: what was
+/// reported by then is made, and a manifest is put only where all nodes are; or where an input has changed: all is made then. `TooManyPaths` also where the lost folders have more than 65,536
 /// nodes, or one of them lists more than 65,535 entries: nothing is made then.
 pub fn extract<F: Files, O: Sink>(
     alloc: Global,
@@ -111,11 +114,7 @@ pub fn extract<F: Files, O: Sink>(
         Ok(place) => place,
         Err(refusal) => return Err(refusal),
     };
-    let disc = match joined_volume(alloc, &request.volume, files) {
-        Ok(disc) => disc,
-        Err(refusal) => return Err(refusal),
-    };
-    match extract_disc(alloc, &disc, request, &place, &times, files, out) {
+    match extract_volume(alloc, request, &place, &times, files, out) {
         Ok(good) => Ok(told_good(good, request.times, &times)),
         Err(refusal) => Err(refusal),
     }

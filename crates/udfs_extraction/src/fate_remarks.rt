@@ -6,11 +6,15 @@ use std::fmt::Write;
 use udfs_common::files::Files;
 use udfs_common::shown::Said;
 use udfs_file::{Kind, NodeFault};
+use udfs_lattice::{BlockStore, GaveUp};
 use udfs_osta::OutOfMemory;
 use udfs_overview::{lost_of, push_shown_path, push_size};
 use udfs_salvage::{Listing, Volume};
 use udfs_volume::Profile;
-use udfs_walk::{Node, Standing, full_standing};
+use udfs_walk::{Node, Standing, full_standing_by};
+
+/// How many holes of torn files are gone through for remarks: more than a disc has whose files share no block. Behind them a torn file is only called so.
+const MOST_HOLES: usize = 2_000_000;
 
 /// What a person is told that a file or a folder is.
 #[derive(Clone, Copy, PartialEq, Eq)]
@@ -47,6 +51,8 @@ pub struct Totals {
     loops: usize,
     faults: usize,
     others: usize,
+    /// How many holes were gone through.
+    holes: usize,
 }
 
 impl Totals {
@@ -62,6 +68,7 @@ impl Totals {
             loops: 0,
             faults: 0,
             others: 0,
+            holes: 0,
         }
     }
 
@@ -108,23 +115,32 @@ fn sort_of(node: &Node, fate: Fate) -> Option<Sort> {
     }
 }
 
-/// Appends how much of a torn file is missing, and where.
-fn push_missing(
+/// Appends how much of a torn file is missing, and where, unless too many holes were gone through for that.
+fn push_missing<B: BlockStore>(
     alloc: Global,
     text: &mut String,
-    listing: &Listing<'_>,
+    listing: &Listing<'_, B>,
     node: &Node,
     what: &str,
+    totals: &mut Totals,
 ) -> Result<(), OutOfMemory> {
     text.push_str("torn")?;
     let Volume::Open(opened) = &listing.volume else {
         return Ok(());
     };
-    let view = opened.view(listing.table);
-    let full = full_standing(alloc, view, node.icb, &node.standing)?;
+    if totals.holes >= MOST_HOLES {
+        return Ok(());
+    }
+    let view = opened.view_by(listing.table);
+    let full = match full_standing_by(alloc, view, node.icb, &node.standing) {
+        Ok(full) => full,
+        Err(GaveUp::OutOfMemory) => return Err(AllocError),
+        Err(GaveUp::Unread) => return text.push_str(": an input could not be read again"),
+    };
     let Standing::Torn(torn) = &full else {
         return Ok(());
     };
+    totals.holes = totals.holes.saturating_add(torn.holes.len());
     let Some((offset, _)) = torn.holes.first() else {
         return Ok(());
     };
@@ -154,18 +170,19 @@ fn push_fault(text: &mut String, profile: Profile, fault: NodeFault) -> Result<(
 }
 
 /// Appends why a node was not written, or not all of it.
-fn push_reason<F: Files>(
+fn push_reason<B: BlockStore, F: Files>(
     alloc: Global,
     text: &mut String,
-    listing: &Listing<'_>,
+    listing: &Listing<'_, B>,
     node: &Node,
     sort: Sort,
+    totals: &mut Totals,
     files: &F,
 ) -> Result<(), OutOfMemory> {
     match sort {
         Sort::Written => Ok(()),
-        Sort::Filled => push_missing(alloc, text, listing, node, "of zeros"),
-        Sort::Torn => push_missing(alloc, text, listing, node, "missing"),
+        Sort::Filled => push_missing(alloc, text, listing, node, "of zeros", totals),
+        Sort::Torn => push_missing(alloc, text, listing, node, "missing", totals),
         Sort::Unread => text.push_str("not read: a file, or a folder with all below it"),
         Sort::Link => text.push_str("link"),
         Sort::Loop => text.push_str("a folder inside itself"),
@@ -185,26 +202,27 @@ fn push_reason<F: Files>(
 }
 
 /// The line of a node that was not written, or not all of it.
-fn line_of<F: Files>(
+fn line_of<B: BlockStore, F: Files>(
     alloc: Global,
-    listing: &Listing<'_>,
+    listing: &Listing<'_, B>,
     word: &str,
     node: &Node,
     sort: Sort,
+    totals: &mut Totals,
     files: &F,
 ) -> Result<String, OutOfMemory> {
     let mut line = String::from_str(alloc, word)?;
     push_shown_path(&mut line, &node.path)?;
     line.push_str(": ")?;
-    push_reason(alloc, &mut line, listing, node, sort, files)?;
+    push_reason(alloc, &mut line, listing, node, sort, totals, files)?;
     Ok(line)
 }
 
 /// Shows as a remark why a node was not written, or not all of it, where that is so, and counts it. Of a torn folder that was made it shows that names may be
 /// missing in it. `word` stands before its path.
-pub fn remark_on_fate<F: Files>(
+pub fn remark_on_fate<B: BlockStore, F: Files>(
     alloc: Global,
-    listing: &Listing<'_>,
+    listing: &Listing<'_, B>,
     word: &str,
     node: &Node,
     fate: Fate,
@@ -221,7 +239,7 @@ pub fn remark_on_fate<F: Files>(
     if sort == Sort::Written {
         return;
     }
-    if let Ok(line) = line_of(alloc, listing, word, node, sort, files) {
+    if let Ok(line) = line_of(alloc, listing, word, node, sort, totals, files) {
         files.remark(line.as_str());
     }
 }

@@ -1,7 +1,7 @@
 //! Names that are found behind holes of torn folders, by which what is lost may be written. They are evidence and no proof.
 
-ghost use Rattle.std.specs.Prelude.{◌≡◌, ⊤, [], Contains, IfOk, MatchOption, None, OnOk, Option, Some};
-ghost use Rattle.udfs_space.specs.Views.{view_now};
+ghost use Rattle.std.specs.Prelude.{◌≡◌, ⊤, [], Contains, IfOk, IsErrOf, MatchOption, None, OnOk, Option, Some};
+ghost use Rattle.udfs_space.specs.Views.{view_by};
 ghost use Rattle.udfs_walk.specs.Targets.{Icb};
 ghost use Rattle.udfs_lost.specs.FoundNames.{unplaced};
 ghost use Rattle.udfs_extraction.specs.Adding.{Adds};
@@ -10,10 +10,11 @@ ghost use Rattle.udfs_extraction.specs.Seats.{FoundAt, IsFoundAmong, IsFoundAt, 
 use std::alloc::{AllocError, Global};
 use std::collections::BTreeMap;
 use std::marker::Model;
-use udfs_lost::{FoundName, LostTree, Unplaced, found_names, torn_folders, unplaced_in};
+use udfs_lattice::{BlockStore, GaveUp};
+use udfs_lost::{FoundName, LostTree, Unplaced, found_names_by, torn_folders, unplaced_by};
 use udfs_osta::OutOfMemory;
 use udfs_salvage::push_names;
-use udfs_space::View;
+use udfs_space::StoreView;
 use udfs_tag::LbAddr;
 use udfs_walk::{Node, Unnamed};
 
@@ -135,17 +136,18 @@ fn place_of(
 }
 
 /// Adds the names of these entries that are found in a torn folder.
-fn add_folder(
+fn add_folder<B: BlockStore>(
     alloc: Global,
-    view: View<'_>,
+    view: StoreView<'_, B>,
     lost: &Unplaced<'_>,
     tree: Option<LbAddr>,
     folder: &Node,
     places: &mut FoundPlaces,
-) -> Result<(), OutOfMemory>
-    ensures { OnOk result (Adds (IsFoundAt (view_now view.entry) lost.now tree folder.now) places.old places.new) }
+) -> Result<(), GaveUp>
+    ensures added { OnOk result (B.tells → Adds (IsFoundAt (view_by B.states view.entry) lost.now tree folder.now) places.old places.new) }
+    ensures fails { IsErrOf result GaveUp.Unread → B.fails }
 {
-    let names = found_names(alloc, view, lost, folder)?;
+    let names = found_names_by(alloc, view, lost, folder)?;
     for found in &names {
         let place = place_of(alloc, tree, folder, found)?;
         places.add(place)?;
@@ -154,15 +156,16 @@ fn add_folder(
 }
 
 /// Adds those that are found in the torn folders among nodes.
-fn add_nodes(
+fn add_nodes<B: BlockStore>(
     alloc: Global,
-    view: View<'_>,
+    view: StoreView<'_, B>,
     lost: &Unplaced<'_>,
     tree: Option<LbAddr>,
     nodes: &[Node],
     places: &mut FoundPlaces,
-) -> Result<(), OutOfMemory>
-    ensures { OnOk result (Adds (IsFoundAmong (view_now view.entry) lost.now tree nodes.now) places.old places.new) }
+) -> Result<(), GaveUp>
+    ensures added { OnOk result (B.tells → Adds (IsFoundAmong (view_by B.states view.entry) lost.now tree nodes.now) places.old places.new) }
+    ensures fails { IsErrOf result GaveUp.Unread → B.fails }
 {
     let folders = torn_folders(alloc, nodes)?;
     for folder in &folders {
@@ -172,14 +175,15 @@ fn add_nodes(
 }
 
 /// Adds those that are found in the torn folders of lost trees.
-fn add_trees(
+fn add_trees<B: BlockStore>(
     alloc: Global,
-    view: View<'_>,
+    view: StoreView<'_, B>,
     lost: &Unplaced<'_>,
     trees: &[LostTree],
     places: &mut FoundPlaces,
-) -> Result<(), OutOfMemory>
-    ensures { OnOk result (Adds (IsFoundBelow (view_now view.entry) lost.now trees.now) places.old places.new) }
+) -> Result<(), GaveUp>
+    ensures added { OnOk result (B.tells → Adds (IsFoundBelow (view_by B.states view.entry) lost.now trees.now) places.old places.new) }
+    ensures fails { IsErrOf result GaveUp.Unread → B.fails }
 {
     for tree in trees {
         add_nodes(alloc, view, lost, Some(tree.folder), &tree.nodes, places)?;
@@ -192,18 +196,19 @@ fn add_trees(
 ///
 /// # Errors
 ///
-/// [`OutOfMemory`] where memory runs out.
-pub fn find_names(
+/// `OutOfMemory` where memory runs out, and `Unread` where the bytes of a known block could not be read.
+pub fn find_names<B: BlockStore>(
     alloc: Global,
-    view: View<'_>,
+    view: StoreView<'_, B>,
     deleted: bool,
     nodes: &[Node],
     trees: &[LostTree],
     entries: &[Unnamed],
-) -> Result<FoundPlaces, OutOfMemory>
-    ensures { IfOk result (λ places. (p : FoundAt) → Contains places p → IsFoundIn (view_now view.entry) (unplaced (view_now view.entry) deleted trees.now entries.now) nodes.now trees.now p) }
+) -> Result<FoundPlaces, GaveUp>
+    ensures found { IfOk result (λ places. B.tells → (p : FoundAt) → Contains places p → IsFoundIn (view_by B.states view.entry) (unplaced (view_by B.states view.entry) deleted trees.now entries.now) nodes.now trees.now p) }
+    ensures fails { IsErrOf result GaveUp.Unread → B.fails }
 {
-    let lost = unplaced_in(alloc, view, deleted, trees, entries)?;
+    let lost = unplaced_by(alloc, view, deleted, trees, entries)?;
     let mut places = FoundPlaces::none(alloc);
     add_nodes(alloc, view, &lost, None, nodes, &mut places)?;
     add_trees(alloc, view, &lost, trees, &mut places)?;

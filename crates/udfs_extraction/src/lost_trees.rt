@@ -1,15 +1,15 @@
 //! Lost folders, which are written to a folder of their own with what is in them, and lost files, each in the place of such a folder.
 
-ghost use Rattle.std.specs.Prelude.{◌≡◌, ◌<◌, ◌⊎◌, ⊤, Bool, true, false, List, Some, IfErr, IfOk, MatchOption, OnErr, alloc_error, length, slice_get, string_bytes};
-ghost use Rattle.udfs_lattice.specs.Tables.{state_of};
+ghost use Rattle.std.specs.Prelude.{◌≡◌, ◌<◌, ◌⊎◌, ⊤, ℕ, Bool, true, false, List, Some, IfErr, IfOk, IsErrOf, MatchOption, OnErr, alloc_error, length, slice_get, string_bytes};
 ghost use Rattle.udfs_walk.specs.NodeFields.{NodeFields};
 ghost use Rattle.udfs_salvage.specs.Found.{volume_now};
-ghost use Rattle.udfs_salvage.specs.Listings.{listing_now};
+ghost use Rattle.udfs_salvage.specs.Listings.{listing_by};
 ghost use Rattle.udfs_extraction.specs.ByRequest.{MakesTrees};
 ghost use Rattle.udfs_extraction.specs.Extracting.{Each, IsPutAt, SparesNodes, TellsLines, all_good, fate_lines, node_line};
 ghost use Rattle.udfs_extraction.specs.LostFiles.{SparesLost};
-ghost use Rattle.udfs_extraction.specs.LostTrees.{AreFoundOf, IsTreePut, PutsTrees, StopsAt, TreePut, tree_lines};
-ghost use Rattle.udfs_extraction.specs.Refused.{TreesStop};
+ghost use Rattle.udfs_extraction.specs.LostTrees.{AreFoundOf, CutAt, IsTreePut, PutsTrees, StopsAt, TreePut, tree_lines};
+ghost use Rattle.udfs_extraction.specs.Refused.{TreesCut, TreesStop};
+ghost use Rattle.udfs_extraction.specs.Stopping.{IfStopped};
 
 use crate::fate_remarks::{Totals, remark_on_fate};
 use crate::found_places::FoundPlaces;
@@ -19,6 +19,7 @@ use crate::nodes::{Fate, is_all_good, put_nodes, still_good};
 use crate::places::first_place;
 use crate::seats::seat_for;
 use crate::spare::Spare;
+use crate::stopping::Stop;
 use crate::telling::tell;
 use crate::times::set_written_time;
 use crate::unnamed::make_if_open;
@@ -26,11 +27,12 @@ use std::alloc::{AllocError, Global};
 use udfs_common::files::Files;
 use udfs_common::known::Known;
 use udfs_common::refusal::Refusal;
+use udfs_host_fs::Times;
+use udfs_lattice::{BlockStore, GaveUp};
 use udfs_lost::LostTree;
 use udfs_reading::Sink;
 use udfs_salvage::{Fill, Listing, has_two_partitions};
 use udfs_tag::LbAddr;
-use udfs_times::Times;
 use udfs_words::request::ExtractRequest;
 
 /// What became of the first node of a tree.
@@ -43,22 +45,23 @@ struct First {
 }
 
 /// Makes the folder of a tree, or writes the lost file that is all of it.
-fn put_first<F: Files, O: Sink>(
+fn put_first<B: BlockStore, F: Files, O: Sink>(
     alloc: Global,
-    listing: &Listing<'_>,
+    listing: &Listing<'_, B>,
     word: &str,
     short: bool,
     folder: &str,
     times: &Times,
     files: &mut F,
     out: &mut O,
-) -> Result<First, AllocError>
+) -> Result<First, GaveUp>
     requires { 0 < length listing.now.nodes.items }
-    ensures put { IfOk result (λ first. (n : NodeFields) → slice_get (listing_now listing.now).nodes 0 ≡ Some n →
-        IsPutAt F.Files F.Output.stream files.new listing.now.table.now (listing_now listing.now) Fill.Refuse short folder.now 0 n first.fate ×
-        TellsLines first.heard (O.stream out.old) (O.stream out.new) (node_line word.now short (listing_now listing.now) first.fate n)) }
+    ensures put { IfOk result (λ first. B.tells → (n : NodeFields) → slice_get (listing_by B.states listing.now).nodes 0 ≡ Some n →
+        IsPutAt F.Files F.Output.stream files.new (B.states listing.now.table.now) (listing_by B.states listing.now) Fill.Refuse short folder.now 0 n first.fate ×
+        TellsLines first.heard (O.stream out.old) (O.stream out.new) (node_line word.now short (listing_by B.states listing.now) first.fate n)) }
     ensures memory { OnErr result (out.new ≡ out.old) }
     ensures spares { SparesNodes F.Files folder.now files.old files.new }
+    ensures fails { IsErrOf result GaveUp.Unread → (B.fails → ⊥) → ⊥ }
 {
     let spare = Spare::new();
     let target = first_place(alloc, listing, short)?;
@@ -77,31 +80,34 @@ fn put_first<F: Files, O: Sink>(
 
 /// Makes the folder of a tree, whose nodes are those of this listing, and what is in it; or writes the lost file that is all of it. Where the output fails, no more
 /// than the rest of the folder is made.
-fn put_tree<F: Files, O: Sink>(
+fn put_tree<B: BlockStore, F: Files, O: Sink>(
     alloc: Global,
-    listing: &Listing<'_>,
+    listing: &Listing<'_, B>,
     word: &str,
     short: bool,
     folder: &str,
     times: &Times,
     files: &mut F,
     out: &mut O,
-) -> Result<bool, Refusal>
-    ensures put { (heard : Bool) × (fates : List Fate) × Each (IsPutAt F.Files F.Output.stream files.new listing.now.table.now (listing_now listing.now) Fill.Refuse short folder.now) 0 (listing_now listing.now).nodes fates ×
-        TellsLines heard (O.stream out.old) (O.stream out.new) (fate_lines (node_line word.now short (listing_now listing.now)) (listing_now listing.now).nodes fates) ×
+) -> Result<bool, Stop>
+    ensures put { B.tells → (heard : Bool) × (fates : List Fate) × Each (IsPutAt F.Files F.Output.stream files.new (B.states listing.now.table.now) (listing_by B.states listing.now) Fill.Refuse short folder.now) 0 (listing_by B.states listing.now).nodes fates ×
+        TellsLines heard (O.stream out.old) (O.stream out.new) (fate_lines (node_line word.now short (listing_by B.states listing.now)) (listing_by B.states listing.now).nodes fates) ×
         IfOk result (λ good. (length fates ≡ length listing.now.nodes.items) × (heard ≡ true) × (good ≡ all_good fates)) ×
-        IfErr result (λ refusal. (refusal ≡ Refusal.Memory alloc_error) ⊎ ((refusal ≡ Refusal.Output) × (heard ≡ false))) }
+        IfErr result (IfStopped (λ refusal. (refusal ≡ Refusal.Memory alloc_error) ⊎ ((refusal ≡ Refusal.Output) × (heard ≡ false))) ⊤) }
     ensures spares { SparesNodes F.Files folder.now files.old files.new }
+    ensures no_node { (i : ℕ) → IsErrOf result (Stop.Refused (Refusal.NoNode i)) → ⊥ }
+    ensures fails { IsErrOf result Stop.Unread → (B.fails → ⊥) → ⊥ }
 {
     if listing.nodes.is_empty() {
         return Ok(true);
     }
     let first = match put_first(alloc, listing, word, short, folder, times, files, out) {
         Ok(first) => first,
-        Err(AllocError) => return Err(Refusal::Memory(AllocError)),
+        Err(GaveUp::OutOfMemory) => return Err(Stop::Refused(Refusal::Memory(AllocError))),
+        Err(GaveUp::Unread) => return Err(Stop::Unread),
     };
     if !first.heard {
-        return Err(Refusal::Output);
+        return Err(Stop::Refused(Refusal::Output));
     }
     let told = match put_nodes(
         alloc,
@@ -117,18 +123,19 @@ fn put_tree<F: Files, O: Sink>(
         out,
     ) {
         Ok(told) => told,
-        Err(AllocError) => return Err(Refusal::Memory(AllocError)),
+        Err(GaveUp::OutOfMemory) => return Err(Stop::Refused(Refusal::Memory(AllocError))),
+        Err(GaveUp::Unread) => return Err(Stop::Unread),
     };
     if !told.heard {
-        return Err(Refusal::Output);
+        return Err(Stop::Refused(Refusal::Output));
     }
     Ok(still_good(told.good, first.fate))
 }
 
 /// Makes a tree in the folder for lost folders: by a name that was found for it, or by its number.
-fn put_lost_tree<F: Files, O: Sink>(
+fn put_lost_tree<B: BlockStore, F: Files, O: Sink>(
     alloc: Global,
-    listing: &Listing<'_>,
+    listing: &Listing<'_, B>,
     icb: LbAddr,
     names: &FoundPlaces,
     short: bool,
@@ -136,17 +143,19 @@ fn put_lost_tree<F: Files, O: Sink>(
     times: &Times,
     files: &mut F,
     out: &mut O,
-) -> Result<bool, Refusal>
-    ensures put { (heard : Bool) × (put : TreePut) × IsTreePut F.Files F.Output.stream files.new listing.now.table.now (volume_now listing.now.volume) short folder.now names.now (record { folder = icb; nodes = listing.now.nodes }) put ×
-        TellsLines heard (O.stream out.old) (O.stream out.new) (tree_lines listing.now.table.now (volume_now listing.now.volume) short (record { folder = icb; nodes = listing.now.nodes }) put) ×
+) -> Result<bool, Stop>
+    ensures put { B.tells → (heard : Bool) × (put : TreePut) × IsTreePut F.Files F.Output.stream files.new (B.states listing.now.table.now) (volume_now listing.now.volume) short folder.now names.now (record { folder = icb; nodes = listing.now.nodes }) put ×
+        TellsLines heard (O.stream out.old) (O.stream out.new) (tree_lines (B.states listing.now.table.now) (volume_now listing.now.volume) short (record { folder = icb; nodes = listing.now.nodes }) put) ×
         IfOk result (λ good. (length put.fates ≡ length listing.now.nodes.items) × (heard ≡ true) × (good ≡ all_good put.fates)) ×
-        IfErr result (λ refusal. (refusal ≡ Refusal.Memory alloc_error) ⊎ ((refusal ≡ Refusal.Output) × (heard ≡ false))) }
+        IfErr result (IfStopped (λ refusal. (refusal ≡ Refusal.Memory alloc_error) ⊎ ((refusal ≡ Refusal.Output) × (heard ≡ false))) ⊤) }
     ensures spares { SparesLost F.Files folder.now files.old files.new }
+    ensures no_node { (i : ℕ) → IsErrOf result (Stop.Refused (Refusal.NoNode i)) → ⊥ }
+    ensures fails { IsErrOf result Stop.Unread → (B.fails → ⊥) → ⊥ }
 {
     let two = has_two_partitions(&listing.volume);
     let seat = match seat_for(alloc, two, icb, names, folder, files) {
         Ok(seat) => seat,
-        Err(AllocError) => return Err(Refusal::Memory(AllocError)),
+        Err(AllocError) => return Err(Stop::Refused(Refusal::Memory(AllocError))),
     };
     match put_tree(
         alloc,
@@ -159,14 +168,14 @@ fn put_lost_tree<F: Files, O: Sink>(
         out,
     ) {
         Ok(good) => Ok(good),
-        Err(refusal) => Err(refusal),
+        Err(stop) => Err(stop),
     }
 }
 
 /// Makes a tree in the folder for lost folders; then the listing has its nodes.
-fn put_next<F: Files, O: Sink>(
+fn put_next<B: BlockStore, F: Files, O: Sink>(
     alloc: Global,
-    listing: &mut Listing<'_>,
+    listing: &mut Listing<'_, B>,
     tree: LostTree,
     names: &FoundPlaces,
     short: bool,
@@ -174,26 +183,28 @@ fn put_next<F: Files, O: Sink>(
     times: &Times,
     files: &mut F,
     out: &mut O,
-) -> Result<bool, Refusal>
-    ensures put { (heard : Bool) × (put : TreePut) × IsTreePut F.Files F.Output.stream files.new listing.old.table.now (volume_now listing.old.volume) short folder.now names.now tree put ×
-        TellsLines heard (O.stream out.old) (O.stream out.new) (tree_lines listing.old.table.now (volume_now listing.old.volume) short tree put) ×
+) -> Result<bool, Stop>
+    ensures put { B.tells → (heard : Bool) × (put : TreePut) × IsTreePut F.Files F.Output.stream files.new (B.states listing.old.table.now) (volume_now listing.old.volume) short folder.now names.now tree put ×
+        TellsLines heard (O.stream out.old) (O.stream out.new) (tree_lines (B.states listing.old.table.now) (volume_now listing.old.volume) short tree put) ×
         IfOk result (λ good. (length put.fates ≡ length tree.nodes.items) × (heard ≡ true) × (good ≡ all_good put.fates)) ×
-        IfErr result (λ refusal. (refusal ≡ Refusal.Memory alloc_error) ⊎ ((refusal ≡ Refusal.Output) × (heard ≡ false))) }
+        IfErr result (IfStopped (λ refusal. (refusal ≡ Refusal.Memory alloc_error) ⊎ ((refusal ≡ Refusal.Output) × (heard ≡ false))) ⊤) }
     ensures same { (listing.new.volume ≡ listing.old.volume) × (listing.new.table ≡ listing.old.table) }
     ensures spares { SparesLost F.Files folder.now files.old files.new }
+    ensures no_node { (i : ℕ) → IsErrOf result (Stop.Refused (Refusal.NoNode i)) → ⊥ }
+    ensures fails { IsErrOf result Stop.Unread → (B.fails → ⊥) → ⊥ }
 {
     let LostTree { folder: icb, nodes } = tree;
     listing.nodes = nodes;
     match put_lost_tree(alloc, listing, icb, names, short, folder, times, files, out) {
         Ok(good) => Ok(good),
-        Err(refusal) => Err(refusal),
+        Err(stop) => Err(stop),
     }
 }
 
 /// Makes all trees in the folder for lost folders, and returns whether nothing failed.
-fn put_trees<F: Files, O: Sink>(
+fn put_trees<B: BlockStore, F: Files, O: Sink>(
     alloc: Global,
-    listing: Listing<'_>,
+    listing: Listing<'_, B>,
     trees: Vec<LostTree>,
     names: &FoundPlaces,
     short: bool,
@@ -201,12 +212,16 @@ fn put_trees<F: Files, O: Sink>(
     times: &Times,
     files: &mut F,
     out: &mut O,
-) -> Result<bool, Refusal>
-    ensures put { IfOk result (PutsTrees (IsTreePut F.Files F.Output.stream files.new listing.entry.table.now (volume_now listing.entry.volume) short folder.now names.now)
-        (tree_lines listing.entry.table.now (volume_now listing.entry.volume) short) trees.items (O.stream out.old) (O.stream out.new)) }
-    ensures why { IfErr result (StopsAt (IsTreePut F.Files F.Output.stream files.new listing.entry.table.now (volume_now listing.entry.volume) short folder.now names.now)
-        (tree_lines listing.entry.table.now (volume_now listing.entry.volume) short) trees.items (O.stream out.old) (O.stream out.new)) }
+) -> Result<bool, Stop>
+    ensures put { IfOk result (λ good. B.tells → PutsTrees (IsTreePut F.Files F.Output.stream files.new (B.states listing.entry.table.now) (volume_now listing.entry.volume) short folder.now names.now)
+        (tree_lines (B.states listing.entry.table.now) (volume_now listing.entry.volume) short) trees.items (O.stream out.old) (O.stream out.new) good) }
+    ensures why { IfErr result (λ stop. B.tells → IfStopped (StopsAt (IsTreePut F.Files F.Output.stream files.new (B.states listing.entry.table.now) (volume_now listing.entry.volume) short folder.now names.now)
+        (tree_lines (B.states listing.entry.table.now) (volume_now listing.entry.volume) short) trees.items (O.stream out.old) (O.stream out.new))
+        (CutAt (IsTreePut F.Files F.Output.stream files.new (B.states listing.entry.table.now) (volume_now listing.entry.volume) short folder.now names.now)
+        (tree_lines (B.states listing.entry.table.now) (volume_now listing.entry.volume) short) trees.items (O.stream out.old) (O.stream out.new)) stop) }
     ensures spares { SparesLost F.Files folder.now files.old files.new }
+    ensures no_node { (i : ℕ) → IsErrOf result (Stop.Refused (Refusal.NoNode i)) → ⊥ }
+    ensures fails { IsErrOf result Stop.Unread → (B.fails → ⊥) → ⊥ }
 {
     let mut current = listing;
     let mut good = true;
@@ -223,7 +238,7 @@ fn put_trees<F: Files, O: Sink>(
             out,
         ) {
             Ok(put) => good = is_all_good(good, put),
-            Err(refusal) => return Err(refusal),
+            Err(stop) => return Err(stop),
         }
     }
     Ok(good)
@@ -236,25 +251,29 @@ fn put_trees<F: Files, O: Sink>(
 /// # Errors
 ///
 /// `LostFolder` where the folder for them could not be made; `Output` where the output failed, and `Memory` where memory ran out: what was reported by then is made.
-pub fn add_trees<F: Files, O: Sink>(
+/// `Unread` where the bytes of a known block could not be read: what was reported by then is made.
+pub fn add_trees<B: BlockStore, F: Files, O: Sink>(
     alloc: Global,
-    listing: Listing<'_>,
+    listing: Listing<'_, B>,
     lost: LostFound,
     request: &ExtractRequest<'_>,
     times: &Times,
     files: &mut F,
     out: &mut O,
-) -> Result<bool, Refusal>
-    requires { MatchOption request.now.trees ⊤ (λ folder. AreFoundOf request.now.deleted (state_of listing.table.now) (listing_now listing) lost.trees.items lost.names) }
-    ensures made { IfOk result (MakesTrees ⟦<F as Known>⟧.reach O.stream request.now files.old files.new out.old out.new listing.entry.table.now (listing_now listing.entry)) }
-    ensures why { IfErr result (λ refusal. MatchOption request.now.trees ⊥ (λ folder. TreesStop F.Files F.Output.stream request.now.deleted request.now.short_names folder.now files.new (O.stream out.old) (O.stream out.new) listing.entry.table.now (listing_now listing.entry) refusal)) }
+) -> Result<bool, Stop>
+    requires { MatchOption request.now.trees ⊤ (λ folder. B.tells → AreFoundOf request.now.deleted (B.states listing.table.now) (listing_by B.states listing) lost.trees.items lost.names) }
+    ensures made { IfOk result (λ good. B.tells → MakesTrees ⟦<F as Known>⟧.reach O.stream request.now files.old files.new out.old out.new (B.states listing.entry.table.now) (listing_by B.states listing.entry) good) }
+    ensures why { IfErr result (λ stop. B.tells → MatchOption request.now.trees ⊥ (λ folder. IfStopped (TreesStop F.Files F.Output.stream request.now.deleted request.now.short_names folder.now files.new (O.stream out.old) (O.stream out.new) (B.states listing.entry.table.now) (listing_by B.states listing.entry))
+        (TreesCut F.Files F.Output.stream request.now.deleted request.now.short_names folder.now files.new (O.stream out.old) (O.stream out.new) (B.states listing.entry.table.now) (listing_by B.states listing.entry)) stop)) }
     ensures spares { MatchOption request.now.trees (files.new ≡ files.old) (λ folder. SparesLost F.Files folder.now files.old files.new) }
+    ensures no_node { (i : ℕ) → IsErrOf result (Stop.Refused (Refusal.NoNode i)) → ⊥ }
+    ensures fails { IsErrOf result Stop.Unread → (B.fails → ⊥) → ⊥ }
 {
     let Some(folder) = request.trees else {
         return Ok(true);
     };
     if !make_if_open(&listing.volume, folder, files) {
-        return Err(Refusal::LostFolder);
+        return Err(Stop::Refused(Refusal::LostFolder));
     }
     let LostFound { trees, names } = lost;
     match put_trees(
@@ -269,6 +288,6 @@ pub fn add_trees<F: Files, O: Sink>(
         out,
     ) {
         Ok(good) => Ok(good),
-        Err(refusal) => Err(refusal),
+        Err(stop) => Err(stop),
     }
 }

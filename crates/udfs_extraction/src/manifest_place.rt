@@ -2,7 +2,7 @@
 
 ghost use Rattle.std.specs.Prelude.{◌≡◌, ◌⊎◌, ◌∷◌, ◌++◌, ℕ, List, Some, true, false, IfOk, IfErr, IsErrOf, OnErr, OnOk, codes, map, string_bytes, alloc_error};
 ghost use Rattle.udfs_common.specs.Guarding.{MayNotBeSeen};
-ghost use Rattle.udfs_files.specs.Disk.{Fails};
+ghost use Rattle.udfs_host_fs.specs.Disk.{Fails};
 ghost use Rattle.udfs_extraction.specs.BarePaths.{bare};
 ghost use Rattle.udfs_extraction.specs.Manifests.{IsBeside, IsFreeManifest, IsNear, IsNoManifest, IsSparedManifest};
 ghost use Rattle.udfs_extraction.specs.SumLines.{begins_as_sums, begins_by, fits, is_digit};
@@ -12,7 +12,7 @@ use std::alloc::{AllocError, Global};
 use udfs_common::files::Files;
 use udfs_common::placing::{begin_so, is_no_input};
 use udfs_common::refusal::Refusal;
-use udfs_files::{Aim, Kind};
+use udfs_host_fs::{Aim, Kind};
 use udfs_reading::{DeviceFault, Source};
 use udfs_salvage::choosing::goes_on;
 

@@ -2,15 +2,16 @@
 
 ghost use Rattle.std.specs.Prelude.{◌≡◌, ◌++◌, List, ℕ, IfErr, IfOk, OnErr, OnOk};
 ghost use Rattle.std.specs.Io.KnownBytes.{Appends};
-ghost use Rattle.udfs_files.specs.Disk.{SinkFails};
-ghost use Rattle.udfs_salvage.specs.Listings.{listing_now};
+ghost use Rattle.udfs_host_fs.specs.Disk.{SinkFails};
+ghost use Rattle.udfs_salvage.specs.Listings.{listing_by};
 ghost use Rattle.udfs_extraction.specs.Manifests.{note_text, notes_text};
 ghost use Rattle.udfs_extraction.specs.ShortNames.{IsWay};
 
 use crate::manifest::{Noted, behind_slash, push_sum_line};
 use crate::places::place_from;
 use std::alloc::{AllocError, Global};
-use udfs_files::Job;
+use udfs_host_fs::Job;
+use udfs_lattice::BlockStore;
 use udfs_reading::{Sink, WriteFault, write_all};
 use udfs_salvage::Listing;
 
@@ -49,17 +50,17 @@ impl From<WriteFault> for TextError {
 }
 
 /// Appends the line of a file that was noted. `way` has the way to the node of the index `at`, and then to the node whose index is returned.
-fn push_noted(
+fn push_noted<B: BlockStore>(
     alloc: Global,
-    listing: &Listing<'_>,
+    listing: &Listing<'_, B>,
     short: bool,
     noted: Noted,
     at: usize,
     way: &mut Vec<usize>,
     text: &mut Vec<u8>,
 ) -> Result<usize, AllocError>
-    ensures line { IfOk result (λ next. IsWay (listing_now listing.now).nodes at way.old.items → text.new.items ≡ text.old.items ++ note_text short (listing_now listing.now) noted) }
-    ensures way { IfOk result (λ next. IsWay (listing_now listing.now).nodes at way.old.items → IsWay (listing_now listing.now).nodes next way.new.items) }
+    ensures line { IfOk result (λ next. IsWay (listing_by B.states listing.now).nodes at way.old.items → text.new.items ≡ text.old.items ++ note_text short (listing_by B.states listing.now) noted) }
+    ensures way { IfOk result (λ next. IsWay (listing_by B.states listing.now).nodes at way.old.items → IsWay (listing_by B.states listing.now).nodes next way.new.items) }
 {
     if noted.index >= listing.nodes.len() {
         return Ok(at);
@@ -88,14 +89,14 @@ fn pour<W: Sink>(text: &mut Vec<u8>, sink: &mut W) -> Result<(), WriteFault>
 }
 
 /// Writes the lines of the files that were noted, in order.
-fn write_lines<W: Sink>(
+fn write_lines<B: BlockStore, W: Sink>(
     alloc: Global,
-    listing: &Listing<'_>,
+    listing: &Listing<'_, B>,
     short: bool,
     noted: &[Noted],
     sink: &mut W,
 ) -> Result<(), TextError>
-    ensures wrote { OnOk result (Appends (W.stream sink.old).contents (W.stream sink.new).contents (notes_text short (listing_now listing.now) noted.now)) }
+    ensures wrote { OnOk result (Appends (W.stream sink.old).contents (W.stream sink.new).contents (notes_text short (listing_by B.states listing.now) noted.now)) }
     ensures cause { IfErr result (λ error. error ≡ TextError.NotWritten → SinkFails W.stream) }
 {
     let mut text = Vec::new(alloc);
@@ -111,23 +112,23 @@ fn write_lines<W: Sink>(
 
 /// The text of the manifest of these files, each with the place of its node in the folder.
 #[derive(Drop)]
-pub struct ManifestText<'a, 'r> {
+pub struct ManifestText<'a, 'r, B: BlockStore> {
     /// Where memory is taken from.
     pub alloc: Global,
     /// The listing that has the nodes.
-    pub listing: &'a Listing<'r>,
+    pub listing: &'a Listing<'r, B>,
     /// Whether names that are too long have short ones.
     pub short: bool,
     /// The files.
     pub noted: &'a [Noted],
 }
 
-impl<'a, 'r> Job for ManifestText<'a, 'r> {
+impl<'a, 'r, B: BlockStore> Job for ManifestText<'a, 'r, B> {
     ghost use Rattle.udfs_extraction.specs.declared.manifest_text.TextError.TheVariants as text_error;
 
     type Refusal = TextError;
 
-    ghost wrote = { λ job old new. Appends old new (notes_text job.short (listing_now job.listing.now) job.noted.now) };
+    ghost wrote = { λ job old new. Appends old new (notes_text job.short (listing_by B.states job.listing.now) job.noted.now) };
 
     ghost blames_sink = { λ _ error. error ≡ text_error.NotWritten };
 

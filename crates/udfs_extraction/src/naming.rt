@@ -1,7 +1,7 @@
 //! The names of files come to the disk folder by folder: at once for all that were written there.
 
 ghost use Rattle.std.specs.Prelude.{◌≡◌, ◌≢◌, ◌<◌, ◌++◌, ⊤, ℕ, List, Some, true, false, IfOk, IfSome, MatchOption, OnErr, OnOk, codes, length, slice_get, string_bytes};
-ghost use Rattle.udfs_files.specs.Disk.{Fails, Goes, Same, SameBut, folder_of};
+ghost use Rattle.udfs_host_fs.specs.Disk.{Fails, Goes, Same, SameBut, folder_of};
 ghost use Rattle.udfs_extraction.specs.Runs.{AreKept, IsEnd, IsNamed};
 
 use crate::node_files::give_up;

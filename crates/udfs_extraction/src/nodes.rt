@@ -1,30 +1,33 @@
 //! The files and folders of a volume, written into a new folder.
 
-ghost use Rattle.std.specs.Prelude.{◌≡◌, ◌<◌, ◌⊎◌, ℕ, Bool, true, false, ◌&&◌, List, Some, IfOk, IfErr, length, drop, None, Option, map, option_map, if◌then◌else◌};
-ghost use Rattle.udfs_files.specs.Disk.{Goes, Fails, SinkFails};
-ghost use Rattle.udfs_salvage.specs.Listings.{listing_now};
+ghost use Rattle.std.specs.Prelude.{◌≡◌, ◌<◌, ◌⊎◌, ℕ, Bool, true, false, ◌&&◌, List, Some, IfOk, IfErr, IsErrOf, OnErr, length, drop, None, Option, map, option_map, if◌then◌else◌};
+ghost use Rattle.udfs_host_fs.specs.Disk.{Goes, Fails, SinkFails};
+ghost use Rattle.udfs_salvage.specs.Listings.{listing_by};
 ghost use Rattle.udfs_words.specs.Requests.{texts};
 ghost use Rattle.udfs_extraction.specs.ByRequest.{IsNodePut, fill_of};
 ghost use Rattle.udfs_extraction.specs.Extracting.{IsDone, IsElsewhere, IsIn, IsPutAt, Puts, Spares, SparesNodes, Stay, all_good, is_good, node_line};
 ghost use Rattle.udfs_extraction.specs.Manifests.{IsManifest, PutsNoted, notes_text};
-ghost use Rattle.udfs_extraction.specs.Refused.{NodesStop};
+ghost use Rattle.udfs_extraction.specs.Refused.{NodesCut, NodesStop};
+ghost use Rattle.udfs_extraction.specs.Stopping.{IfStopped};
 
 use crate::choosing::all_are_nodes;
 use crate::fate_remarks::remark_on_totals;
 use crate::manifest::Noted;
 use crate::node_files::put_folder;
 use crate::runs::{Told, put_run};
+use crate::stopping::Stop;
 use crate::times::set_folder_times;
 use std::alloc::{AllocError, Global};
 use udfs_common::files::Files;
 use udfs_common::known::Known;
 use udfs_common::refusal::Refusal;
+use udfs_host_fs::Times;
+use udfs_lattice::{BlockStore, GaveUp, ReadFault};
 use udfs_reading::Sink;
 use udfs_remarks::no_reports::refused_run;
-use udfs_remarks::remarks::{remark_on_left_out, remark_on_listing};
+use udfs_remarks::remarks::{UNREAD, remark_on_left_out, remark_on_listing_by};
 use udfs_salvage::choosing::chosen_are_whole;
-use udfs_salvage::{Fill, Listing, Volume, write_volume_line};
-use udfs_times::Times;
+use udfs_salvage::{Fill, Listing, ReportStore, Volume, write_volume_line};
 use udfs_words::request::ExtractRequest;
 
 /// What is done with a node.
@@ -76,9 +79,9 @@ pub fn still_good(good: bool, fate: Fate) -> bool
 
 /// Goes through the nodes after the root, in order, run by run; `word` stands before their paths in what is printed. Where the output fails, it goes on, but
 /// prints no more.
-pub fn put_nodes<F: Files, O: Sink>(
+pub fn put_nodes<B: BlockStore, F: Files, O: Sink>(
     alloc: Global,
-    listing: &Listing<'_>,
+    listing: &Listing<'_, B>,
     word: &str,
     only: &[&str],
     fill: Fill,
@@ -88,16 +91,17 @@ pub fn put_nodes<F: Files, O: Sink>(
     times: &Times,
     files: &mut F,
     out: &mut O,
-) -> Result<Told, AllocError>
-    ensures put { (heard : Bool) × (fates : List Fate) × Puts (node_line word.now short (listing_now listing.now)) (IsDone (texts only.now)
-        (IsPutAt F.Files F.Output.stream files.new listing.now.table.now (listing_now listing.now) fill short folder.now))
-        (listing_now listing.now).nodes (O.stream out.old) (O.stream out.new) heard fates ×
-        IfOk result (λ told. (length fates ≡ length (drop 1 (listing_now listing.now).nodes)) × (told.heard ≡ heard) × (told.good ≡ all_good fates) ×
-        (digest ≡ true → F.tells → IsManifest (F.holds files.new) folder.now short (listing_now listing.now) fates (notes_text short (listing_now listing.now) told.manifest.items))) }
+) -> Result<Told, GaveUp>
+    ensures put { B.tells → (heard : Bool) × (fates : List Fate) × Puts (node_line word.now short (listing_by B.states listing.now)) (IsDone (texts only.now)
+        (IsPutAt F.Files F.Output.stream files.new (B.states listing.now.table.now) (listing_by B.states listing.now) fill short folder.now))
+        (listing_by B.states listing.now).nodes (O.stream out.old) (O.stream out.new) heard fates ×
+        IfOk result (λ told. (length fates ≡ length (drop 1 (listing_by B.states listing.now).nodes)) × (told.heard ≡ heard) × (told.good ≡ all_good fates) ×
+        (digest ≡ true → F.tells → IsManifest (F.holds files.new) folder.now short (listing_by B.states listing.now) fates (notes_text short (listing_by B.states listing.now) told.manifest.items))) }
     ensures stays { F.tells → Stay (F.holds files.old) (F.holds files.new) }
     ensures outside { (q : List ℕ) → (¬ IsIn folder.now q) → F.holds files.new q ≡ F.holds files.old q }
-    ensures elsewhere { (q : List ℕ) → IsElsewhere (texts only.now) fill short (listing_now listing.now) folder.now q → F.holds files.new q ≡ F.holds files.old q }
+    ensures elsewhere { (q : List ℕ) → IsElsewhere (texts only.now) fill short (listing_by B.states listing.now) folder.now q → F.holds files.new q ≡ F.holds files.old q }
     ensures crash { F.tells → Goes F.moment F.may_leave F.left_since files.old files.new (Spares folder.now (F.holds files.old)) }
+    ensures fails { IsErrOf result GaveUp.Unread → (B.fails → ⊥) → ⊥ }
 {
     let mut told = Told::new(alloc);
     let mut way = Vec::new(alloc);
@@ -137,11 +141,29 @@ pub struct Made {
     pub manifest: Option<Vec<Noted>>,
 }
 
+/// Says in remarks what is said of a volume that opens, beside what was made of it, or that an input could not be read for it.
+fn remark_open<B: ReportStore, F: Files>(alloc: Global, listing: &Listing<'_, B>, files: &F) {
+    if let Err(ReadFault) = remark_on_left_out(alloc, listing, files) {
+        files.remark(UNREAD);
+    }
+}
+
+/// The same of one that does not open.
+fn remark_closed<B: ReportStore, F: Files>(alloc: Global, listing: &Listing<'_, B>, files: &F) {
+    if let Err(ReadFault) = remark_on_listing_by(alloc, listing, files) {
+        files.remark(UNREAD);
+    }
+}
+
 /// Makes the folder and what the report has for it, as far as it is asked for; where the volume does not open, it makes nothing, and prints the line of the
 /// volume. Where `digest` says so, the digests of the files are taken while they are written.
-pub fn put_report<F: Files, O: Sink>(
+///
+/// # Errors
+///
+/// `Unread` where the bytes of a known block could not be read: what was reported by then is made. `Refused`: why else not all was made.
+pub fn put_report<B: ReportStore, F: Files, O: Sink>(
     alloc: Global,
-    listing: &Listing<'_>,
+    listing: &Listing<'_, B>,
     only: &[&str],
     fill: Fill,
     short: bool,
@@ -150,40 +172,46 @@ pub fn put_report<F: Files, O: Sink>(
     times: &Times,
     files: &mut F,
     out: &mut O,
-) -> Result<Made, Refusal>
-    ensures put { IfOk result (λ made. PutsNoted (texts only.now) short
-        (λ told. IsPutAt F.Files F.Output.stream files.new listing.now.table.now told fill short folder.now)
+) -> Result<Made, Stop>
+    ensures put { IfOk result (λ made. B.tells → PutsNoted (texts only.now) short
+        (λ told. IsPutAt F.Files F.Output.stream files.new (B.states listing.now.table.now) told fill short folder.now)
         (λ told fates text. digest ≡ true → F.tells → IsManifest (F.holds files.new) folder.now short told fates text)
-        files.old files.new (listing_now listing.now) (O.stream out.old) (O.stream out.new) made.good (option_map (λ m. notes_text short (listing_now listing.now) m.items) made.manifest)) }
-    ensures why { IfErr result (NodesStop F.Files F.Output.stream (texts only.now) folder.now fill short files.old files.new (O.stream out.old) (O.stream out.new) listing.now.table.now (listing_now listing.now)) }
+        files.old files.new (listing_by B.states listing.now) (O.stream out.old) (O.stream out.new) made.good (option_map (λ m. notes_text short (listing_by B.states listing.now) m.items) made.manifest)) }
+    ensures why { IfErr result (λ stop. B.tells → IfStopped (NodesStop F.Files F.Output.stream (texts only.now) folder.now fill short files.old files.new (O.stream out.old) (O.stream out.new) (B.states listing.now.table.now) (listing_by B.states listing.now))
+        (NodesCut F.Files F.Output.stream (texts only.now) folder.now fill short files.new (O.stream out.old) (O.stream out.new) (B.states listing.now.table.now) (listing_by B.states listing.now)) stop) }
+    ensures no_node { (i : ℕ) → IsErrOf result (Stop.Refused (Refusal.NoNode i)) → files.new ≡ files.old }
     ensures stays { F.tells → Stay (F.holds files.old) (F.holds files.new) }
     ensures outside { (q : List ℕ) → (¬ IsIn folder.now q) → F.holds files.new q ≡ F.holds files.old q }
-    ensures elsewhere { (q : List ℕ) → IsElsewhere (texts only.now) fill short (listing_now listing.now) folder.now q → F.holds files.new q ≡ F.holds files.old q }
+    ensures elsewhere { (q : List ℕ) → IsElsewhere (texts only.now) fill short (listing_by B.states listing.now) folder.now q → F.holds files.new q ≡ F.holds files.old q }
     ensures crash { F.tells → Goes F.moment F.may_leave F.left_since files.old files.new (Spares folder.now (F.holds files.old)) }
+    ensures fails { IsErrOf result Stop.Unread → (B.fails → ⊥) → ⊥ }
 {
     match &listing.volume {
         Volume::Open(_) => {
             match all_are_nodes(alloc, only, &listing.nodes) {
                 Ok(()) => {}
-                Err(refusal) => return Err(refusal),
+                Err(refusal) => return Err(Stop::Refused(refusal)),
             }
             let whole = match chosen_are_whole(alloc, only, &listing.nodes) {
                 Ok(whole) => whole,
-                Err(AllocError) => return Err(Refusal::Memory(AllocError)),
+                Err(AllocError) => return Err(Stop::Refused(Refusal::Memory(AllocError))),
             };
             if put_folder(folder, files) != Fate::Made {
-                return Err(Refusal::Folder);
+                return Err(Stop::Refused(Refusal::Folder));
             }
             let told = match put_nodes(
                 alloc, listing, "", only, fill, short, digest, folder, times, files, out,
             ) {
                 Ok(told) => told,
-                Err(AllocError) => return Err(Refusal::Memory(AllocError)),
+                Err(GaveUp::OutOfMemory) => {
+                    return Err(Stop::Refused(Refusal::Memory(AllocError)));
+                }
+                Err(GaveUp::Unread) => return Err(Stop::Unread),
             };
             if !told.heard {
-                return Err(Refusal::Output);
+                return Err(Stop::Refused(Refusal::Output));
             }
-            remark_on_left_out(alloc, listing, files);
+            remark_open(alloc, listing, files);
             remark_on_totals(alloc, &told.totals, files);
             Ok(Made {
                 good: is_all_good(told.good, whole),
@@ -192,9 +220,9 @@ pub fn put_report<F: Files, O: Sink>(
         }
         _ => {
             if let Err(error) = write_volume_line(&listing.volume, out) {
-                return Err(refused_run(error));
+                return Err(Stop::Refused(refused_run(error)));
             }
-            remark_on_listing(alloc, listing, files);
+            remark_closed(alloc, listing, files);
             Ok(Made {
                 good: false,
                 manifest: None,
@@ -211,21 +239,24 @@ fn fill_of(fill: bool) -> Fill
 }
 
 /// Makes what a request asks for of a report: see [`put_report`].
-pub fn make_nodes<F: Files, O: Sink>(
+pub fn make_nodes<B: ReportStore, F: Files, O: Sink>(
     alloc: Global,
-    listing: &Listing<'_>,
+    listing: &Listing<'_, B>,
     request: &ExtractRequest<'_>,
     digest: bool,
     times: &Times,
     files: &mut F,
     out: &mut O,
-) -> Result<Made, Refusal>
-    ensures put { IfOk result (λ made. PutsNoted (texts request.now.only.items) request.now.short_names (IsNodePut ⟦<F as Known>⟧.reach request.now files.new listing.now.table.now)
+) -> Result<Made, Stop>
+    ensures put { IfOk result (λ made. B.tells → PutsNoted (texts request.now.only.items) request.now.short_names (IsNodePut ⟦<F as Known>⟧.reach request.now files.new (B.states listing.now.table.now))
         (λ told fates text. digest ≡ true → F.tells → IsManifest (F.holds files.new) request.now.folder.now request.now.short_names told fates text)
-        files.old files.new (listing_now listing.now) (O.stream out.old) (O.stream out.new) made.good (option_map (λ m. notes_text request.now.short_names (listing_now listing.now) m.items) made.manifest)) }
-    ensures why { IfErr result (NodesStop F.Files F.Output.stream (texts request.now.only.items) request.now.folder.now (fill_of request.now.fill) request.now.short_names files.old files.new (O.stream out.old) (O.stream out.new) listing.now.table.now (listing_now listing.now)) }
-    ensures elsewhere { (q : List ℕ) → IsElsewhere (texts request.now.only.items) (fill_of request.now.fill) request.now.short_names (listing_now listing.now) request.now.folder.now q → F.holds files.new q ≡ F.holds files.old q }
+        files.old files.new (listing_by B.states listing.now) (O.stream out.old) (O.stream out.new) made.good (option_map (λ m. notes_text request.now.short_names (listing_by B.states listing.now) m.items) made.manifest)) }
+    ensures why { IfErr result (λ stop. B.tells → IfStopped (NodesStop F.Files F.Output.stream (texts request.now.only.items) request.now.folder.now (fill_of request.now.fill) request.now.short_names files.old files.new (O.stream out.old) (O.stream out.new) (B.states listing.now.table.now) (listing_by B.states listing.now))
+        (NodesCut F.Files F.Output.stream (texts request.now.only.items) request.now.folder.now (fill_of request.now.fill) request.now.short_names files.new (O.stream out.old) (O.stream out.new) (B.states listing.now.table.now) (listing_by B.states listing.now)) stop) }
+    ensures no_node { (i : ℕ) → IsErrOf result (Stop.Refused (Refusal.NoNode i)) → files.new ≡ files.old }
+    ensures elsewhere { (q : List ℕ) → IsElsewhere (texts request.now.only.items) (fill_of request.now.fill) request.now.short_names (listing_by B.states listing.now) request.now.folder.now q → F.holds files.new q ≡ F.holds files.old q }
     ensures spares { SparesNodes F.Files request.now.folder.now files.old files.new }
+    ensures fails { IsErrOf result Stop.Unread → (B.fails → ⊥) → ⊥ }
 {
     let only = request.only.as_slice();
     let fill = fill_of(request.fill);
@@ -243,6 +274,6 @@ pub fn make_nodes<F: Files, O: Sink>(
         out,
     ) {
         Ok(made) => Ok(made),
-        Err(refusal) => Err(refusal),
+        Err(stop) => Err(stop),
     }
 }

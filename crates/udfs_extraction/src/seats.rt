@@ -1,7 +1,7 @@
 //! Where what is lost is written: by its number, or by a name that was found for it.
 
 ghost use Rattle.std.specs.Prelude.{◌≡◌, ◌++◌, ℕ, List, None, Option, IfOk, IfSome, OnOk, codes, string_bytes};
-ghost use Rattle.udfs_files.specs.Disk.{Goes, Same};
+ghost use Rattle.udfs_host_fs.specs.Disk.{Goes, Same};
 ghost use Rattle.udfs_extraction.specs.Seats.{FoundAt, IsSeat, found_part, found_way, found_word, lead_part, lead_word, seat_path, seat_word, tree_word};
 
 use crate::found_places::{FoundPlace, FoundPlaces};
@@ -9,7 +9,7 @@ use crate::node_files::{path_in, put_folder};
 use crate::short_names::push_icb_number;
 use std::alloc::{AllocError, Global};
 use udfs_common::files::Files;
-use udfs_files::{Aim, Kind};
+use udfs_host_fs::{Aim, Kind};
 use udfs_tag::LbAddr;
 
 /// Where a tree is written.

@@ -11,11 +11,12 @@ use std::fmt::Write;
 use udfs_common::files::Files;
 use udfs_common::shown::Said;
 use udfs_file::Kind;
+use udfs_host_fs::Times;
+use udfs_lattice::BlockStore;
 use udfs_osta::Stamp;
 use udfs_overview::push_shown_path;
 use udfs_salvage::Listing;
 use udfs_salvage::choosing::is_above;
-use udfs_times::Times;
 use udfs_walk::{Node, Unnamed};
 
 /// The times of what is made: where they are asked for they are kept, by the zone of the machine's clock.
@@ -192,9 +193,9 @@ pub fn note_time<F: Files>(
 
 /// Sets the time of the folder that was made for the node of this index. `way` has the way to the node of the index `at`, and then the way to this one,
 /// or none where memory ran out. Returns the index of the node to which `way` leads then.
-fn set_folder_time<F: Files>(
+fn set_folder_time<B: BlockStore, F: Files>(
     alloc: Global,
-    listing: &Listing<'_>,
+    listing: &Listing<'_, B>,
     word: &str,
     at: usize,
     index: usize,
@@ -230,9 +231,9 @@ fn set_folder_time<F: Files>(
 
 /// Sets the times of the folders that were made, in order, and last that of `folder`, which is the root's. `made` holds the indexes of their nodes.
 /// Setting one changes no other.
-pub fn set_folder_times<F: Files>(
+pub fn set_folder_times<B: BlockStore, F: Files>(
     alloc: Global,
-    listing: &Listing<'_>,
+    listing: &Listing<'_, B>,
     word: &str,
     made: &[usize],
     short: bool,

@@ -1,39 +1,44 @@
 //! Lost files, which are written to a folder of their own: whole files with data that no name leads to.
 
-ghost use Rattle.std.specs.Prelude.{◌≡◌, ◌≢◌, ◌<◌, ◌⊎◌, ◌++◌, ⊤, ℕ, Bool, false, true, List, [], Some, None, IfOk, IfErr, MatchOption, OnOk, OnErr, alloc_error, length, slice_get, string_bytes};
+ghost use Rattle.std.specs.Prelude.{◌≡◌, ◌≢◌, ◌<◌, ◌⊎◌, ◌++◌, ⊤, ℕ, Bool, false, true, List, [], Some, None, IfOk, IfErr, IsErrOf, MatchOption, OnOk, OnErr, length, slice_get, string_bytes};
 ghost use Rattle.std.specs.Io.KnownBytes.{Appends};
 ghost use Rattle.udfs_file.specs.declared.cells.Cell.{Cell};
-ghost use Rattle.udfs_files.specs.Disk.{Same, SameBut, Goes, Fails, SinkFails};
-ghost use Rattle.udfs_lattice.specs.Tables.{state_of};
+ghost use Rattle.udfs_host_fs.specs.Disk.{Same, SameBut, Goes, Fails, SinkFails};
 ghost use Rattle.udfs_volume.specs.declared.profiles.Profile.{Profile};
 ghost use Rattle.udfs_walk.specs.declared.answers.Unnamed.{Unnamed};
 ghost use Rattle.udfs_salvage.specs.declared.extraction.ExtractError.TheVariants as extract_error;
+ghost use Rattle.udfs_salvage.specs.declared.extraction.StoreExtractError.TheVariants as store_error;
 ghost use Rattle.udfs_salvage.specs.Extraction.{filled};
 ghost use Rattle.udfs_salvage.specs.Found.{volume_now};
-ghost use Rattle.udfs_salvage.specs.Listings.{AreUnnamed, listing_now};
+ghost use Rattle.udfs_salvage.specs.Listings.{AreUnnamedBy, listing_by};
 ghost use Rattle.udfs_salvage.specs.Reports.{IsReportBy};
 ghost use Rattle.udfs_salvage.specs.Texts.{has_two, line};
 ghost use Rattle.udfs_salvage.specs.UnnamedExtraction.{HasUnnamedCellsBy, is_lost_file};
 ghost use Rattle.udfs_extraction.specs.Extracting.{IsFateOf, TellsLines, TellsOn, all_good};
 ghost use Rattle.udfs_common.specs.Keeping.{IsKept};
 ghost use Rattle.udfs_extraction.specs.ByRequest.{MakesLost};
-ghost use Rattle.udfs_extraction.specs.Refused.{LostStops};
+ghost use Rattle.udfs_extraction.specs.Refused.{LostCut, LostStops};
+ghost use Rattle.udfs_extraction.specs.Stopping.{IfStopped};
 ghost use Rattle.udfs_extraction.specs.LostFiles.{EachLost, IsLostPutAt, PutsLost, SparesLost, lost_line, lost_lines, lost_name, lost_path};
 
-use crate::node_files::{finish_file, give_up, put_folder};
+use crate::node_files::{NodeFault, finish_file, give_up, put_folder};
 use crate::nodes::{Deed, Fate, still_good};
 use crate::short_names::push_icb_number;
 use crate::spare::Spare;
+use crate::stopping::Stop;
 use crate::times::set_lost_time;
 use std::alloc::{AllocError, Global};
+use std::marker::PhantomData;
 use udfs_common::files::Files;
 use udfs_common::known::Known;
 use udfs_common::refusal::Refusal;
-use udfs_files::{Job, fill_by};
+use udfs_host_fs::{Job, Times, fill_by};
+use udfs_lattice::{BlockStore, GaveUp};
 use udfs_reading::{Sink, WriteFault, write_all};
-use udfs_remarks::looking::unnamed_in;
-use udfs_salvage::{ExtractError, Listing, Volume, has_two_partitions, is_lost_file, write_lost};
-use udfs_times::Times;
+use udfs_salvage::{
+    ExtractError, Listing, StoreExtractError, Volume, has_two_partitions, is_lost_file,
+    list_unnamed_by, write_lost_by,
+};
 use udfs_walk::Unnamed;
 
 /// Appends the name of the file of an entry: its logical block, with the partition reference in front where there are two partitions.
@@ -104,70 +109,96 @@ fn entry_at(entries: &[Unnamed], index: usize) -> &Unnamed
 
 /// The bytes of the lost file of this index.
 #[derive(Drop)]
-struct LostBytes<'a, 'r> {
+struct LostBytes<'a, 'r, B: BlockStore> {
     alloc: Global,
-    listing: &'a Listing<'r>,
+    listing: &'a Listing<'r, B>,
     entries: &'a [Unnamed],
     index: usize,
     spare: &'a Spare,
 }
 
-impl<'a, 'r> Job for LostBytes<'a, 'r> {
-    type Refusal = ExtractError;
-
-    ghost wrote = { λ job old new. (profile : Profile) (last : ℕ) (u : Unnamed) → (job.index < length job.entries.now) → AreUnnamed job.listing.now job.entries.now →
-        IsReportBy profile (state_of job.listing.now.table.now) last (listing_now job.listing.now) → slice_get (listing_now job.listing.now).unnamed job.index ≡ Some u → is_lost_file u ≡ true →
-        (cs : List Cell) × HasUnnamedCellsBy profile (state_of job.listing.now.table.now) last u cs × Appends old new (filled 0 cs) };
-
-    ghost blames_sink = { λ job refusal. (refusal ≢ extract_error.OutOfMemory) × (job.index < length job.entries.now) × AreUnnamed job.listing.now job.entries.now × (profile : Profile) × (last : ℕ) × (u : Unnamed) ×
-        IsReportBy profile (state_of job.listing.now.table.now) last (listing_now job.listing.now) × (slice_get (listing_now job.listing.now).unnamed job.index ≡ Some u) × (is_lost_file u ≡ true) };
-
-    fn write_to<W: Sink>(&self, sink: &mut W) -> Result<(), ExtractError> {
+impl<'a, 'r, B: BlockStore> LostBytes<'a, 'r, B> {
+    /// Writes them.
+    fn write<W: Sink>(&self, sink: &mut W) -> Result<(), StoreExtractError>
+        ensures wrote { OnOk result (B.tells → (profile : Profile) (last : ℕ) (u : Unnamed) → (self.now.index < length self.now.entries.now) → AreUnnamedBy B.states self.now.listing.now self.now.entries.now →
+            IsReportBy profile (B.states self.now.listing.now.table.now) last (listing_by B.states self.now.listing.now) → slice_get (listing_by B.states self.now.listing.now).unnamed self.now.index ≡ Some u → is_lost_file u ≡ true →
+            (cs : List Cell) × HasUnnamedCellsBy profile (B.states self.now.listing.now.table.now) last u cs × Appends (W.stream sink.old).contents (W.stream sink.new).contents (filled 0 cs)) }
+        ensures cause { IfErr result (λ error. (error ≢ store_error.Extract extract_error.OutOfMemory) → (error ≢ store_error.Unread) → B.tells → (self.now.index < length self.now.entries.now) → AreUnnamedBy B.states self.now.listing.now self.now.entries.now → (profile : Profile) (last : ℕ) (u : Unnamed) →
+            IsReportBy profile (B.states self.now.listing.now.table.now) last (listing_by B.states self.now.listing.now) → slice_get (listing_by B.states self.now.listing.now).unnamed self.now.index ≡ Some u → is_lost_file u ≡ true → SinkFails W.stream) }
+        ensures fails { IsErrOf result StoreExtractError.Unread → B.fails }
+    {
         if self.index >= self.entries.len() {
-            return Err(ExtractError::NotWhole);
+            return Err(StoreExtractError::Extract(ExtractError::NotWhole));
         }
         let Ok(mut out) = self.spare.take(self.alloc) else {
-            return Err(ExtractError::OutOfMemory);
+            return Err(StoreExtractError::Extract(ExtractError::OutOfMemory));
         };
-        write_lost(
+        match write_lost_by(
             self.alloc,
             self.listing,
             self.entries,
             self.index,
             &mut out,
             sink,
-        )?;
-        self.spare.keep(out);
-        Ok(())
+        ) {
+            Ok(()) => {
+                self.spare.keep(out);
+                Ok(())
+            }
+            Err(error) => Err(error),
+        }
     }
 }
 
-/// Writes the lost file of this index to `output`, a new file at `path`. Where that fails, or memory runs out, it tries to remove the file.
-fn fill_lost<F: Files>(
+impl<'a, 'r, B: BlockStore> Job for LostBytes<'a, 'r, B> {
+    type Refusal = NodeFault<B>;
+
+    ghost wrote = { λ job old new. B.tells → (profile : Profile) (last : ℕ) (u : Unnamed) → (job.index < length job.entries.now) → AreUnnamedBy B.states job.listing.now job.entries.now →
+        IsReportBy profile (B.states job.listing.now.table.now) last (listing_by B.states job.listing.now) → slice_get (listing_by B.states job.listing.now).unnamed job.index ≡ Some u → is_lost_file u ≡ true →
+        (cs : List Cell) × HasUnnamedCellsBy profile (B.states job.listing.now.table.now) last u cs × Appends old new (filled 0 cs) };
+
+    ghost blames_sink = { λ job fault. (fault.error ≢ store_error.Extract extract_error.OutOfMemory) × (fault.error ≢ store_error.Unread) × B.tells × (job.index < length job.entries.now) × AreUnnamedBy B.states job.listing.now job.entries.now × (profile : Profile) × (last : ℕ) × (u : Unnamed) ×
+        IsReportBy profile (B.states job.listing.now.table.now) last (listing_by B.states job.listing.now) × (slice_get (listing_by B.states job.listing.now).unnamed job.index ≡ Some u) × (is_lost_file u ≡ true) };
+
+    fn write_to<W: Sink>(&self, sink: &mut W) -> Result<(), NodeFault<B>> {
+        match self.write(sink) {
+            Ok(()) => Ok(()),
+            Err(error) => Err(NodeFault {
+                error,
+                of: PhantomData,
+            }),
+        }
+    }
+}
+
+/// Writes the lost file of this index to `output`, a new file at `path`. Where that fails, or an input can not be read again, or memory runs out, it tries to remove
+/// the file.
+fn fill_lost<B: BlockStore, F: Files>(
     alloc: Global,
-    listing: &Listing<'_>,
+    listing: &Listing<'_, B>,
     entries: &[Unnamed],
     index: usize,
     path: &str,
     output: F::Output,
     spare: &Spare,
     files: &mut F,
-) -> Result<Fate, AllocError>
+) -> Result<Fate, GaveUp>
     requires index { index < length entries.now }
-    requires entries { AreUnnamed listing.now entries.now }
+    requires entries { B.tells → AreUnnamedBy B.states listing.now entries.now }
     requires number { F.tells → F.Output.number output ≢ None }
     requires at { F.is_at files.old path.now (F.Output.number output) }
     requires empty { F.tells → (F.Output.stream output).contents ≡ Some [] }
     requires open { F.holds files.old path.now ≡ None }
-    ensures written { IfOk result (λ fate. fate ≡ Fate.Written → F.tells → (profile : Profile) (last : ℕ) (u : Unnamed) →
-        IsReportBy profile (state_of listing.now.table.now) last (listing_now listing.now) → slice_get (listing_now listing.now).unnamed index ≡ Some u → is_lost_file u ≡ true →
-        (cs : List Cell) × HasUnnamedCellsBy profile (state_of listing.now.table.now) last u cs × IsKept (F.holds files.new) (F.may_leave files.new) path.now (filled 0 cs)) }
+    ensures written { IfOk result (λ fate. B.tells → fate ≡ Fate.Written → F.tells → (profile : Profile) (last : ℕ) (u : Unnamed) →
+        IsReportBy profile (B.states listing.now.table.now) last (listing_by B.states listing.now) → slice_get (listing_by B.states listing.now).unnamed index ≡ Some u → is_lost_file u ≡ true →
+        (cs : List Cell) × HasUnnamedCellsBy profile (B.states listing.now.table.now) last u cs × IsKept (F.holds files.new) (F.may_leave files.new) path.now (filled 0 cs)) }
     ensures gone { IfOk result (λ fate. fate ≡ Fate.Failed → F.tells → F.holds files.new path.now ≡ Some None) }
     ensures fate { IfOk result (λ fate. IsFateOf Deed.File fate) }
-    ensures cause { IfOk result (λ fate. fate ≢ Fate.Written → (profile : Profile) (last : ℕ) (u : Unnamed) →
-        IsReportBy profile (state_of listing.now.table.now) last (listing_now listing.now) → slice_get (listing_now listing.now).unnamed index ≡ Some u → is_lost_file u ≡ true → Fails F.faults ⊎ SinkFails F.Output.stream) }
+    ensures cause { IfOk result (λ fate. B.tells → fate ≢ Fate.Written → (profile : Profile) (last : ℕ) (u : Unnamed) →
+        IsReportBy profile (B.states listing.now.table.now) last (listing_by B.states listing.now) → slice_get (listing_by B.states listing.now).unnamed index ≡ Some u → is_lost_file u ≡ true → Fails F.faults ⊎ SinkFails F.Output.stream) }
     ensures others { (q : List ℕ) → q ≢ path.now → F.holds files.new q ≡ F.holds files.old q }
     ensures crash { Goes F.moment F.may_leave F.left_since files.old files.new (SameBut path.now) }
+    ensures fails { IsErrOf result GaveUp.Unread → (B.fails → ⊥) → ⊥ }
 {
     let job = LostBytes {
         alloc,
@@ -178,38 +209,41 @@ fn fill_lost<F: Files>(
     };
     match fill_by(output, &job) {
         Ok(output) => Ok(finish_file(path, output, files)),
-        Err(ExtractError::OutOfMemory) => {
-            let _ = files.remove(path);
-            Err(AllocError)
-        }
-        Err(_) => Ok(give_up(path, files)),
+        Err(fault) => match fault.gave_up() {
+            Some(error) => {
+                let _ = files.remove(path);
+                Err(error)
+            }
+            None => Ok(give_up(path, files)),
+        },
     }
 }
 
-/// Writes the lost file of this index to a new file, and then syncs it and its folder. Where it could not be written, or memory ran out, it tries to
-/// remove the new file. What another file of this path holds is untouched.
-fn write_lost_file<F: Files>(
+/// Writes the lost file of this index to a new file, and then syncs it and its folder. Where it could not be written, or an input can not be read again, or memory ran
+/// out, it tries to remove the new file. What another file of this path holds is untouched.
+fn write_lost_file<B: BlockStore, F: Files>(
     alloc: Global,
-    listing: &Listing<'_>,
+    listing: &Listing<'_, B>,
     entries: &[Unnamed],
     index: usize,
     path: &str,
     spare: &Spare,
     files: &mut F,
-) -> Result<Fate, AllocError>
+) -> Result<Fate, GaveUp>
     requires index { index < length entries.now }
-    requires entries { AreUnnamed listing.now entries.now }
-    ensures written { IfOk result (λ fate. fate ≡ Fate.Written → F.tells → (profile : Profile) (last : ℕ) (u : Unnamed) →
-        IsReportBy profile (state_of listing.now.table.now) last (listing_now listing.now) → slice_get (listing_now listing.now).unnamed index ≡ Some u → is_lost_file u ≡ true →
-        (cs : List Cell) × HasUnnamedCellsBy profile (state_of listing.now.table.now) last u cs × IsKept (F.holds files.new) (F.may_leave files.new) path.now (filled 0 cs)) }
+    requires entries { B.tells → AreUnnamedBy B.states listing.now entries.now }
+    ensures written { IfOk result (λ fate. B.tells → fate ≡ Fate.Written → F.tells → (profile : Profile) (last : ℕ) (u : Unnamed) →
+        IsReportBy profile (B.states listing.now.table.now) last (listing_by B.states listing.now) → slice_get (listing_by B.states listing.now).unnamed index ≡ Some u → is_lost_file u ≡ true →
+        (cs : List Cell) × HasUnnamedCellsBy profile (B.states listing.now.table.now) last u cs × IsKept (F.holds files.new) (F.may_leave files.new) path.now (filled 0 cs)) }
     ensures gone { IfOk result (λ fate. fate ≡ Fate.Failed → F.tells → F.holds files.new path.now ≡ F.holds files.old path.now) }
     ensures fate { IfOk result (λ fate. IsFateOf Deed.File fate) }
-    ensures cause { IfOk result (λ fate. fate ≢ Fate.Written → (profile : Profile) (last : ℕ) (u : Unnamed) →
-        IsReportBy profile (state_of listing.now.table.now) last (listing_now listing.now) → slice_get (listing_now listing.now).unnamed index ≡ Some u → is_lost_file u ≡ true → Fails F.faults ⊎ SinkFails F.Output.stream) }
+    ensures cause { IfOk result (λ fate. B.tells → fate ≢ Fate.Written → (profile : Profile) (last : ℕ) (u : Unnamed) →
+        IsReportBy profile (B.states listing.now.table.now) last (listing_by B.states listing.now) → slice_get (listing_by B.states listing.now).unnamed index ≡ Some u → is_lost_file u ≡ true → Fails F.faults ⊎ SinkFails F.Output.stream) }
     ensures others { (q : List ℕ) → q ≢ path.now → F.holds files.new q ≡ F.holds files.old q }
     ensures there { F.tells → F.holds files.old path.now ≢ Some None → F.holds files.new path.now ≡ F.holds files.old path.now }
     ensures stays { F.tells → F.holds files.old path.now ≢ Some None → Goes F.moment F.may_leave F.left_since files.old files.new Same }
     ensures crash { Goes F.moment F.may_leave F.left_since files.old files.new (SameBut path.now) }
+    ensures fails { IsErrOf result GaveUp.Unread → (B.fails → ⊥) → ⊥ }
 {
     let Ok(output) = files.make_new(path) else {
         return Ok(Fate::Failed);
@@ -218,21 +252,22 @@ fn write_lost_file<F: Files>(
 }
 
 /// Writes the file of the entry of this index, if it is a lost file; else it is passed over.
-fn put_entry<F: Files>(
+fn put_entry<B: BlockStore, F: Files>(
     alloc: Global,
-    listing: &Listing<'_>,
+    listing: &Listing<'_, B>,
     entries: &[Unnamed],
     index: usize,
     two: bool,
     folder: &str,
     spare: &Spare,
     files: &mut F,
-) -> Result<Fate, AllocError>
+) -> Result<Fate, GaveUp>
     requires index { index < length entries.now }
-    requires entries { AreUnnamed listing.now entries.now }
-    ensures put { IfOk result (λ fate. (u : Unnamed) → slice_get (listing_now listing.now).unnamed index ≡ Some u →
-        IsLostPutAt F.Files F.Output.stream files.new listing.now.table.now (listing_now listing.now) folder.now two u fate) }
+    requires entries { B.tells → AreUnnamedBy B.states listing.now entries.now }
+    ensures put { IfOk result (λ fate. B.tells → (u : Unnamed) → slice_get (listing_by B.states listing.now).unnamed index ≡ Some u →
+        IsLostPutAt F.Files F.Output.stream files.new (B.states listing.now.table.now) (listing_by B.states listing.now) folder.now two u fate) }
     ensures spares { SparesLost F.Files folder.now files.old files.new }
+    ensures fails { IsErrOf result GaveUp.Unread → (B.fails → ⊥) → ⊥ }
 {
     let entry = entry_at(entries, index);
     if !is_lost_file(entry) {
@@ -253,21 +288,22 @@ struct ToldLost {
 }
 
 /// Goes through the entries that no name leads to, in order. Where the output fails, it goes on, but prints no more.
-fn put_entries<F: Files, O: Sink>(
+fn put_entries<B: BlockStore, F: Files, O: Sink>(
     alloc: Global,
-    listing: &Listing<'_>,
+    listing: &Listing<'_, B>,
     entries: &[Unnamed],
     two: bool,
     folder: &str,
     times: &Times,
     files: &mut F,
     out: &mut O,
-) -> Result<ToldLost, AllocError>
-    requires { AreUnnamed listing.now entries.now }
-    ensures put { (heard : Bool) × (fates : List Fate) × EachLost (IsLostPutAt F.Files F.Output.stream files.new listing.now.table.now (listing_now listing.now) folder.now two) (listing_now listing.now).unnamed fates ×
-        TellsLines heard (O.stream out.old) (O.stream out.new) (lost_lines two (listing_now listing.now).unnamed fates) ×
-        IfOk result (λ told. (length fates ≡ length (listing_now listing.now).unnamed) × (told.heard ≡ heard) × (told.good ≡ all_good fates)) }
+) -> Result<ToldLost, GaveUp>
+    requires { B.tells → AreUnnamedBy B.states listing.now entries.now }
+    ensures put { B.tells → (heard : Bool) × (fates : List Fate) × EachLost (IsLostPutAt F.Files F.Output.stream files.new (B.states listing.now.table.now) (listing_by B.states listing.now) folder.now two) (listing_by B.states listing.now).unnamed fates ×
+        TellsLines heard (O.stream out.old) (O.stream out.new) (lost_lines two (listing_by B.states listing.now).unnamed fates) ×
+        IfOk result (λ told. (length fates ≡ length (listing_by B.states listing.now).unnamed) × (told.heard ≡ heard) × (told.good ≡ all_good fates)) }
     ensures spares { SparesLost F.Files folder.now files.old files.new }
+    ensures fails { IsErrOf result GaveUp.Unread → (B.fails → ⊥) → ⊥ }
 {
     let spare = Spare::new();
     let mut good = true;
@@ -295,66 +331,73 @@ pub fn make_if_open<F: Files>(volume: &Volume, folder: &str, files: &mut F) -> b
 }
 
 /// Makes a folder where the volume opens, and writes each lost file of the report to it, named by the number of its block. Returns whether none failed.
-fn put_lost<F: Files, O: Sink>(
+fn put_lost<B: BlockStore, F: Files, O: Sink>(
     alloc: Global,
-    listing: &Listing<'_>,
+    listing: &Listing<'_, B>,
     entries: &[Unnamed],
     folder: &str,
     times: &Times,
     files: &mut F,
     out: &mut O,
-) -> Result<bool, Refusal>
-    requires { AreUnnamed listing.now entries.now }
-    ensures put { IfOk result (λ good. PutsLost (IsLostPutAt F.Files F.Output.stream files.new listing.now.table.now (listing_now listing.now) folder.now (has_two (volume_now listing.now.volume)))
-        (has_two (volume_now listing.now.volume)) (listing_now listing.now).unnamed (O.stream out.old) (O.stream out.new) good) }
-    ensures why { IfErr result (LostStops F.Files F.Output.stream folder.now files.new (O.stream out.old) (O.stream out.new) listing.now.table.now (listing_now listing.now)) }
+) -> Result<bool, Stop>
+    requires { B.tells → AreUnnamedBy B.states listing.now entries.now }
+    ensures put { IfOk result (λ good. B.tells → PutsLost (IsLostPutAt F.Files F.Output.stream files.new (B.states listing.now.table.now) (listing_by B.states listing.now) folder.now (has_two (volume_now listing.now.volume)))
+        (has_two (volume_now listing.now.volume)) (listing_by B.states listing.now).unnamed (O.stream out.old) (O.stream out.new) good) }
+    ensures why { IfErr result (λ stop. B.tells → IfStopped (LostStops F.Files F.Output.stream folder.now files.new (O.stream out.old) (O.stream out.new) (B.states listing.now.table.now) (listing_by B.states listing.now))
+        (LostCut F.Files F.Output.stream folder.now files.new (O.stream out.old) (O.stream out.new) (B.states listing.now.table.now) (listing_by B.states listing.now)) stop) }
     ensures spares { SparesLost F.Files folder.now files.old files.new }
+    ensures no_node { (i : ℕ) → IsErrOf result (Stop.Refused (Refusal.NoNode i)) → ⊥ }
+    ensures fails { IsErrOf result Stop.Unread → (B.fails → ⊥) → ⊥ }
 {
     if !make_if_open(&listing.volume, folder, files) {
-        return Err(Refusal::LostFolder);
+        return Err(Stop::Refused(Refusal::LostFolder));
     }
     let two = has_two_partitions(&listing.volume);
     let told = match put_entries(alloc, listing, entries, two, folder, times, files, out) {
         Ok(told) => told,
-        Err(AllocError) => return Err(Refusal::Memory(AllocError)),
+        Err(GaveUp::OutOfMemory) => return Err(Stop::Refused(Refusal::Memory(AllocError))),
+        Err(GaveUp::Unread) => return Err(Stop::Unread),
     };
     if !told.heard {
-        return Err(Refusal::Output);
+        return Err(Stop::Refused(Refusal::Output));
     }
     Ok(told.good)
 }
 
 /// The entries that no name leads to, where lost files or lost folders are asked for; and else none, though there may be some.
-pub fn lost_entries(
+pub fn lost_entries<B: BlockStore>(
     alloc: Global,
-    listing: &Listing<'_>,
+    listing: &Listing<'_, B>,
     lost: Option<&str>,
     trees: Option<&str>,
-) -> Result<Vec<Unnamed>, Refusal>
-    ensures lost { IfOk result (λ entries. MatchOption lost.entry ⊤ (λ folder. AreUnnamed listing.now entries.items)) }
-    ensures trees { IfOk result (λ entries. MatchOption trees.entry ⊤ (λ folder. AreUnnamed listing.now entries.items)) }
-    ensures refused { IfErr result (λ refusal. refusal ≡ Refusal.Memory alloc_error) }
+) -> Result<Vec<Unnamed>, GaveUp>
+    ensures lost { IfOk result (λ entries. MatchOption lost.entry ⊤ (λ folder. B.tells → AreUnnamedBy B.states listing.now entries.items)) }
+    ensures trees { IfOk result (λ entries. MatchOption trees.entry ⊤ (λ folder. B.tells → AreUnnamedBy B.states listing.now entries.items)) }
+    ensures fails { IsErrOf result GaveUp.Unread → B.fails }
 {
     match (lost, trees) {
         (None, None) => Ok(Vec::new(alloc)),
-        _ => unnamed_in(alloc, listing),
+        _ => list_unnamed_by(alloc, listing),
     }
 }
 
 /// Writes the lost files of a report into a folder of their own, where they are asked for, and returns whether none failed.
-pub fn add_lost<F: Files, O: Sink>(
+pub fn add_lost<B: BlockStore, F: Files, O: Sink>(
     alloc: Global,
-    listing: &Listing<'_>,
+    listing: &Listing<'_, B>,
     entries: &[Unnamed],
     lost: Option<&str>,
     times: &Times,
     files: &mut F,
     out: &mut O,
-) -> Result<bool, Refusal>
-    requires { MatchOption lost ⊤ (λ folder. AreUnnamed listing.now entries.now) }
-    ensures made { IfOk result (MakesLost ⟦<F as Known>⟧.reach O.stream lost.entry files.old files.new out.old out.new listing.now.table.now (listing_now listing.now)) }
-    ensures why { IfErr result (λ refusal. MatchOption lost.entry ⊥ (λ folder. LostStops F.Files F.Output.stream folder.now files.new (O.stream out.old) (O.stream out.new) listing.now.table.now (listing_now listing.now) refusal)) }
+) -> Result<bool, Stop>
+    requires { MatchOption lost ⊤ (λ folder. B.tells → AreUnnamedBy B.states listing.now entries.now) }
+    ensures made { IfOk result (λ good. B.tells → MakesLost ⟦<F as Known>⟧.reach O.stream lost.entry files.old files.new out.old out.new (B.states listing.now.table.now) (listing_by B.states listing.now) good) }
+    ensures why { IfErr result (λ stop. B.tells → MatchOption lost.entry ⊥ (λ folder. IfStopped (LostStops F.Files F.Output.stream folder.now files.new (O.stream out.old) (O.stream out.new) (B.states listing.now.table.now) (listing_by B.states listing.now))
+        (LostCut F.Files F.Output.stream folder.now files.new (O.stream out.old) (O.stream out.new) (B.states listing.now.table.now) (listing_by B.states listing.now)) stop)) }
     ensures spares { MatchOption lost.entry (files.new ≡ files.old) (λ folder. SparesLost F.Files folder.now files.old files.new) }
+    ensures no_node { (i : ℕ) → IsErrOf result (Stop.Refused (Refusal.NoNode i)) → ⊥ }
+    ensures fails { IsErrOf result Stop.Unread → (B.fails → ⊥) → ⊥ }
 {
     match lost {
         None => Ok(true),

@@ -7,7 +7,7 @@ use std::alloc::{AllocError, Global};
 use udfs_common::files::Files;
 use udfs_common::guard::is_among;
 use udfs_common::refusal::Refusal;
-use udfs_files::{Aim, Kind};
+use udfs_host_fs::{Aim, Kind};
 use udfs_reading::DeviceFault;
 
 /// Judges where a folder is to be made: nothing may be there, and these other paths may not lead there.

@@ -40,19 +40,6 @@ front_left before after (Stop n) s t h = s.behind ∙ ap (λ ids. drop (sum_by (
 front_left before after (Fault f) s t h = s.behind ∙ ap (λ ids. drop (sum_by (λ (id : Identifier). id.size) ids) before) (sym t.0)
 front_left before after End s t h = s.behind ∙ ap (λ ids. drop (sum_by (λ (id : Identifier). id.size) ids) before) (sym t.0)
 
--- a descriptor takes at least one cell
-pub front_fewer : (before after : List Cell) (told : cursor.Step) → IsStep before told after → is_id told ≡ true → length after < length before
-front_fewer before after (Id view) s h =
-    let one : StepOne Strict before s.is.0 = step_one Strict before s.is.0 s.is.2 in
-    let big : 38 ≤ s.is.0.size = one.big in
-    let fits : s.is.0.size ≤ length before = one.fits in
-    let size : s.is.0.size ≡ length (bytes_of view) = s.is.1.size in
-    let e : length after ≡ length before - length (bytes_of view) = ap length s.behind ∙ length-drop (length (bytes_of view)) before in
-    omega arith
-front_fewer before after (Stop n) s h = absurd (let z : ⊥ = cc in z)
-front_fewer before after (Fault f) s h = absurd (let z : ⊥ = cc in z)
-front_fewer before after End s h = absurd (let z : ⊥ = cc in z)
-
 -- ---- the entry at a place
 -- the descriptor that is told there has an entry, if its CRC covers something
 pub entry_told : (cells : List Cell) (view : Pieces) (count : ℕ) (o : Option DirEntry) → StepIs (Id view) (step cells) → HasFirstBytes cells (Id view) → count ≡ crc_length (bytes_of view) → nat_lt 0 count ≡ true

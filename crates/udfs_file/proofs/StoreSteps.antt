@@ -1,5 +1,5 @@
 -- How many bytes a step tells of, whatever the store tells.
-use Rattle.std.proofs.Common.{◌≡◌, ap, ◌∙◌, subst, ℕ, ◌-◌, ◌<◌, ◌≤◌, List, length, arith, nat_le, true}
+use Rattle.std.proofs.Common.{◌≡◌, ap, sym, ◌∙◌, subst, ℕ, ◌-◌, ◌<◌, ◌≤◌, List, drop, length, arith, nat_le, true}
 use Rattle.std.proofs.lemmas.List.{length-drop}
 use Rattle.udfs_file.specs.Identifiers as identifiers
 use Rattle.udfs_file.specs.Steps.{HasBytes, StepIs, bytes_of, left_behind}
@@ -29,3 +29,7 @@ sized_told (Id view) s bytes size left i b e h =
 sized_told (Stop n) s bytes size left i b e h = tt
 sized_told (Fault fault) s bytes size left i b e h = tt
 sized_told End s bytes size left i b e h = tt
+
+-- where so many bytes of a descriptor are passed, what is left is what comes behind the step
+pub passed_by : (before after : List Cell) (told : cursor.Step) (view : Pieces) (size : ℕ) → told ≡ Id view → size ≡ length (bytes_of view) → after ≡ drop size before → after ≡ left_behind told before
+passed_by before after told view size t e b = b ∙ ap (λ n. drop n before) e ∙ sym (ap (λ (x : cursor.Step). left_behind x before) t)

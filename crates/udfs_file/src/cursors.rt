@@ -281,26 +281,4 @@ impl<'a> Cursor<'a> {
         }
         step
     }
-
-    /// The next descriptor, or what ends the directory there, without moving.
-    pub(crate) fn ahead(&self) -> Step<'a>
-        ensures value { StepIs result (step self.now) }
-        ensures bytes { HasFirstBytes self.now result }
-    {
-        ahead(&self.cells)
-    }
-
-    /// Whether a byte is left.
-    pub(crate) fn has_left(&self) -> bool
-        ensures { result ≡ nat_le 1 (length self.now) }
-    {
-        self.cells.holds(1)
-    }
-
-    /// Moves past so many bytes, or to the end where fewer are left.
-    pub(crate) fn pass(&mut self, count: usize)
-        ensures { self.new ≡ drop count self.old }
-    {
-        self.cells = self.cells.behind(count);
-    }
 }

@@ -246,22 +246,26 @@ impl Dir {
         let mut spare = [0; 2048];
         let mut other = [0; 2048];
         let mut cursor = StoreCursor::new(view, body);
+        cursor.keep()?;
         let mut entries = Vec::new(alloc);
         'steps: loop {
-            match cursor.next(profile, &mut spare, &mut other)? {
-                Step::Id(pieces) => match listed(alloc, &pieces) {
-                    Ok(Some(entry)) => {
-                        if entries.len() >= most {
-                            return Ok(Err(FrontError::TooMany));
+            match cursor.ahead(profile, &mut spare, &mut other)? {
+                Step::Id(pieces) => {
+                    let size = pieces.len();
+                    match listed(alloc, &pieces) {
+                        Ok(Some(entry)) => {
+                            if entries.len() >= most {
+                                return Ok(Err(FrontError::TooMany));
+                            }
+                            match put(&mut entries, entry) {
+                                Ok(()) => cursor.pass(size)?,
+                                Err(_) => return Ok(Err(FrontError::OutOfMemory)),
+                            }
                         }
-                        match put(&mut entries, entry) {
-                            Ok(()) => {}
-                            Err(_) => return Ok(Err(FrontError::OutOfMemory)),
-                        }
+                        Ok(None) => cursor.pass(size)?,
+                        Err(_) => return Ok(Err(FrontError::OutOfMemory)),
                     }
-                    Ok(None) => {}
-                    Err(_) => return Ok(Err(FrontError::OutOfMemory)),
-                },
+                }
                 Step::Stop(n) => return Ok(Ok(ended(entries, Some(n), None))),
                 Step::Fault(fault) => return Ok(Ok(ended(entries, None, Some(fault)))),
                 Step::End => return Ok(Ok(ended(entries, None, None))),
@@ -301,11 +305,15 @@ impl Dir {
         let mut spare = [0; 2048];
         let mut other = [0; 2048];
         let mut cursor = StoreCursor::new(view, body);
+        cursor.keep()?;
         let mut lists = false;
         'steps: loop {
-            match cursor.next(profile, &mut spare, &mut other)? {
+            match cursor.ahead(profile, &mut spare, &mut other)? {
                 Step::Id(pieces) => {
-                    if pieces.is_listed() {
+                    let size = pieces.len();
+                    let is_listed = pieces.is_listed();
+                    cursor.pass(size)?;
+                    if is_listed {
                         lists = true;
                     }
                 }

@@ -18,6 +18,7 @@ mod extents;
 pub mod faults;
 pub mod file_sets;
 pub mod found_names;
+mod kept;
 pub mod knowledge;
 pub mod laws;
 pub mod marks;

@@ -1,10 +1,10 @@
 //! Directories descriptor by descriptor, by any store of blocks.
 
-ghost use Rattle.std.specs.Prelude.{◌≡◌, ℕ, ◌≤◌, ◌<◌, ◌+◌, drop, length, min, nat_le, take, IfOk, OnErr};
+ghost use Rattle.std.specs.Prelude.{◌≡◌, ℕ, ◌≤◌, ◌<◌, ◌+◌, drop, length, min, nat_le, take, IfOk, OnOk, OnErr};
 ghost use Rattle.udfs_space.specs.Views.{view_by};
 ghost use Rattle.udfs_file.specs.Fronts.{directory_by, sized_by, step_by};
 ghost use Rattle.udfs_file.specs.Pieces.{FitsPiece, IsPieceOf, IsFrontTaken, Starts};
-ghost use Rattle.udfs_file.specs.Steps.{StepsTo, IsNext, StepIs, left_behind};
+ghost use Rattle.udfs_file.specs.Steps.{HasFirstBytes, StepsTo, IsNext, StepIs, left_behind};
 ghost use Rattle.udfs_file.specs.StoreCells.{FitsFront, IsHeadOf, IsSizedHead, IsSizedStep, IsStoreSettled, store_left, store_room};
 ghost use Rattle.udfs_file.specs.Stretches.{LieInBlocks, cells_of};
 
@@ -12,10 +12,11 @@ use crate::bodies::Body;
 use crate::cells::hold;
 use crate::cursors::{Step, checked};
 use crate::faults::NodeFault;
+use crate::kept::KeptBlock;
 use crate::pieces::{Front, Piece, Pieces, stretch_in};
 use crate::stretches::Stretch;
 use std::marker::Model;
-use udfs_lattice::{BlockStore, ReadFault};
+use udfs_lattice::{BlockStore, Fact, ReadFault};
 use udfs_space::StoreView;
 use udfs_volume::Profile;
 
@@ -31,6 +32,7 @@ pub(crate) struct StoreCells<'a, B: BlockStore> {
 impl<'a, B: BlockStore> StoreCells<'a, B> {
     /// The same cells, with some of the first stretch among them if there are any.
     pub(crate) fn settled(&self) -> StoreCells<'a, B>
+        ensures view { result.view ≡ self.now.view }
         ensures cells { store_left B.states result ≡ store_left B.states self.now }
         ensures settled { IsStoreSettled result }
         ensures starts { (k : ℕ) → Starts (self.now.passed + k) self.now.stretches.now → Starts (result.passed + k) result.stretches.now }
@@ -65,6 +67,22 @@ impl<'a, B: BlockStore> StoreCells<'a, B> {
             return true;
         }
         hold(rest, count - here)
+    }
+
+    /// The block of the volume in which the first cell lies, where it is a known one.
+    fn block_ahead(&self) -> Option<u32> {
+        let ahead = self.settled();
+        let Some((Stretch::Recorded(run, _), _)) = ahead.stretches.split_first() else {
+            return None;
+        };
+        let at = u64::from(run.offset) + ahead.passed.min(u64::from(u32::MAX));
+        match ahead
+            .view
+            .knowledge_behind(run.address, (at / 2048) as u32)?
+        {
+            (n, Fact::Known(_)) => Some(n),
+            _ => None,
+        }
     }
 
     /// The first cells as far as they lie in one block, and at most `want`.
@@ -131,6 +149,7 @@ impl<'a, B: BlockStore> StoreCells<'a, B> {
 
     /// The cells after the first `count`.
     pub(crate) fn behind(&self, count: usize) -> StoreCells<'a, B>
+        ensures view { result.view ≡ self.now.view }
         ensures cells { store_left B.states result ≡ drop count (store_left B.states self.now) }
         ensures starts { Starts (self.now.passed + count) self.now.stretches.now → Starts result.passed result.stretches.now }
         ensures lies { LieInBlocks self.now.stretches.now → LieInBlocks result.stretches.now }
@@ -169,6 +188,7 @@ where
     requires lies { LieInBlocks cells.now.stretches.now }
     requires least { 38 ≤ size }
     ensures value { IfOk result (λ step. B.tells → StepIs step (sized_by profile (store_left B.states cells.now) size)) }
+    ensures bytes { IfOk result (λ step. B.tells → HasFirstBytes (store_left B.states cells.now) step) }
     ensures size { IfOk result (IsSizedStep (length (store_left B.states cells.now))) }
     ensures fails { OnErr result B.fails }
 {
@@ -218,6 +238,7 @@ where
     'a: 'r,
     requires { LieInBlocks cells.now.stretches.now }
     ensures value { IfOk result (λ told. B.tells → StepIs told (step_by profile (store_left B.states cells.now))) }
+    ensures bytes { IfOk result (λ told. B.tells → HasFirstBytes (store_left B.states cells.now) told) }
     ensures size { IfOk result (IsSizedStep (length (store_left B.states cells.now))) }
     ensures fails { OnErr result B.fails }
 {
@@ -237,10 +258,12 @@ where
 #[derive(Drop)]
 pub struct StoreCursor<'a, B: BlockStore> {
     cells: StoreCells<'a, B>,
+    /// The store of these cells, with the block in which the last descriptor began.
+    kept: KeptBlock<'a, B>,
 }
 
 impl<'a, B: BlockStore> Model for StoreCursor<'a, B> {
-    ghost use Rattle.std.specs.Prelude.{List};
+    ghost use Rattle.std.specs.Prelude.{◌≡◌, List};
     ghost use Rattle.udfs_file.specs.StoreCells.{store_left};
     ghost use Rattle.udfs_file.specs.Stretches.{LieInBlocks};
     ghost use Rattle.udfs_file.specs.declared.cells.Cell.{Cell};
@@ -249,7 +272,7 @@ impl<'a, B: BlockStore> Model for StoreCursor<'a, B> {
 
     ghost view = { λ c. store_left B.states c.cells };
 
-    ghost invariant = { λ c. LieInBlocks c.cells.stretches.now };
+    ghost invariant = { λ c. LieInBlocks c.cells.stretches.now × (c.kept.blocks ≡ c.cells.view.blocks) };
 }
 
 impl<'a, B: BlockStore> StoreCursor<'a, B> {
@@ -263,7 +286,67 @@ impl<'a, B: BlockStore> StoreCursor<'a, B> {
                 stretches: body.stretches(),
                 passed: 0,
             },
+            kept: KeptBlock::new(view.blocks),
         }
+    }
+
+    /// Keeps the block in which the next cell lies, where it is a known one, so that it is read once for all its descriptors.
+    ///
+    /// # Errors
+    ///
+    /// `ReadFault` where the bytes of the block could not be read.
+    pub(crate) fn keep(&mut self) -> Result<(), ReadFault>
+        ensures same { self.new ≡ self.old }
+        ensures fails { OnErr result B.fails }
+    {
+        match self.cells.block_ahead() {
+            Some(n) => self.kept.keep(n),
+            None => Ok(()),
+        }
+    }
+
+    /// The next descriptor by these rules, or what ends the directory there, without moving, as [`next`](Self::next) returns it. The
+    /// block that is kept is not read again.
+    ///
+    /// # Errors
+    ///
+    /// `ReadFault` where the bytes of a known block could not be read.
+    #[tactic(auto, using(crate::proofs::CursorSteps::goes))]
+    pub(crate) fn ahead<'r>(
+        &'r self,
+        profile: Profile,
+        spare: &'r mut [u8; 2048],
+        other: &'r mut [u8; 2048],
+    ) -> Result<Step<'r>, ReadFault>
+        ensures step { IfOk result (λ told. B.tells → IsNext profile self.now told (left_behind told self.now)) }
+        ensures directory { IfOk result (λ told. B.tells → StepsTo (directory_by profile self.now) told (directory_by profile (left_behind told self.now))) }
+        ensures size { IfOk result (IsSizedStep (length self.now)) }
+        ensures fails { OnErr result B.fails }
+    {
+        let view = StoreView {
+            blocks: &self.kept,
+            space: self.cells.view.space,
+        };
+        let cells = StoreCells {
+            view,
+            stretches: self.cells.stretches,
+            passed: self.cells.passed,
+        };
+        let step = ahead(profile, &cells, spare, other)?;
+        Ok(step)
+    }
+
+    /// Moves past so many bytes, or to the end where fewer are left, and keeps the block of what comes there.
+    ///
+    /// # Errors
+    ///
+    /// `ReadFault` where the bytes of that block could not be read.
+    pub(crate) fn pass(&mut self, count: usize) -> Result<(), ReadFault>
+        ensures moved { OnOk result (self.new ≡ drop count self.old) }
+        ensures fails { OnErr result B.fails }
+    {
+        self.cells = self.cells.behind(count);
+        self.keep()
     }
 
     /// Returns the next descriptor by these rules and moves past it; or returns what ends the directory there, as does each later call.
@@ -290,5 +373,36 @@ impl<'a, B: BlockStore> StoreCursor<'a, B> {
             self.cells = self.cells.behind(view.len());
         }
         Ok(step)
+    }
+
+    /// The next descriptor by these rules, or what ends the directory there, without moving.
+    pub(crate) fn here<'r>(
+        &self,
+        profile: Profile,
+        spare: &'r mut [u8; 2048],
+        other: &'r mut [u8; 2048],
+    ) -> Result<Step<'r>, ReadFault>
+    where
+        'a: 'r,
+        ensures value { IfOk result (λ told. B.tells → StepIs told (step_by profile self.now)) }
+        ensures bytes { IfOk result (λ told. B.tells → HasFirstBytes self.now told) }
+        ensures size { IfOk result (IsSizedStep (length self.now)) }
+        ensures fails { OnErr result B.fails }
+    {
+        ahead(profile, &self.cells, spare, other)
+    }
+
+    /// Whether a byte is left.
+    pub(crate) fn has_left(&self) -> bool
+        ensures { result ≡ nat_le 1 (length self.now) }
+    {
+        self.cells.holds(1)
+    }
+
+    /// Moves past so many bytes, or to the end where fewer are left, and reads nothing.
+    pub(crate) fn skip(&mut self, count: usize)
+        ensures { self.new ≡ drop count self.old }
+    {
+        self.cells = self.cells.behind(count);
     }
 }

@@ -9,3 +9,7 @@ pub mod CopyLemmas
 pub mod PackLemmas
 pub mod EntryLemmas
 pub mod StoreLemmas
+mod PairPlacedLemmas
+mod RecordLemmas
+mod SpreadLemmas
+mod FrontLemmas

@@ -7,3 +7,8 @@ pub mod Copying
 pub mod Stores
 pub mod Placed
 pub mod Imaging
+pub mod PairPlaced
+pub mod Fronts
+pub mod Told
+pub mod AnyStored
+pub mod Comparing

@@ -5,5 +5,5 @@ use Rattle.udfs_index.specs.Index.{IsFrontAt}
 
 -- where the bytes of all inputs are known, the first `len` bytes of the window are those from its place on
 pub record IsRead (contents : List (Option (List ℕ))) (window : Window) : Type 0 where
-  pub fits : window.len ≤ 262144
+  pub fits : window.len ≤ 65536
   pub front : IsFrontAt contents window.place (take window.len window.bytes)

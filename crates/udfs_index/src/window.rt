@@ -16,7 +16,7 @@ use crate::stored::Stored;
 use udfs_lattice::Fact;
 
 /// How many bytes are read at once at most.
-const LONGEST: u64 = 262_144;
+const LONGEST: u64 = 65_536;
 
 /// How many bytes a block has.
 const BLOCK: u64 = 2048;
@@ -29,9 +29,9 @@ const GAP: u64 = 64;
 /// known. None if it is in another input, does not come at most `GAP` bytes after these, or would make it more than `LONGEST`.
 fn with(place: u64, span: u64, slot: Fact<u64>) -> Option<u64>
     requires some { 2048 ≤ span }
-    requires fits { span ≤ 262144 }
+    requires fits { span ≤ 65536 }
     ensures some { IfSome result (λ more. 2048 ≤ more) }
-    ensures fits { IfSome result (λ more. more ≤ 262144) }
+    ensures fits { IfSome result (λ more. more ≤ 65536) }
     ensures held { IfSome result (λ more. (wholes : List (List ℕ)) → IsWholeAt wholes slot → AreHeld wholes place span → AreHeld wholes place more) }
 {
     let Fact::Known(next) = slot else {
@@ -54,7 +54,7 @@ fn ahead(packets: &[Packet], block: u32, place: u64) -> u64
     requires block { block < 4194304 }
     requires known { slot_at packets.now block ≡ Known place }
     ensures some { 2048 ≤ result }
-    ensures fits { result ≤ 262144 }
+    ensures fits { result ≤ 65536 }
     ensures held { (wholes : List (List ℕ)) → AreWhole wholes packets.now → AreHeld wholes place result }
 {
     let end = end_of(packets);
@@ -73,7 +73,7 @@ fn ahead(packets: &[Packet], block: u32, place: u64) -> u64
 pub struct Window {
     place: u64,
     len: u64,
-    bytes: [u8; 262_144],
+    bytes: [u8; 65_536],
 }
 
 impl Window {
@@ -84,7 +84,7 @@ impl Window {
         Window {
             place: 0,
             len: 0,
-            bytes: [0; 262_144],
+            bytes: [0; 65_536],
         }
     }
 
@@ -121,7 +121,7 @@ impl Window {
         requires known { slot_at packets.now block ≡ Known place }
         requires read { IsRead (contents_of S.content inputs.now) self.old }
         ensures read { OnOk result (IsRead (contents_of S.content inputs.now) self.new) }
-        ensures within { IfOk result (λ at. at + 2048 ≤ 262144) }
+        ensures within { IfOk result (λ at. at + 2048 ≤ 65536) }
         ensures there { IfOk result (λ at. IsAtPlace (contents_of S.content inputs.now) place (take 2048 (drop at self.new.bytes))) }
         ensures reads { (wholes : List (List ℕ)) → contents_of S.content inputs.now ≡ map Some wholes → NoneFails S.fails → AreWhole wholes packets.now → OnErr result ⊥ }
     {
@@ -137,7 +137,7 @@ impl Window {
 
     /// The 2048 bytes from there on.
     pub fn block(&self, at: usize) -> &[u8]
-        requires { at + 2048 ≤ 262144 }
+        requires { at + 2048 ≤ 65536 }
         ensures whole { length result.now ≡ 2048 }
         ensures bytes { result.now ≡ take 2048 (drop at self.now.bytes) }
     {

@@ -20,8 +20,8 @@ use Rattle.udfs_walk.specs.Walks.{AreNodes}
 use Rattle.udfs_walk.specs.declared.standings.Standing.{Standing}
 use Rattle.udfs_walk.specs.declared.standings.Standing.TheVariants as standing
 use Rattle.udfs_walk.proofs.PublicLaws.{no_more_routes, only_walk}
-use Rattle.udfs_tree.specs.Cells.{HasNoFault}
-use Rattle.udfs_tree.proofs.Listed.{get_map, map_get}
+use Rattle.udfs_walk.specs.Cells.{HasNoFault}
+use Rattle.udfs_walk.proofs.Listed.{get_map, map_get}
 use Rattle.udfs_salvage.specs.Found.{Found, volume_by}
 use Rattle.udfs_salvage.proofs.Founds.{found_same}
 use Rattle.udfs_lawfulness.specs.Asking.{asks, is_data, is_torn, tree_asked}

@@ -23,7 +23,7 @@ use Rattle.udfs_space.proofs.PublicLaws.{places_are_blocks_by, space_of_lawful_b
 use Rattle.udfs_file.specs.Addresses.{address_fault, file_set, file_set_at, file_set_in}
 use Rattle.udfs_file.specs.declared.faults.NodeFault.{NodeFault}
 use Rattle.udfs_walk.specs.Routes.{HasMoreRoutes, Route, Walked, walked}
-use Rattle.udfs_tree.specs.Lawful.{AreDistinct}
+use Rattle.udfs_walk.specs.Lawful.{AreDistinct}
 use Rattle.udfs_salvage.specs.Found.{Found, placed, rooted, volume_by}
 use Rattle.udfs_salvage.specs.Laws.{IsLawfulVolumeBy}
 use Rattle.udfs_salvage.proofs.Founds.{found_same}

@@ -23,11 +23,11 @@ use Rattle.udfs_walk.specs.Routes.{Route, Walked, at_root, below, entries_below,
 use Rattle.udfs_walk.specs.Standings.{body_standing, cells_standing, depth_or, kind_standing, missing_blocks, runs_from, standing_or_fault, torn_or_whole}
 use Rattle.udfs_walk.specs.Targets.{unread, entry, target}
 use Rattle.udfs_walk.specs.declared.standings.Standing.TheVariants.{Whole, Loop}
-use Rattle.udfs_tree.specs.Lawful.{AreDistinct, IsLawfulTree}
-use Rattle.udfs_tree.specs.Trees.{PartitionBlocks}
-use Rattle.udfs_tree.proofs.PartRoutes.{TargetPart, target_same, target_unread, target_part}
-use Rattle.udfs_tree.proofs.Runs.{none_missing}
-use Rattle.udfs_tree.proofs.WholeRoutes.{WholeAt, step_on, whole_at}
+use Rattle.udfs_walk.specs.Lawful.{AreDistinct, IsLawfulTree}
+use Rattle.udfs_walk.specs.Trees.{PartitionBlocks}
+use Rattle.udfs_walk.proofs.PartRoutes.{TargetPart, target_same, target_unread, target_part}
+use Rattle.udfs_walk.proofs.Runs.{none_missing}
+use Rattle.udfs_walk.proofs.WholeRoutes.{WholeAt, step_on, whole_at}
 use Rattle.udfs_lawfulness.specs.Asking.{is_data}
 use Rattle.udfs_lawfulness.specs.Filled.{bytes_or_zeros, filled_view, is_mapped, target_has_cells}
 use Rattle.udfs_lawfulness.proofs.Kept.{mapped_kept, whole_kept}

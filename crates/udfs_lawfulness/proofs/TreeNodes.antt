@@ -26,11 +26,11 @@ use Rattle.udfs_walk.specs.TornFields.{TornFields}
 use Rattle.udfs_walk.specs.Walks.{AreNodes}
 use Rattle.udfs_walk.specs.declared.standings.Standing.{Standing}
 use Rattle.udfs_walk.specs.declared.standings.Standing.TheVariants.{Whole, Torn, Loop, Fault}
-use Rattle.udfs_tree.specs.Cells.{HasNoFault}
-use Rattle.udfs_tree.specs.Laws.{HasPathsOnce}
-use Rattle.udfs_tree.specs.Lawful.{AreDistinct}
-use Rattle.udfs_tree.proofs.Listed.{Placed, get_map, get_zip, path_is, placed}
-use Rattle.udfs_tree.proofs.WholeRoutes.{cancel, includes_get, step_on}
+use Rattle.udfs_walk.specs.Cells.{HasNoFault}
+use Rattle.udfs_walk.specs.TreeLaws.{HasPathsOnce}
+use Rattle.udfs_walk.specs.Lawful.{AreDistinct}
+use Rattle.udfs_walk.proofs.Listed.{Placed, get_map, get_zip, path_is, placed}
+use Rattle.udfs_walk.proofs.WholeRoutes.{cancel, includes_get, step_on}
 use Rattle.udfs_lawfulness.specs.Asking.{asks, is_data, is_torn, tree_asked}
 use Rattle.udfs_lawfulness.specs.Filled.{is_mapped}
 use Rattle.udfs_lawfulness.proofs.Known.{ascending_none}

@@ -9,3 +9,17 @@ pub mod Asking
 pub mod Spelling
 pub mod Lawfulness
 pub mod Left
+pub mod Forms
+pub mod Laws
+pub mod ByTables
+pub mod LawfulTables
+pub mod Tags
+pub mod Extents
+pub mod Entries
+pub mod Identifiers
+pub mod Files
+pub mod Volumes
+pub mod Layouts
+pub mod Sparing
+pub mod Texts
+pub mod EcmaLaws

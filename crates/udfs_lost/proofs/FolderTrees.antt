@@ -15,10 +15,10 @@ use Rattle.udfs_file.specs.declared.directories.DirEntry.{DirEntry}
 use Rattle.udfs_file.proofs.PublicLaws.{directory_is_read, standard_directories_are_read}
 use Rattle.udfs_walk.specs.Targets.{Icb, icb_of}
 use Rattle.udfs_walk.specs.UnnamedEntries.{address_of}
-use Rattle.udfs_tree.specs.Needs.{Needs, for_icb, for_way, for_body, IsBlockAt}
-use Rattle.udfs_tree.specs.Sound.{IsSoundTree, LeadsOn, Path, StandOnce}
-use Rattle.udfs_tree.specs.Trees.{PartitionBlocks, TreeFile, IsDirectoryAt, IsFileAt, InTree, Leads}
-use Rattle.udfs_tree.proofs.PublicLaws.{one_file, sound_is_lawful}
+use Rattle.udfs_walk.specs.Needs.{Needs, for_icb, for_way, for_body, IsBlockAt}
+use Rattle.udfs_walk.specs.Sound.{IsSoundTree, LeadsOn, Path, StandOnce}
+use Rattle.udfs_walk.specs.Trees.{PartitionBlocks, TreeFile, IsDirectoryAt, IsFileAt, InTree, Leads}
+use Rattle.udfs_walk.proofs.TreePublicLaws.{one_file, sound_is_lawful}
 use Rattle.udfs_lost.specs.Subtrees.{IsFolderAt}
 
 -- ---- paths

@@ -1,6 +1,6 @@
 -- Torn directories, each once; and the names that are found in one.
 use Rattle.std.proofs.Common.{◌≡◌, refl, sym, ◌∙◌, ap, subst, ℕ, ◌+◌, ◌<◌, ◌≤◌, Bool, true, false, cond, not, ◌&&◌, ◌||◌, List, [], ◌∷◌, ◌++◌, length, take, drop, get_or, map, arith, Option, Some, None, is_none, append_assoc}
-use Rattle.std.specs.Prelude.{MatchOption, filter, filter_map, is_some, option_map, option_and_then}
+use Rattle.std.specs.Prelude.{MatchOption, filter, filter_map, fold, is_some, option_map, option_and_then}
 use Rattle.std.specs.Borrow.{Bor}
 use Rattle.std.specs.BTreeMap.{BTreeMap, Updates, get}
 use Rattle.std.specs.List.{cons_option, find, list_all, list_any}
@@ -25,7 +25,7 @@ use Rattle.udfs_walk.specs.declared.answers.Unnamed.{Unnamed}
 use Rattle.udfs_walk.specs.declared.standings.Standing.{Standing}
 use Rattle.udfs_walk.specs.declared.standings.Standing.TheVariants.{Whole, Torn, Loop, Fault}
 use Rattle.udfs_lost.specs.Folders.{icb_of_entry, is_directory}
-use Rattle.udfs_lost.specs.FoundNames.{Found, body_found, entry_of_icb, found_at, found_names, found_of, full_found, is_elsewhere, is_torn, is_root, is_torn_folder, target_found, torn_folders, unplaced}
+use Rattle.udfs_lost.specs.FoundNames.{Found, body_found, entry_of_icb, found_at, found_names, found_of, full_found, is_elsewhere, is_root, is_torn, is_torn_folder, target_found, torn_folders, unplaced, with_name}
 use Rattle.udfs_lost.specs.LostFiles.{is_lost_file, lost_files}
 use Rattle.udfs_lost.specs.Met.{is_near, with_icb}
 use Rattle.udfs_lost.specs.Unplaced.{AgreeAt}
@@ -35,6 +35,7 @@ use Rattle.udfs_lost.specs.declared.trees.LostTree.{LostTree}
 use Rattle.udfs_lost.proofs.FileLemmas.{any_with}
 use Rattle.udfs_lost.proofs.Kept.{passes_alike}
 use Rattle.udfs_lost.proofs.MetLemmas.{near, same_icb, same_number}
+use Rattle.udfs_lost.proofs.ToldLemmas.{told_alike}
 
 -- ---- torn directories
 -- none at the same address was met
@@ -121,27 +122,6 @@ folders_other nodes i n met folders all h at t k = ap (λ l. folders ++ l) (sym 
 pub folders_all : (nodes : List NodeFields) (i : ℕ) (met : List Icb) (folders all : List NodeFields) → length nodes ≤ i → folders ++ filter (is_new met) (torn_folders (drop i nodes)) ≡ all → folders ≡ all
 folders_all nodes i met folders all h k = sym (append-nil folders) ∙ ap (λ l. folders ++ filter (is_new met) (torn_folders l)) (sym (drop_all i nodes h)) ∙ k
 
--- ---- names in a directory
-module _ (v : View) (us : List Unnamed) where
-  -- one that names nothing that is looked for
-  pub names_skip : (found all : List Found) (es left : List DirEntry) (e : DirEntry) → es ≡ e ∷ left → found_of v us e ≡ None → found ++ filter_map (found_of v us) es ≡ all → found ++ filter_map (found_of v us) left ≡ all
-  names_skip found all es left e s n k = ap (λ l. found ++ l) (sym (ap (filter_map (found_of v us)) s ∙ ap (λ o. cons_option o (filter_map (found_of v us) left)) n)) ∙ k
-
-  -- one that does
-  pub names_more : (found more all : List Found) (es left : List DirEntry) (e : DirEntry) (f : Found) → es ≡ e ∷ left → found_of v us e ≡ Some f → more ≡ found ++ f ∷ [] → found ++ filter_map (found_of v us) es ≡ all
-      → more ++ filter_map (found_of v us) left ≡ all
-  names_more found more all es left e f s n m k = ap (λ l. l ++ filter_map (found_of v us) left) m ∙ append_assoc found (f ∷ []) (filter_map (found_of v us) left)
-      ∙ ap (λ l. found ++ l) (sym (ap (filter_map (found_of v us)) s ∙ ap (λ o. cons_option o (filter_map (found_of v us) left)) n)) ∙ k
-
-  -- the end
-  pub names_end : (found all : List Found) (es : List DirEntry) → es ≡ [] → length found ≤ 65536 → found ++ filter_map (found_of v us) es ≡ all → found ≡ take 65536 all
-  names_end found all es s few k = let same : found ≡ all = sym (append-nil found) ∙ ap (λ l. found ++ filter_map (found_of v us) l) (sym s) ∙ k in
-      same ∙ sym (ap (take 65536) (sym same) ∙ take_all 65536 found few ∙ same)
-
-  -- as many as are told
-  pub names_full : (found all : List Found) (es : List DirEntry) → length found ≡ 65536 → found ++ filter_map (found_of v us) es ≡ all → found ≡ take 65536 all
-  names_full found all es full k = sym (take_at found (filter_map (found_of v us) es) 65536 full) ∙ ap (take 65536) k
-
 -- ---- the body of a directory
 pub something_found : (v : View) (a : LongAd) (cs : List Cell) → HasCells v a cs → found_at v a ≡ found_entries cs
 unfolding found_at
@@ -162,11 +142,11 @@ nothing_found v a never = go (target v a) refl
 
 pub names_of_none : (v : View) (us : List Unnamed) (a : LongAd) (found : List Found) → ((cs : List Cell) → ¬ HasCells v a cs) → found ≡ [] → found ≡ found_names v us a
 unfolding found_names
-names_of_none v us a found never e = e ∙ sym (ap (λ es. take 65536 (filter_map (found_of v us) es)) (nothing_found v a never))
+names_of_none v us a found never e = e ∙ sym (ap (λ es. take 65536 (fold with_name [] (filter_map (found_of v us) es))) (nothing_found v a never))
 
-pub names_of_body : (v : View) (us : List Unnamed) (a : LongAd) (cs : List Cell) (found : List Found) → HasCells v a cs → found ≡ take 65536 (filter_map (found_of v us) (found_entries cs)) → found ≡ found_names v us a
+pub names_of_body : (v : View) (us : List Unnamed) (a : LongAd) (cs : List Cell) (found : List Found) → HasCells v a cs → found ≡ take 65536 (fold with_name [] (filter_map (found_of v us) (found_entries cs))) → found ≡ found_names v us a
 unfolding found_names
-names_of_body v us a cs found h e = e ∙ sym (ap (λ es. take 65536 (filter_map (found_of v us) es)) (something_found v a cs h))
+names_of_body v us a cs found h e = e ∙ sym (ap (λ es. take 65536 (fold with_name [] (filter_map (found_of v us) es))) (something_found v a cs h))
 
 -- ---- without blocks and holes
 pub folders_alike : (v : View) (nodes : List NodeFields) → torn_folders (map (full_node v) nodes) ≡ map (full_node v) (torn_folders nodes)
@@ -222,9 +202,10 @@ all_alike v us (e ∷ es) = (λ i. cons_option (found_alike v us e i) (all_alike
 pub names_alike : (v : View) (deleted : Bool) (trees : List LostTree) (entries : List Unnamed) (a : LongAd)
     → found_names v (unplaced v deleted trees (map (full_entry v) entries)) a ≡ map (full_found v) (found_names v (unplaced v deleted trees entries) a)
 unfolding found_names
-names_alike v deleted trees entries a = ap (λ us. take 65536 (filter_map (found_of v us) (found_at v a))) unplaced_alike
-    ∙ ap (take 65536) (all_alike v (unplaced v deleted trees entries) (found_at v a))
-    ∙ take-map (full_found v) 65536 (filter_map (found_of v (unplaced v deleted trees entries)) (found_at v a))
+names_alike v deleted trees entries a = ap (λ us. take 65536 (fold with_name [] (filter_map (found_of v us) (found_at v a)))) unplaced_alike
+    ∙ ap (λ fs. take 65536 (fold with_name [] fs)) (all_alike v (unplaced v deleted trees entries) (found_at v a))
+    ∙ ap (take 65536) (told_alike v [] (filter_map (found_of v (unplaced v deleted trees entries)) (found_at v a)))
+    ∙ take-map (full_found v) 65536 (fold with_name [] (filter_map (found_of v (unplaced v deleted trees entries)) (found_at v a)))
   where
     unplaced_alike : unplaced v deleted trees (map (full_entry v) entries) ≡ map (full_entry v) (unplaced v deleted trees entries)
     unplaced_alike = (λ i. passes_alike (is_lost_file v deleted trees) (full_entry v) (λ u. refl) entries i ++ passes_alike (is_root trees) (full_entry v) (λ u. refl) entries i)

@@ -5,6 +5,7 @@ pub mod MetLemmas
 pub mod SearchLemmas
 pub mod TreeLemmas
 pub mod FileLemmas
+pub mod ToldLemmas
 pub mod FoundLemmas
 pub mod ReachLemmas
 pub mod FolderTrees

@@ -8,14 +8,14 @@ use Rattle.udfs_walk.specs.NodeFields.{NodeFields}
 use Rattle.udfs_walk.specs.Targets.{Icb}
 use Rattle.udfs_walk.specs.UnnamedEntries.{address_of}
 use Rattle.udfs_walk.specs.Walks.{AreNodes}
-use Rattle.udfs_tree.specs.Cells.{HasCellsAt, IsWholeAs}
-use Rattle.udfs_tree.specs.Laws.{IsNodeOf}
-use Rattle.udfs_tree.specs.Lawful.{IsLawfulTree}
-use Rattle.udfs_tree.specs.Needs.{IsMet}
-use Rattle.udfs_tree.specs.Sound.{IsSoundTree, Path}
-use Rattle.udfs_tree.specs.Trees.{PartitionBlocks}
-use Rattle.udfs_tree.proofs.PublicLaws.{fewer_routes, once_per_path, partial_nodes, sound_is_lawful}
-use Rattle.udfs_tree.proofs.Wanted.{met_is_whole}
+use Rattle.udfs_walk.specs.Cells.{HasCellsAt, IsWholeAs}
+use Rattle.udfs_walk.specs.TreeLaws.{IsNodeOf}
+use Rattle.udfs_walk.specs.Lawful.{IsLawfulTree}
+use Rattle.udfs_walk.specs.Needs.{IsMet}
+use Rattle.udfs_walk.specs.Sound.{IsSoundTree, Path}
+use Rattle.udfs_walk.specs.Trees.{PartitionBlocks}
+use Rattle.udfs_walk.proofs.TreePublicLaws.{fewer_routes, once_per_path, partial_nodes, sound_is_lawful}
+use Rattle.udfs_walk.proofs.Wanted.{met_is_whole}
 use Rattle.udfs_walk.specs.Bare.{full_entry}
 use Rattle.udfs_lost.specs.Folders.{icb_of_entry, is_lost_folder}
 use Rattle.udfs_lost.specs.LostFiles.{BareEntriesWillDo, is_lost_file}

@@ -24,7 +24,7 @@ use Rattle.udfs_walk.specs.Targets.{Icb, Target, bad, unread, entry, icb_of, tar
 use Rattle.udfs_walk.specs.UnnamedEntries.{address_of}
 use Rattle.udfs_walk.specs.Walks.{AreNodes}
 use Rattle.udfs_walk.specs.declared.standings.Standing.TheVariants.{Loop, Fault}
-use Rattle.udfs_tree.specs.Cells.{HasNoFault}
+use Rattle.udfs_walk.specs.Cells.{HasNoFault}
 use Rattle.udfs_lost.specs.Entries.{entries_at}
 use Rattle.udfs_lost.specs.Naming.{LeadsBy, LeadsTo, named_by, names_at}
 use Rattle.udfs_lost.proofs.Members.{get_in}

@@ -3,10 +3,12 @@
 --     torn_folders nodes                 the directories among nodes of which something is missing, each once
 --     unplaced view deleted trees entries    the entries without a name that are lost files, or from which a lost tree is walked
 --     found_at view a                    what is found in the directory at an address, behind what it lists
---     found_names view us a              those names of it that name one of these entries, at most 65,536
+--     found_names view us a              those names of it that name one of these entries, at most 65,536, each name of an entry once
+--     is_found view us nodes trees icb   such a name of the entry at an information control block is found
 --     BareNamesWillDo                    nodes and entries need not have their blocks and holes
-use Rattle.std.specs.Prelude.{◌≡◌, ℕ, Bool, true, false, not, ◌&&◌, List, [], ◌∷◌, ◌++◌, take, filter, filter_map, map, cond, Option, Some, None, option_map, option_and_then}
+use Rattle.std.specs.Prelude.{◌≡◌, ◌==◌, ℕ, Bool, true, false, not, ◌&&◌, ◌||◌, List, [], ◌∷◌, ◌++◌, bytes_eq, fold, take, filter, filter_map, map, cond, Option, Some, None, option_map, option_and_then}
 use Rattle.std.specs.List.{find, list_any}
+use Rattle.udfs_tag.specs.Fields.{number_of}
 use Rattle.udfs_tag.specs.declared.layouts.LongAd.{LongAd}
 use Rattle.udfs_space.specs.Places.{View}
 use Rattle.udfs_file.specs.Bodies.{Body, body, cells, faulty_body}
@@ -85,9 +87,35 @@ entry_of_icb us icb = find (λ u. is_icb icb (icb_of_entry u)) us
 abbrev pub found_of : View → List Unnamed → DirEntry → Option Found
 found_of view us e = option_map (λ u. record { name = e.name; lost = u }) (option_and_then (entry_of_icb us) (named_by view e))
 
--- the names that are found at an address of these entries, in the order of their places
+-- the second is the name of the first once more, of the same entry
+abbrev pub is_again : Found → Found → Bool
+is_again f g = number_of (icb_of_entry g.lost) == number_of (icb_of_entry f.lost) && bytes_eq g.name f.name
+
+-- the names, and one more behind them, unless it is there
+abbrev pub with_name : List Found → Found → List Found
+with_name fs f = cond (list_any (is_again f) fs) fs (fs ++ f ∷ [])
+
+-- the names that are found at an address of these entries, in the order of their places, each name of an entry once
 unfoldable pub found_names : View → List Unnamed → LongAd → List Found
-found_names view us a = take 65536 (filter_map (found_of view us) (found_at view a))
+found_names view us a = take 65536 (fold with_name [] (filter_map (found_of view us) (found_at view a)))
+
+-- ---- which entries have such a name
+
+-- it is a name of the entry at an information control block
+abbrev pub is_of : Icb → Found → Bool
+is_of icb f = is_icb icb (icb_of_entry f.lost)
+
+-- one is found in a torn directory
+abbrev pub is_found_at : View → List Unnamed → Icb → NodeFields → Bool
+is_found_at view us icb n = list_any (is_of icb) (found_names view us n.icb)
+
+-- in one of those among nodes
+abbrev pub is_found_among : View → List Unnamed → Icb → List NodeFields → Bool
+is_found_among view us icb nodes = list_any (is_found_at view us icb) (torn_folders nodes)
+
+-- of a volume that has these nodes, or of lost trees
+abbrev pub is_found : View → List Unnamed → List NodeFields → List LostTree → Icb → Bool
+is_found view us nodes trees icb = is_found_among view us icb nodes || list_any (λ t. is_found_among view us icb t.nodes.items) trees
 
 -- ---- without blocks and holes
 

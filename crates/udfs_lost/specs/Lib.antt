@@ -11,3 +11,4 @@ pub mod Subtrees
 pub mod PlacedVolumes
 pub mod FoundNames
 pub mod Unplaced
+pub mod Told

@@ -18,13 +18,13 @@ use Rattle.udfs_walk.specs.Targets.{Icb, icb_of}
 use Rattle.udfs_walk.specs.UnnamedEntries.{address_of}
 use Rattle.udfs_walk.specs.Walks.{AreNodes}
 use Rattle.udfs_walk.specs.declared.standings.Standing.TheVariants.{Whole}
-use Rattle.udfs_tree.specs.Cells.{HasCellsAt, HasNoFault, IsWholeAs}
-use Rattle.udfs_tree.specs.KnownLaws.{IsListedWhole}
-use Rattle.udfs_tree.specs.Laws.{HasPathsOnce, IsTold}
-use Rattle.udfs_tree.specs.Lawful.{IsLawfulTree}
-use Rattle.udfs_tree.specs.Needs.{IsMet, Needs}
-use Rattle.udfs_tree.specs.Sound.{Path}
-use Rattle.udfs_tree.specs.Trees.{PartitionBlocks, TreeFile, IsDirectoryAt, InTree, Leads}
+use Rattle.udfs_walk.specs.Cells.{HasCellsAt, HasNoFault, IsWholeAs}
+use Rattle.udfs_walk.specs.KnownLaws.{IsListedWhole}
+use Rattle.udfs_walk.specs.TreeLaws.{HasPathsOnce, IsTold}
+use Rattle.udfs_walk.specs.Lawful.{IsLawfulTree}
+use Rattle.udfs_walk.specs.Needs.{IsMet, Needs}
+use Rattle.udfs_walk.specs.Sound.{Path}
+use Rattle.udfs_walk.specs.Trees.{PartitionBlocks, TreeFile, IsDirectoryAt, InTree, Leads}
 use Rattle.udfs_lost.specs.Naming.{LeadsTo}
 
 -- the path leads from the root to a directory, whose entry is at this information control block

@@ -12,7 +12,7 @@ use udfs_tag::LbAddr;
 
 /// Information control blocks, each once, in the order in which they were met. In contracts they are that list.
 #[derive(Drop)]
-pub(crate) struct Met {
+pub struct Met {
     /// Their numbers.
     numbers: BTreeSet<u64>,
     /// All of them, in that order.
@@ -32,8 +32,8 @@ impl Model for Met {
 }
 
 impl Met {
-    /// None was met.
-    pub(crate) fn none(alloc: Global) -> Met
+    /// None.
+    pub fn none(alloc: Global) -> Met
         ensures { result ≡ [] }
     {
         Met {
@@ -61,8 +61,8 @@ impl Met {
         }
     }
 
-    /// Whether one was met.
-    pub(crate) fn contains(&self, icb: LbAddr) -> bool
+    /// Whether one was met. It takes no memory.
+    pub fn contains(&self, icb: LbAddr) -> bool
         ensures value { result ≡ list_any (is_icb icb) self.now }
         ensures near { icb.block < 4294967296 }
     {

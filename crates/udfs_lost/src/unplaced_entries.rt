@@ -1,22 +1,23 @@
 //! The entries that a name which is found may name, by their information control blocks.
 
-ghost use Rattle.std.specs.Prelude.{◌≡◌, ◌++◌, ◌∷◌, [], IfOk, List, cond, filter, map, option_map};
+ghost use Rattle.std.specs.Prelude.{◌≡◌, ◌++◌, ◌∷◌, [], IfOk, IsErrOf, List, cond, filter, map, option_map};
 ghost use Rattle.std.specs.List.{list_any};
-ghost use Rattle.udfs_space.specs.Views.{view_now};
+ghost use Rattle.udfs_space.specs.Views.{view_by, view_now};
 ghost use Rattle.udfs_walk.specs.Targets.{Icb, is_icb};
 ghost use Rattle.udfs_walk.specs.declared.answers.Unnamed.{Unnamed};
 ghost use Rattle.udfs_lost.specs.Folders.{icb_of_entry};
 ghost use Rattle.udfs_lost.specs.FoundNames.{entry_of_icb, unplaced};
 ghost use Rattle.udfs_lost.specs.Unplaced.{AgreeAt};
 
-use crate::files::lost_files;
+use crate::files::lost_files_by;
 use crate::met::Met;
 use crate::trees::LostTree;
 use std::alloc::{AllocError, Global};
 use std::collections::BTreeMap;
 use std::marker::Model;
+use udfs_lattice::{BlockStore, GaveUp};
 use udfs_osta::OutOfMemory;
-use udfs_space::View;
+use udfs_space::{StoreView, View};
 use udfs_tag::LbAddr;
 use udfs_walk::Unnamed;
 
@@ -160,7 +161,33 @@ pub fn unplaced_in<'a>(
 ) -> Result<Unplaced<'a>, OutOfMemory>
     ensures { IfOk result (λ found. found ≡ unplaced (view_now view.entry) deleted trees.now entries.now) }
 {
-    let files = lost_files(alloc, view, deleted, trees, entries)?;
+    let stored = StoreView {
+        blocks: view.table,
+        space: view.space,
+    };
+    match unplaced_by(alloc, stored, deleted, trees, entries) {
+        Ok(found) => Ok(found),
+        Err(GaveUp::OutOfMemory) => Err(AllocError),
+        Err(GaveUp::Unread) => unreachable!(),
+    }
+}
+
+/// The same as [`unplaced_in`], by any store of blocks.
+///
+/// # Errors
+///
+/// `OutOfMemory` where memory runs out, and `Unread` where the bytes of a known block could not be read.
+pub fn unplaced_by<'a, B: BlockStore>(
+    alloc: Global,
+    view: StoreView<'_, B>,
+    deleted: bool,
+    trees: &[LostTree],
+    entries: &'a [Unnamed],
+) -> Result<Unplaced<'a>, GaveUp>
+    ensures value { IfOk result (λ found. B.tells → found ≡ unplaced (view_by B.states view.entry) deleted trees.now entries.now) }
+    ensures fails { IsErrOf result GaveUp.Unread → B.fails }
+{
+    let files = lost_files_by(alloc, view, deleted, trees, entries)?;
     let roots = roots_of(alloc, trees)?;
     let found = with_files(Unplaced::none(alloc), &files)?;
     let found = with_roots(found, &roots, entries)?;

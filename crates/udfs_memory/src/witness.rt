@@ -3,7 +3,7 @@
 use std::alloc::Global;
 use std::cell::{Cell, RefCell};
 use std::io::Error;
-use udfs_files::{Stage, Watch};
+use udfs_host_fs::{Stage, Watch};
 
 /// No person: it keeps what is remarked, and nothing else.
 #[derive(Drop)]

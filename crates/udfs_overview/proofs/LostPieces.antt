@@ -2,7 +2,6 @@
 use Rattle.std.proofs.Common.{◌≡◌, ◌∙◌, refl, sym, ap, subst, ℕ, Bool, true, false, List, [], ◌∷◌, ◌++◌, map, Option, Some, None, option_map, cond, append_assoc}
 use Rattle.std.specs.Prelude.{find, flat_map}
 use Rattle.std.specs.Borrow.{Bor}
-use Rattle.udfs_lattice.specs.Tables.{Table, state_of}
 use Rattle.udfs_lattice.specs.Volumes.{Blocks}
 use Rattle.udfs_tag.specs.declared.layouts.LongAd.{LongAd}
 use Rattle.udfs_volume.specs.Answers.{Answer, found, holes, faulty}
@@ -12,7 +11,11 @@ use Rattle.udfs_space.specs.Places.{View, view}
 use Rattle.udfs_walk.specs.Bare.{full_entry, full_node}
 use Rattle.udfs_walk.specs.NodeFields.{NodeFields}
 use Rattle.udfs_walk.specs.Targets.{Icb, icb_of}
+use Rattle.udfs_walk.specs.GivingUp.{IfTold}
 use Rattle.udfs_walk.specs.declared.answers.NodesError.{NodesError}
+use Rattle.udfs_walk.specs.declared.answers.NodesError.TheVariants as errors
+use Rattle.udfs_walk.specs.declared.answers.NodesGaveUp.{NodesGaveUp}
+use Rattle.udfs_walk.specs.declared.answers.NodesGaveUp.TheVariants.{OutOfMemory, TooManyPaths, Unread}
 use Rattle.udfs_walk.specs.declared.answers.Unnamed.{Unnamed}
 use Rattle.udfs_lost.specs.Folders.{AreLostRoots, lost_folders}
 use Rattle.udfs_lost.specs.LostFiles.{lost_files}
@@ -24,10 +27,10 @@ use Rattle.udfs_salvage.specs.Found.{Found, volume_now}
 use Rattle.udfs_salvage.specs.Surveys.{full_entries, full_nodes}
 use Rattle.udfs_salvage.specs.Texts.{has_two as told_two}
 use Rattle.udfs_salvage.specs.declared.surveys.Survey as code_survey
-use Rattle.udfs_overview.specs.FoundLists.{found_lines}
+use Rattle.udfs_overview.specs.FoundLists.{found_lines, named}
 use Rattle.udfs_overview.specs.FullLists.{lost_and_found, lost_text}
-use Rattle.udfs_overview.specs.LostLists.{file_line, folder_at, is_folder_at, lost_lines, lost_word, node_line, place_column, tree_lines}
-use Rattle.udfs_overview.proofs.FoundPieces.{found_full}
+use Rattle.udfs_overview.specs.LostLists.{Named, file_line, folder_at, is_folder_at, lost_lines, lost_word, node_line, place_column, tree_lines}
+use Rattle.udfs_overview.proofs.FoundPieces.{found_full, named_full}
 use Rattle.udfs_overview.specs.LostTrees.{AreLost, AreLostBy, IsLostOf, IsUnfound, IsUnfoundBy}
 use Rattle.udfs_overview.specs.Searched.{Searched, rootless_now, searched_by, searched_of, without_root}
 use Rattle.udfs_overview.specs.declared.lost_found.Lost.{Lost}
@@ -52,15 +55,15 @@ pub folder_full : (v : View) (ns : List NodeFields) (o : Option LongAd) → fold
 folder_full v ns None = refl
 folder_full v ns (Some a) = first_full v (icb_of a) ns
 
-tree_full : (form : ListForm) (v : View) (two : Bool) (ns : List NodeFields) (t : LostTree) → tree_lines form v two ns t ≡ tree_lines form v two (map (full_node v) ns) t
+tree_full : (form : ListForm) (v : View) (two : Bool) (named : Named) (ns : List NodeFields) (t : LostTree) → tree_lines form v two named ns t ≡ tree_lines form v two named (map (full_node v) ns) t
 unfolding tree_lines
-tree_full form v two ns t = ap (λ place. flat_map (node_line form v (lost_word two t.folder) (place_column form place)) (map (full_node v) t.nodes.items)) (folder_full v ns (parent_at v t.folder))
+tree_full form v two named ns t = ap (λ place. flat_map (node_line form v (lost_word two t.folder) (place_column form place) (named t.folder)) (map (full_node v) t.nodes.items)) (folder_full v ns (parent_at v t.folder))
 
 -- ---- lines
 
-trees_full : (form : ListForm) (v : View) (two : Bool) (ns : List NodeFields) (trees : List LostTree) → flat_map (tree_lines form v two ns) trees ≡ flat_map (tree_lines form v two (map (full_node v) ns)) trees
-trees_full form v two ns [] = refl
-trees_full form v two ns (t ∷ trees) = λ i. tree_full form v two ns t i ++ trees_full form v two ns trees i
+trees_full : (form : ListForm) (v : View) (two : Bool) (named : Named) (ns : List NodeFields) (trees : List LostTree) → flat_map (tree_lines form v two named ns) trees ≡ flat_map (tree_lines form v two named (map (full_node v) ns)) trees
+trees_full form v two named ns [] = refl
+trees_full form v two named ns (t ∷ trees) = λ i. tree_full form v two named ns t i ++ trees_full form v two named ns trees i
 
 borrowed : (v : View) (files : List (Bor Unnamed)) → map (λ (file : Bor Unnamed). full_entry v file.now) files ≡ map (full_entry v) (map (λ (file : Bor Unnamed). file.now) files)
 borrowed v [] = refl
@@ -71,22 +74,19 @@ pub files_full : (v : View) (deleted : Bool) (trees : List LostTree) (es : List 
 files_full v deleted trees es files are = borrowed v files ∙ ap (map (full_entry v)) are ∙ sym (bare_entries_will_do v deleted trees es).files
 
 -- the lines of trees, and then those of files, are all; `ns`, `es` and `files` are as the code lends them
-lost_pieces : (form : ListForm) (deleted : Bool) (v : View) (two : Bool) (ns : List NodeFields) (es : List Unnamed) (trees : List LostTree) (files lent : List (Bor Unnamed)) → lent ≡ files
+pub lost_pieces : (form : ListForm) (deleted : Bool) (v : View) (two : Bool) (named : Named) (ns : List NodeFields) (es : List Unnamed) (trees : List LostTree) (files lent : List (Bor Unnamed)) → lent ≡ files
     → map (λ (file : Bor Unnamed). file.now) files ≡ lost_files v deleted trees es
-    → flat_map (tree_lines form v two ns) trees ++ flat_map (file_line form v two) (map (λ (file : Bor Unnamed). full_entry v file.now) lent)
-    ≡ lost_lines form deleted v two ns (map (full_entry v) es) trees
-lost_pieces form deleted v two ns es trees files lent lent_is are =
-    (λ i. flat_map (tree_lines form v two ns) trees ++ flat_map (file_line form v two) (map (λ (file : Bor Unnamed). full_entry v file.now) (lent_is i)))
-    ∙ (λ i. flat_map (tree_lines form v two ns) trees ++ flat_map (file_line form v two) (files_full v deleted trees es files are i))
+    → flat_map (tree_lines form v two named ns) trees ++ flat_map (file_line form v two named) (map (λ (file : Bor Unnamed). full_entry v file.now) lent)
+    ≡ lost_lines form deleted v two named ns (map (full_entry v) es) trees
+lost_pieces form deleted v two named ns es trees files lent lent_is are =
+    (λ i. flat_map (tree_lines form v two named ns) trees ++ flat_map (file_line form v two named) (map (λ (file : Bor Unnamed). full_entry v file.now) (lent_is i)))
+    ∙ (λ i. flat_map (tree_lines form v two named ns) trees ++ flat_map (file_line form v two named) (files_full v deleted trees es files are i))
 
--- and the names that are found behind these
-pub lost_and_found_pieces : (form : ListForm) (deleted : Bool) (v : View) (two : Bool) (ns : List NodeFields) (es : List Unnamed) (trees : List LostTree) (files lent : List (Bor Unnamed)) → lent ≡ files
-    → map (λ (file : Bor Unnamed). file.now) files ≡ lost_files v deleted trees es
-    → flat_map (tree_lines form v two ns) trees ++ (flat_map (file_line form v two) (map (λ (file : Bor Unnamed). full_entry v file.now) lent) ++ found_lines form deleted v two ns (map (full_entry v) es) trees)
-    ≡ lost_and_found form deleted v two ns (map (full_entry v) es) trees
-lost_and_found_pieces form deleted v two ns es trees files lent lent_is are =
-    sym (append_assoc (flat_map (tree_lines form v two ns) trees) (flat_map (file_line form v two) (map (λ (file : Bor Unnamed). full_entry v file.now) lent)) (found_lines form deleted v two ns (map (full_entry v) es) trees))
-    ∙ ap (λ l. l ++ found_lines form deleted v two ns (map (full_entry v) es) trees) (lost_pieces form deleted v two ns es trees files lent lent_is are)
+-- of nodes without their blocks and holes the same is listed
+both_full : (form : ListForm) (deleted : Bool) (v : View) (two : Bool) (ns : List NodeFields) (es : List Unnamed) (ts : List LostTree) → lost_and_found form deleted v two ns es ts ≡ lost_and_found form deleted v two (map (full_node v) ns) es ts
+both_full form deleted v two ns es ts =
+    (λ i. (trees_full form v two (named form deleted v ns es ts) ns ts i ++ flat_map (file_line form v two (named form deleted v ns es ts)) (lost_files v deleted ts es)) ++ found_full form deleted v two ns es ts i)
+    ∙ (λ i. lost_lines form deleted v two (named_full form deleted v ns es ts i) (map (full_node v) ns) es ts ++ found_lines form deleted v two (map (full_node v) ns) es ts)
 
 -- where the volume opens, seen by the table
 pub lost_seen : (form : ListForm) (deleted : Bool) (M : Blocks) (answer : Answer Found) (f : Found) (v : View) (two : Bool) (ns nodes : List NodeFields) (es entries : List Unnamed) (ts trees : List LostTree) (closed : Option Searched)
@@ -94,7 +94,7 @@ pub lost_seen : (form : ListForm) (deleted : Bool) (M : Blocks) (answer : Answer
     → lost_and_found form deleted v two ns (map (full_entry v) es) ts ≡ lost_text form deleted (searched_by closed M answer (full_entries M answer entries)) (full_nodes M answer nodes) trees
 unfolding lost_text
 lost_seen form deleted M answer f v two ns nodes es entries ts trees closed opened seen is nodes_are entries_are trees_are =
-    (λ i. (trees_full form v two ns ts i ++ flat_map (file_line form v two) (lost_files v deleted ts (map (full_entry v) es))) ++ found_full form deleted v two ns (map (full_entry v) es) ts i)
+    both_full form deleted v two ns (map (full_entry v) es) ts
     ∙ (λ i. lost_and_found form deleted (seen i) (same i) (map (full_node (seen i)) (nodes_are i)) (map (full_entry (seen i)) (entries_are i)) (trees_are i))
     ∙ (λ i. lost_text form deleted (searched_by closed M (sym opened i) (full_entries M (sym opened i) entries)) (full_nodes M (sym opened i) nodes) trees)
   where
@@ -139,39 +139,45 @@ pub opened_place : (M : Blocks) (answer : Answer Found) (f : Found) (entries : L
     → searched_by closed M answer (full_entries M answer entries) ≡ Some (record { view = view M f.space; two = has_two f.layout; entries = map (full_entry (view M f.space)) entries })
 opened_place M answer f entries closed opened = λ i. searched_by closed M (opened i) (full_entries M (opened i) entries)
 
-pub opened_lost : (deleted : Bool) (s : code_survey.Survey Table) (f : Found) (v : View) (es : List Unnamed) (lost : Lost) → volume_now s.volume ≡ found f → v ≡ view (state_of s.table.now) f.space → es ≡ s.unnamed.items
-    → AreLost v deleted es lost.trees.items → IsLostOf deleted s lost
-opened_lost deleted s f v es lost opened seen are a = record {
-  place = place (option_map (rootless_now (state_of s.table.now)) lost.rootless) ∙ sym (place (without_root s.profile (state_of s.table.now) s.last));
-  trees = subst (λ o. AreLostBy deleted o lost.trees.items) (sym (place (without_root s.profile (state_of s.table.now) s.last))) (full_lost v (view (state_of s.table.now) f.space) deleted es s.unnamed.items lost.trees.items seen are a);
+pub opened_lost : (deleted : Bool) {B : Type 0} (states : B → Blocks) (s : code_survey.Survey B) (f : Found) (v : View) (es : List Unnamed) (lost : Lost) → volume_now s.volume ≡ found f → v ≡ view (states s.table.now) f.space → es ≡ s.unnamed.items
+    → AreLost v deleted es lost.trees.items → IsLostOf states deleted s lost
+opened_lost deleted states s f v es lost opened seen are a = record {
+  place = place (option_map (rootless_now (states s.table.now)) lost.rootless) ∙ sym (place (without_root s.profile (states s.table.now) s.last));
+  trees = subst (λ o. AreLostBy deleted o lost.trees.items) (sym (place (without_root s.profile (states s.table.now) s.last))) (full_lost v (view (states s.table.now) f.space) deleted es s.unnamed.items lost.trees.items seen are a);
 }
   where
-    place : (closed : Option Searched) → searched_by closed (state_of s.table.now) (volume_now s.volume) (full_entries (state_of s.table.now) (volume_now s.volume) s.unnamed.items)
-        ≡ Some (record { view = view (state_of s.table.now) f.space; two = has_two f.layout; entries = map (full_entry (view (state_of s.table.now) f.space)) s.unnamed.items })
-    place closed = opened_place (state_of s.table.now) (volume_now s.volume) f s.unnamed.items closed opened
+    place : (closed : Option Searched) → searched_by closed (states s.table.now) (volume_now s.volume) (full_entries (states s.table.now) (volume_now s.volume) s.unnamed.items)
+        ≡ Some (record { view = view (states s.table.now) f.space; two = has_two f.layout; entries = map (full_entry (view (states s.table.now) f.space)) s.unnamed.items })
+    place closed = opened_place (states s.table.now) (volume_now s.volume) f s.unnamed.items closed opened
 
-pub opened_unfound : (deleted : Bool) (s : code_survey.Survey Table) (f : Found) (v : View) (es : List Unnamed) (error : NodesError) → volume_now s.volume ≡ found f → v ≡ view (state_of s.table.now) f.space → es ≡ s.unnamed.items
-    → IsUnfound v (lost_folders v deleted es) error → IsUnfoundBy deleted (searched_of s) error
-opened_unfound deleted s f v es error opened seen are a =
-    subst (λ o. IsUnfoundBy deleted o error) (sym (opened_place (state_of s.table.now) (volume_now s.volume) f s.unnamed.items (without_root s.profile (state_of s.table.now) s.last) opened))
-    (full_unfound v (view (state_of s.table.now) f.space) deleted es s.unnamed.items error seen are a)
+pub opened_unfound : (deleted : Bool) {B : Type 0} (states : B → Blocks) (s : code_survey.Survey B) (f : Found) (v : View) (es : List Unnamed) (error : NodesError) → volume_now s.volume ≡ found f → v ≡ view (states s.table.now) f.space → es ≡ s.unnamed.items
+    → IsUnfound v (lost_folders v deleted es) error → IsUnfoundBy deleted (searched_of states s) error
+opened_unfound deleted states s f v es error opened seen are a =
+    subst (λ o. IsUnfoundBy deleted o error) (sym (opened_place (states s.table.now) (volume_now s.volume) f s.unnamed.items (without_root s.profile (states s.table.now) s.last) opened))
+    (full_unfound v (view (states s.table.now) f.space) deleted es s.unnamed.items error seen are a)
 
 -- a volume that does not open is looked through in what is known of it without its file set
-abbrev pub IsClosed : code_survey.Survey Table → Type 0
-IsClosed s = (closed : Option Searched) → searched_by closed (state_of s.table.now) (volume_now s.volume) (full_entries (state_of s.table.now) (volume_now s.volume) s.unnamed.items) ≡ closed
+abbrev pub IsClosed : {B : Type 0} → (B → Blocks) → code_survey.Survey B → Type 0
+IsClosed states s = (closed : Option Searched) → searched_by closed (states s.table.now) (volume_now s.volume) (full_entries (states s.table.now) (volume_now s.volume) s.unnamed.items) ≡ closed
 
-pub holes_closed : (s : code_survey.Survey Table) (listed : List ℕ) → volume_now s.volume ≡ holes listed → IsClosed s
-holes_closed s listed is closed = λ i. searched_by closed (state_of s.table.now) (is i) (full_entries (state_of s.table.now) (is i) s.unnamed.items)
+pub holes_closed : {B : Type 0} (states : B → Blocks) (s : code_survey.Survey B) (listed : List ℕ) → volume_now s.volume ≡ holes listed → IsClosed states s
+holes_closed states s listed is closed = λ i. searched_by closed (states s.table.now) (is i) (full_entries (states s.table.now) (is i) s.unnamed.items)
 
-pub faulty_closed : (s : code_survey.Survey Table) (fault : VolumeFault) → volume_now s.volume ≡ faulty fault → IsClosed s
-faulty_closed s fault is closed = λ i. searched_by closed (state_of s.table.now) (is i) (full_entries (state_of s.table.now) (is i) s.unnamed.items)
+pub faulty_closed : {B : Type 0} (states : B → Blocks) (s : code_survey.Survey B) (fault : VolumeFault) → volume_now s.volume ≡ faulty fault → IsClosed states s
+faulty_closed states s fault is closed = λ i. searched_by closed (states s.table.now) (is i) (full_entries (states s.table.now) (is i) s.unnamed.items)
 
-pub closed_lost : (deleted : Bool) (s : code_survey.Survey Table) (lost : Lost) → IsClosed s → option_map (rootless_now (state_of s.table.now)) lost.rootless ≡ without_root s.profile (state_of s.table.now) s.last
-    → AreLostBy deleted (without_root s.profile (state_of s.table.now) s.last) lost.trees.items → IsLostOf deleted s lost
-closed_lost deleted s lost is at are = record {
-  place = is (option_map (rootless_now (state_of s.table.now)) lost.rootless) ∙ at ∙ sym (is (without_root s.profile (state_of s.table.now) s.last));
-  trees = subst (λ o. AreLostBy deleted o lost.trees.items) (sym (is (without_root s.profile (state_of s.table.now) s.last))) are;
+pub closed_lost : (deleted : Bool) {B : Type 0} (states : B → Blocks) (s : code_survey.Survey B) (lost : Lost) → IsClosed states s → option_map (rootless_now (states s.table.now)) lost.rootless ≡ without_root s.profile (states s.table.now) s.last
+    → AreLostBy deleted (without_root s.profile (states s.table.now) s.last) lost.trees.items → IsLostOf states deleted s lost
+closed_lost deleted states s lost is at are = record {
+  place = is (option_map (rootless_now (states s.table.now)) lost.rootless) ∙ at ∙ sym (is (without_root s.profile (states s.table.now) s.last));
+  trees = subst (λ o. AreLostBy deleted o lost.trees.items) (sym (is (without_root s.profile (states s.table.now) s.last))) are;
 }
 
-pub closed_unfound : (deleted : Bool) (s : code_survey.Survey Table) (error : NodesError) → IsClosed s → IsUnfoundBy deleted (without_root s.profile (state_of s.table.now) s.last) error → IsUnfoundBy deleted (searched_of s) error
-closed_unfound deleted s error is a = subst (λ o. IsUnfoundBy deleted o error) (sym (is (without_root s.profile (state_of s.table.now) s.last))) a
+pub closed_unfound : (deleted : Bool) {B : Type 0} (states : B → Blocks) (s : code_survey.Survey B) (error : NodesError) → IsClosed states s → IsUnfoundBy deleted (without_root s.profile (states s.table.now) s.last) error → IsUnfoundBy deleted (searched_of states s) error
+closed_unfound deleted states s error is a = subst (λ o. IsUnfoundBy deleted o error) (sym (is (without_root s.profile (states s.table.now) s.last))) a
+
+-- what holds of why they were not found, by any store
+pub if_told : (P Q : NodesError → Type 0) → ((e : NodesError) → P e → Q e) → (e : NodesGaveUp) → IfTold P e → IfTold Q e
+if_told P Q by TooManyPaths h = by errors.TooManyPaths h
+if_told P Q by OutOfMemory h = by errors.OutOfMemory h
+if_told P Q by Unread h = tt

@@ -1,10 +1,12 @@
 -- The list of names that are found behind holes of torn folders, behind that of lost folders and lost files. A name that is found is evidence and no proof, so that each
--- line says `found` behind its path, and in front of that what the entry is called where it is listed as lost. Where only paths are asked for there are none of these
--- lines: a path alone does not say that it was found.
+-- line says `found` behind its path, and in front of that what the entry is called by its block. What has such a line has no other: no line of its own in the list before,
+-- and what is in a folder stands there below what the folder is called by its block. Where only paths are asked for there are none of these lines: a path alone does not
+-- say that it was found.
 --     found_line form view two word path f      the line of a name found in the folder at a path, in a lost tree of this word, or in the volume's tree, where it is empty
 --     all_found form view two names nodes trees     those of all names that are found in torn folders: of the volume that has these nodes, and then of lost trees
 --     found_lines form deleted view two nodes entries trees    those of names of these entries
-use Rattle.std.specs.Prelude.{◌&&◌, Bool, ℕ, List, [], ◌∷◌, ◌++◌, flat_map, map, Some, codes, if◌then◌else◌}
+--     named form deleted view nodes entries trees icb    one of these lines is that of the entry at an information control block
+use Rattle.std.specs.Prelude.{◌&&◌, Bool, not, ℕ, List, [], ◌∷◌, ◌++◌, flat_map, map, Some, codes, if◌then◌else◌}
 use Rattle.serde_json.specs.Data.{string}
 use Rattle.serde_json.specs.Written.{compact_text}
 use Rattle.udfs_tag.specs.declared.layouts.LongAd.{LongAd}
@@ -16,9 +18,9 @@ use Rattle.udfs_walk.specs.UnnamedEntries.{address_of}
 use Rattle.udfs_walk.specs.Unsettled.{is_whole}
 use Rattle.udfs_walk.specs.declared.answers.Unnamed.{Unnamed}
 use Rattle.udfs_lost.specs.Folders.{icb_of_entry}
-use Rattle.udfs_lost.specs.FoundNames.{Found, found_names, full_found, torn_folders, unplaced}
+use Rattle.udfs_lost.specs.FoundNames.{Found, found_names, full_found, is_found, torn_folders, unplaced}
 use Rattle.udfs_lost.specs.declared.trees.LostTree.{LostTree}
-use Rattle.udfs_overview.specs.LostLists.{lost_line, lost_word}
+use Rattle.udfs_overview.specs.LostLists.{Named, lost_line, lost_word}
 use Rattle.udfs_overview.specs.NodeLists.{safe_path}
 use Rattle.udfs_overview.specs.declared.node_list.ListForm.{ListForm}
 
@@ -66,6 +68,10 @@ all_found form view two names nodes trees = folders_found form view two names []
 -- of all names of entries that no name leads to, unless only paths are asked for
 unfoldable pub found_lines : ListForm → Bool → View → Bool → List NodeFields → List Unnamed → List LostTree → List ℕ
 found_lines form deleted view two nodes entries trees = if form.paths then [] else all_found form view two (found_names view (unplaced view deleted trees entries)) nodes trees
+
+-- which entries have a name among them
+abbrev pub named : ListForm → Bool → View → List NodeFields → List Unnamed → List LostTree → Named
+named form deleted view nodes entries trees icb = not form.paths && is_found view (unplaced view deleted trees entries) nodes trees icb
 
 -- what code has of them: the names of entries without their blocks and holes, which are found again
 abbrev pub full_names : View → List Unnamed → Names

@@ -8,15 +8,16 @@ use Rattle.udfs_walk.specs.NodeFields.{NodeFields}
 use Rattle.udfs_walk.specs.declared.answers.Unnamed.{Unnamed}
 use Rattle.udfs_lost.specs.declared.trees.LostTree.{LostTree}
 use Rattle.udfs_salvage.specs.Reports.{Report}
-use Rattle.udfs_overview.specs.FoundLists.{found_lines}
+use Rattle.udfs_overview.specs.FoundLists.{found_lines, named}
 use Rattle.udfs_overview.specs.LostLists.{lost_lines}
 use Rattle.udfs_overview.specs.NodeLists.{list_text}
 use Rattle.udfs_overview.specs.Searched.{Searched}
 use Rattle.udfs_overview.specs.declared.node_list.ListForm.{ListForm}
 
--- the lines of what is lost in a view, and of names that are found behind holes
+-- the lines of what is lost in a view, and of names that are found behind holes: each entry by the names that are found of it, or else by its block
 abbrev pub lost_and_found : ListForm → Bool → View → Bool → List NodeFields → List Unnamed → List LostTree → List ℕ
-lost_and_found form deleted view two nodes entries trees = lost_lines form deleted view two nodes entries trees ++ found_lines form deleted view two nodes entries trees
+lost_and_found form deleted view two nodes entries trees =
+    lost_lines form deleted view two (named form deleted view nodes entries trees) nodes entries trees ++ found_lines form deleted view two nodes entries trees
 
 -- all lines where what is lost is looked for, of a volume that has these nodes; and else none
 unfoldable pub lost_text : ListForm → Bool → Option Searched → List NodeFields → List LostTree → List ℕ

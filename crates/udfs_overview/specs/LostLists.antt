@@ -1,10 +1,11 @@
 -- The list of lost folders and lost files, behind that of the nodes. Names come from lost trees, paths begin with `lost:` and a block.
 --     lost_word two icb                  what a lost folder or a lost file is called
 --     place_of view nodes folder         the path of the directory in which a folder is, as it says itself
---     tree_lines form view two nodes t   the lines of a lost tree
---     file_line form view two u          the line of a lost file
---     lost_lines form deleted view two nodes entries trees    the lines of all lost trees, and of the lost files that they do not name
-use Rattle.std.specs.Prelude.{ℕ, ◌&&◌, Bool, List, [], ◌∷◌, ◌++◌, flat_map, map, Option, Some, None, option_map, codes, decimal, if◌then◌else◌}
+--     tree_lines form view two named nodes t   the lines of a lost tree
+--     file_line form view two named u          the line of a lost file
+--     lost_lines form deleted view two named nodes entries trees    the lines of all lost trees, and of the lost files that they do not name: what is named elsewhere
+--                                              has no line of its own
+use Rattle.std.specs.Prelude.{ℕ, ◌&&◌, Bool, false, List, [], ◌∷◌, ◌++◌, flat_map, map, Option, Some, None, option_map, codes, decimal, if◌then◌else◌}
 use Rattle.std.specs.List.{find}
 use Rattle.serde_json.specs.Data.{string}
 use Rattle.serde_json.specs.Written.{compact_text}
@@ -96,20 +97,31 @@ unfoldable pub lost_line : ListForm → Bool → Standing → Kind → Option �
 lost_line form tail s k size stamp path place =
     (if form.json then lost_object form tail s k size stamp path place else lost_row form tail s k size stamp path place) ++ line_end form
 
--- the line of a node of a lost tree of this name and with the column of its folder's place
-unfoldable pub node_line : ListForm → View → List ℕ → List ℕ → NodeFields → List ℕ
-node_line form view word place n = if form.torn && is_whole n.standing then []
+-- a path is that of the folder itself, which is named elsewhere
+abbrev pub is_own : Bool → List (List ℕ) → Bool
+is_own named [] = named
+is_own named (name ∷ names) = false
+
+-- the line of a node of a lost tree of this name and with the column of its folder's place; the folder has none where it is named elsewhere
+unfoldable pub node_line : ListForm → View → List ℕ → List ℕ → Bool → NodeFields → List ℕ
+node_line form view word place named n = if is_own named n.path then [] else if form.torn && is_whole n.standing then []
     else lost_line form (has_tail view n.icb) n.standing n.kind n.size n.stamp (lost_path word n.path) (own_place n.path place)
 
--- the lines of a lost tree
-unfoldable pub tree_lines : ListForm → View → Bool → List NodeFields → LostTree → List ℕ
-tree_lines form view two nodes t = flat_map (node_line form view (lost_word two t.folder) (place_column form (place_of view nodes t.folder))) (map (full_node view) t.nodes.items)
+-- which entries are named elsewhere
+abbrev pub Named : Type 0
+Named = Icb → Bool
 
--- the line of a lost file
-unfoldable pub file_line : ListForm → View → Bool → Unnamed → List ℕ
-file_line form view two u = if form.torn && is_whole u.standing then []
+-- the lines of a lost tree
+unfoldable pub tree_lines : ListForm → View → Bool → Named → List NodeFields → LostTree → List ℕ
+tree_lines form view two named nodes t =
+    flat_map (node_line form view (lost_word two t.folder) (place_column form (place_of view nodes t.folder)) (named t.folder)) (map (full_node view) t.nodes.items)
+
+-- the line of a lost file, which has none where it is named elsewhere
+unfoldable pub file_line : ListForm → View → Bool → Named → Unnamed → List ℕ
+file_line form view two named u = if named (icb_of_entry u) then [] else if form.torn && is_whole u.standing then []
     else lost_line form (has_tail view (address_of (icb_of_entry u))) u.standing u.kind (Some u.size) (Some u.stamp) (lost_word two (icb_of_entry u)) []
 
 -- all lines in a view, of lost trees and then of lost files
-abbrev pub lost_lines : ListForm → Bool → View → Bool → List NodeFields → List Unnamed → List LostTree → List ℕ
-lost_lines form deleted view two nodes entries trees = flat_map (tree_lines form view two nodes) trees ++ flat_map (file_line form view two) (lost_files view deleted trees entries)
+abbrev pub lost_lines : ListForm → Bool → View → Bool → Named → List NodeFields → List Unnamed → List LostTree → List ℕ
+lost_lines form deleted view two named nodes entries trees =
+    flat_map (tree_lines form view two named nodes) trees ++ flat_map (file_line form view two named) (lost_files view deleted trees entries)

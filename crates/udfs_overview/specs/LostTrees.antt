@@ -2,9 +2,9 @@
 --     AreLost view deleted entries trees      the trees of the lost folders among entries that no name leads to
 --     AreLostBy deleted searched trees        the same where they are looked for
 --     IsUnfoundBy deleted searched error      why they are not found
---     IsLostOf deleted survey lost            what is lost of a survey's volume was found
+--     IsLostOf states deleted survey lost     what is lost of the volume of a survey of a store was found, where these are its states
 use Rattle.std.specs.Prelude.{◌≡◌, ◌⊎◌, ⊤, Bool, List, [], Option, Some, None}
-use Rattle.udfs_lattice.specs.Tables.{Table}
+use Rattle.udfs_lattice.specs.Volumes.{Blocks}
 use Rattle.udfs_space.specs.Places.{View}
 use Rattle.udfs_walk.specs.Targets.{Icb}
 use Rattle.udfs_walk.specs.declared.answers.NodesError.{NodesError}
@@ -45,6 +45,6 @@ IsUnfoundBy deleted None error = error ≡ OutOfMemory
 IsUnfoundBy deleted (Some s) error = IsUnfound s.view (lost_folders s.view deleted s.entries) error
 
 -- these are the trees of the lost folders of a survey's volume, looked for where that is to be
-pub record IsLostOf (deleted : Bool) (s : code_survey.Survey Table) (lost : Lost) : Type 0 where
-  pub place : searched_now s lost ≡ searched_of s
-  pub trees : AreLostBy deleted (searched_of s) lost.trees.items
+pub record IsLostOf {B : Type 0} (states : B → Blocks) (deleted : Bool) (s : code_survey.Survey B) (lost : Lost) : Type 0 where
+  pub place : searched_now states s lost ≡ searched_of states s
+  pub trees : AreLostBy deleted (searched_of states s) lost.trees.items

@@ -3,11 +3,10 @@
 --     of_placed blocks p                 all of a volume that is known by its layout and the places of its blocks
 --     without_root profile blocks last   that, where these are found
 --     searched profile blocks last report    the volume of a report, and where it does not open, what is known of it without its file set
---     searched_of survey                 the same of a survey
+--     searched_of states survey          the same of a survey of a store, where these are its states
 --     looked_in blocks report lost       the same, as what was found tells
---     searched_now survey lost           the same as the code has it
+--     searched_now states survey lost    the same as the code has it
 use Rattle.std.specs.Prelude.{ℕ, Bool, List, Option, Some, None, cond, map, option_map}
-use Rattle.udfs_lattice.specs.Tables.{Table, state_of}
 use Rattle.udfs_lattice.specs.Volumes.{Blocks}
 use Rattle.udfs_volume.specs.Answers as answer
 use Rattle.udfs_volume.specs.Answers.{Answer}
@@ -19,7 +18,7 @@ use Rattle.udfs_walk.specs.declared.answers.Unnamed.{Unnamed}
 use Rattle.udfs_lost.specs.PlacedVolumes.{Placed, all_entries, has_two, if_found, placed_by}
 use Rattle.udfs_salvage.specs.Found.{Found, volume_now}
 use Rattle.udfs_salvage.specs.Reports.{Report}
-use Rattle.udfs_salvage.specs.Surveys.{full_entries, survey_now}
+use Rattle.udfs_salvage.specs.Surveys.{full_entries, survey_by}
 use Rattle.udfs_salvage.specs.declared.surveys.Survey as code_survey
 use Rattle.udfs_overview.specs.Disagreements.{has_room}
 use Rattle.udfs_overview.specs.declared.lost_found.Lost.{Lost}
@@ -50,8 +49,8 @@ abbrev pub searched : Profile → Blocks → ℕ → Report → Option Searched
 searched profile blocks last report = searched_by (without_root profile blocks last) blocks report.volume report.unnamed
 
 -- the same of a survey
-abbrev pub searched_of : code_survey.Survey Table → Option Searched
-searched_of s = searched s.profile (state_of s.table.now) s.last (survey_now s)
+abbrev pub searched_of : {B : Type 0} → (B → Blocks) → code_survey.Survey B → Option Searched
+searched_of states s = searched s.profile (states s.table.now) s.last (survey_by states s)
 
 -- ---- the same things of the code
 
@@ -68,6 +67,6 @@ abbrev pub looked_in : Blocks → Report → Lost → Option Searched
 looked_in blocks r lost = searched_by (option_map (rootless_now blocks) lost.rootless) blocks r.volume r.unnamed
 
 -- where the survey and what was found tell that it was looked for
-abbrev pub searched_now : code_survey.Survey Table → Lost → Option Searched
-searched_now s lost = searched_by (option_map (rootless_now (state_of s.table.now)) lost.rootless) (state_of s.table.now) (volume_now s.volume)
-    (full_entries (state_of s.table.now) (volume_now s.volume) s.unnamed.items)
+abbrev pub searched_now : {B : Type 0} → (B → Blocks) → code_survey.Survey B → Lost → Option Searched
+searched_now states s lost = searched_by (option_map (rootless_now (states s.table.now)) lost.rootless) (states s.table.now) (volume_now s.volume)
+    (full_entries (states s.table.now) (volume_now s.volume) s.unnamed.items)

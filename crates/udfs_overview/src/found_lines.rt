@@ -1,9 +1,9 @@
 //! What a line of the list says of a name that is found behind a hole. Each function appends to a text; if memory runs out, a part may be
 //! appended.
 
-ghost use Rattle.std.specs.Prelude.{◌≡◌, ◌++◌, OnOk, IfOk};
+ghost use Rattle.std.specs.Prelude.{◌≡◌, ◌++◌, OnOk, IfOk, IsErrOf};
 ghost use Rattle.std.specs.String.{string_bytes};
-ghost use Rattle.udfs_space.specs.Views.{view_now};
+ghost use Rattle.udfs_space.specs.Views.{view_by};
 ghost use Rattle.udfs_lost.specs.FoundNames.{full_found};
 ghost use Rattle.udfs_overview.specs.FoundLists.{found_columns, found_line, found_mark, found_member, found_path};
 
@@ -12,11 +12,12 @@ use crate::node_columns::{is_whole, push_part, push_safe_path};
 use crate::node_list::ListForm;
 use crate::node_objects::push_quoted;
 use std::alloc::Global;
+use udfs_lattice::{BlockStore, GaveUp};
 use udfs_lost::FoundName;
 use udfs_osta::{Name, OutOfMemory};
-use udfs_space::View;
+use udfs_space::StoreView;
 use udfs_tag::LbAddr;
-use udfs_walk::{Path, full_standing, tail_at};
+use udfs_walk::{Path, full_standing_by, tail_by};
 
 /// What an entry is called where it is listed as lost, and that this name of it was found.
 fn push_found_columns(text: &mut String, two: bool, icb: LbAddr) -> Result<(), OutOfMemory>
@@ -63,27 +64,29 @@ fn found_path(alloc: Global, word: &str, folder: &Path, name: &Name) -> Result<S
 
 /// The line of a name that is found in the folder at a path, of an entry that is given without its blocks and holes, if it is asked for.
 #[tactic(auto, unfolding(crate::specs::FoundLists::found_line))]
-pub(crate) fn push_found_line(
+pub(crate) fn push_found_line<B: BlockStore>(
     alloc: Global,
     text: &mut String,
     form: ListForm,
-    view: View<'_>,
+    view: StoreView<'_, B>,
     two: bool,
     word: &str,
     folder: &Path,
     found: &FoundName<'_>,
-) -> Result<(), OutOfMemory>
-    ensures { OnOk result (string_bytes text.new ≡ string_bytes text.old ++ found_line form (view_now view.entry) two word.now folder.now (full_found (view_now view.entry) found.now)) }
+) -> Result<(), GaveUp>
+    ensures line { OnOk result (B.tells → string_bytes text.new ≡ string_bytes text.old ++ found_line form (view_by B.states view.entry) two word.now folder.now (full_found (view_by B.states view.entry) found.now)) }
+    ensures fails { IsErrOf result GaveUp.Unread → B.fails }
 {
     let lost = found.lost;
-    let full = full_standing(alloc, view, lost.icb(), &lost.standing)?;
+    let full = full_standing_by(alloc, view, lost.icb(), &lost.standing)?;
     if form.torn && is_whole(&full) {
         return Ok(());
     }
-    let tail = tail_at(alloc, view, lost.icb())?;
+    let tail = tail_by(alloc, view, lost.icb())?;
     let path = found_path(alloc, word, folder, &found.name)?;
     let mark = found_mark(alloc, form, two, lost.address())?;
     let size = Some(lost.size);
     let stamp = Some(lost.stamp);
-    push_lost_line(text, form, tail, &full, lost.kind, size, stamp, path, &mark)
+    push_lost_line(text, form, tail, &full, lost.kind, size, stamp, path, &mark)?;
+    Ok(())
 }

@@ -1,56 +1,60 @@
 //! The list of names that are found behind holes of torn folders, behind that of what is lost.
 
-ghost use Rattle.std.specs.Prelude.{flat_map, map};
+ghost use Rattle.std.specs.Prelude.{IsErrOf, flat_map, map};
 ghost use Rattle.std.specs.String.{string_bytes};
-ghost use Rattle.udfs_space.specs.Views.{view_now};
+ghost use Rattle.udfs_space.specs.Views.{view_by};
 ghost use Rattle.udfs_walk.specs.Bare.{full_entry};
 ghost use Rattle.udfs_lost.specs.FoundNames.{full_found};
-ghost use Rattle.udfs_salvage.specs.Printing.{PassesOn};
+ghost use Rattle.udfs_salvage.specs.StorePrinting.{PassesOnBy};
 ghost use Rattle.udfs_overview.specs.FoundLists.{all_found, folder_found, folders_found, found_line, found_lines, full_names, tree_found};
 
 use crate::found_lines::push_found_line;
 use crate::lost_lines::push_lost_word;
 use crate::node_list::ListForm;
 use std::alloc::Global;
-use udfs_lost::{FoundName, LostTree, Unplaced, found_names, torn_folders, unplaced_in};
+use udfs_lattice::BlockStore;
+use udfs_lost::{FoundName, LostTree, Unplaced, found_names_by, torn_folders, unplaced_by};
 use udfs_reading::Sink;
-use udfs_salvage::{RunError, pass_on};
-use udfs_space::View;
+use udfs_salvage::{PrintError, pass_on};
+use udfs_space::StoreView;
 use udfs_walk::{Node, Path, Unnamed};
 
 /// The line of a name that is found in the folder at a path, if it is asked for.
-fn put_name<W: Sink>(
+fn put_name<B: BlockStore, W: Sink>(
     alloc: Global,
     text: &mut String,
     sink: &mut W,
     form: ListForm,
-    view: View<'_>,
+    view: StoreView<'_, B>,
     two: bool,
     word: &str,
     folder: &Path,
     found: &FoundName<'_>,
-) -> Result<(), RunError>
-    ensures { PassesOn (W.stream sink.old) (W.stream sink.new) (string_bytes text.old) (string_bytes text.new)
-        (found_line form (view_now view.entry) two word.now folder.now (full_found (view_now view.entry) found.now)) result }
+) -> Result<(), PrintError>
+    ensures printed { B.tells → PassesOnBy (W.stream sink.old) (W.stream sink.new) (string_bytes text.old) (string_bytes text.new)
+        (found_line form (view_by B.states view.entry) two word.now folder.now (full_found (view_by B.states view.entry) found.now)) result }
+    ensures fails { IsErrOf result PrintError.Unread → B.fails }
 {
     push_found_line(alloc, text, form, view, two, word, folder, found)?;
-    pass_on(text, sink)
+    pass_on(text, sink)?;
+    Ok(())
 }
 
 /// The lines of names that are found in the folder at a path.
-fn put_names<W: Sink>(
+fn put_names<B: BlockStore, W: Sink>(
     alloc: Global,
     text: &mut String,
     sink: &mut W,
     form: ListForm,
-    view: View<'_>,
+    view: StoreView<'_, B>,
     two: bool,
     word: &str,
     folder: &Path,
     names: &[FoundName<'_>],
-) -> Result<(), RunError>
-    ensures { PassesOn (W.stream sink.old) (W.stream sink.new) (string_bytes text.old) (string_bytes text.new)
-        (flat_map (found_line form (view_now view.entry) two word.now folder.now) (map (full_found (view_now view.entry)) names.now)) result }
+) -> Result<(), PrintError>
+    ensures printed { B.tells → PassesOnBy (W.stream sink.old) (W.stream sink.new) (string_bytes text.old) (string_bytes text.new)
+        (flat_map (found_line form (view_by B.states view.entry) two word.now folder.now) (map (full_found (view_by B.states view.entry)) names.now)) result }
+    ensures fails { IsErrOf result PrintError.Unread → B.fails }
 {
     for name in names {
         put_name(alloc, text, sink, form, view, two, word, folder, name)?;
@@ -59,21 +63,22 @@ fn put_names<W: Sink>(
 }
 
 /// The lines of all names of these entries that are found in a torn folder.
-fn put_folder<W: Sink>(
+fn put_folder<B: BlockStore, W: Sink>(
     alloc: Global,
     text: &mut String,
     sink: &mut W,
     form: ListForm,
-    view: View<'_>,
+    view: StoreView<'_, B>,
     two: bool,
     word: &str,
     lost: &Unplaced<'_>,
     folder: &Node,
-) -> Result<(), RunError>
-    ensures { PassesOn (W.stream sink.old) (W.stream sink.new) (string_bytes text.old) (string_bytes text.new)
-        (folder_found form (view_now view.entry) two (full_names (view_now view.entry) lost.now) word.now folder.now) result }
+) -> Result<(), PrintError>
+    ensures printed { B.tells → PassesOnBy (W.stream sink.old) (W.stream sink.new) (string_bytes text.old) (string_bytes text.new)
+        (folder_found form (view_by B.states view.entry) two (full_names (view_by B.states view.entry) lost.now) word.now folder.now) result }
+    ensures fails { IsErrOf result PrintError.Unread → B.fails }
 {
-    let names = found_names(alloc, view, lost, folder)?;
+    let names = found_names_by(alloc, view, lost, folder)?;
     put_names(
         alloc,
         text,
@@ -88,19 +93,20 @@ fn put_folder<W: Sink>(
 }
 
 /// The lines of all names of these entries that are found in torn folders.
-fn put_folders<W: Sink>(
+fn put_folders<B: BlockStore, W: Sink>(
     alloc: Global,
     text: &mut String,
     sink: &mut W,
     form: ListForm,
-    view: View<'_>,
+    view: StoreView<'_, B>,
     two: bool,
     word: &str,
     lost: &Unplaced<'_>,
     folders: &[&Node],
-) -> Result<(), RunError>
-    ensures { PassesOn (W.stream sink.old) (W.stream sink.new) (string_bytes text.old) (string_bytes text.new)
-        (flat_map (folder_found form (view_now view.entry) two (full_names (view_now view.entry) lost.now) word.now) (map (λ folder. folder.now) folders.now)) result }
+) -> Result<(), PrintError>
+    ensures printed { B.tells → PassesOnBy (W.stream sink.old) (W.stream sink.new) (string_bytes text.old) (string_bytes text.new)
+        (flat_map (folder_found form (view_by B.states view.entry) two (full_names (view_by B.states view.entry) lost.now) word.now) (map (λ folder. folder.now) folders.now)) result }
+    ensures fails { IsErrOf result PrintError.Unread → B.fails }
 {
     for folder in folders {
         put_folder(alloc, text, sink, form, view, two, word, lost, folder)?;
@@ -109,37 +115,39 @@ fn put_folders<W: Sink>(
 }
 
 /// The lines of all names of these entries that are found in the torn folders among nodes.
-fn put_nodes<W: Sink>(
+fn put_nodes<B: BlockStore, W: Sink>(
     alloc: Global,
     text: &mut String,
     sink: &mut W,
     form: ListForm,
-    view: View<'_>,
+    view: StoreView<'_, B>,
     two: bool,
     word: &str,
     lost: &Unplaced<'_>,
     nodes: &[Node],
-) -> Result<(), RunError>
-    ensures { PassesOn (W.stream sink.old) (W.stream sink.new) (string_bytes text.old) (string_bytes text.new)
-        (folders_found form (view_now view.entry) two (full_names (view_now view.entry) lost.now) word.now nodes.now) result }
+) -> Result<(), PrintError>
+    ensures printed { B.tells → PassesOnBy (W.stream sink.old) (W.stream sink.new) (string_bytes text.old) (string_bytes text.new)
+        (folders_found form (view_by B.states view.entry) two (full_names (view_by B.states view.entry) lost.now) word.now nodes.now) result }
+    ensures fails { IsErrOf result PrintError.Unread → B.fails }
 {
     let folders = torn_folders(alloc, nodes)?;
     put_folders(alloc, text, sink, form, view, two, word, lost, &folders)
 }
 
 /// The same of a lost tree.
-fn put_tree<W: Sink>(
+fn put_tree<B: BlockStore, W: Sink>(
     alloc: Global,
     text: &mut String,
     sink: &mut W,
     form: ListForm,
-    view: View<'_>,
+    view: StoreView<'_, B>,
     two: bool,
     lost: &Unplaced<'_>,
     tree: &LostTree,
-) -> Result<(), RunError>
-    ensures { PassesOn (W.stream sink.old) (W.stream sink.new) (string_bytes text.old) (string_bytes text.new)
-        (tree_found form (view_now view.entry) two (full_names (view_now view.entry) lost.now) tree.now) result }
+) -> Result<(), PrintError>
+    ensures printed { B.tells → PassesOnBy (W.stream sink.old) (W.stream sink.new) (string_bytes text.old) (string_bytes text.new)
+        (tree_found form (view_by B.states view.entry) two (full_names (view_by B.states view.entry) lost.now) tree.now) result }
+    ensures fails { IsErrOf result PrintError.Unread → B.fails }
 {
     let mut word = String::new(alloc);
     push_lost_word(&mut word, two, tree.folder)?;
@@ -147,18 +155,19 @@ fn put_tree<W: Sink>(
 }
 
 /// The same of lost trees.
-fn put_trees<W: Sink>(
+fn put_trees<B: BlockStore, W: Sink>(
     alloc: Global,
     text: &mut String,
     sink: &mut W,
     form: ListForm,
-    view: View<'_>,
+    view: StoreView<'_, B>,
     two: bool,
     lost: &Unplaced<'_>,
     trees: &[LostTree],
-) -> Result<(), RunError>
-    ensures { PassesOn (W.stream sink.old) (W.stream sink.new) (string_bytes text.old) (string_bytes text.new)
-        (flat_map (tree_found form (view_now view.entry) two (full_names (view_now view.entry) lost.now)) trees.now) result }
+) -> Result<(), PrintError>
+    ensures printed { B.tells → PassesOnBy (W.stream sink.old) (W.stream sink.new) (string_bytes text.old) (string_bytes text.new)
+        (flat_map (tree_found form (view_by B.states view.entry) two (full_names (view_by B.states view.entry) lost.now)) trees.now) result }
+    ensures fails { IsErrOf result PrintError.Unread → B.fails }
 {
     for tree in trees {
         put_tree(alloc, text, sink, form, view, two, lost, tree)?;
@@ -167,19 +176,20 @@ fn put_trees<W: Sink>(
 }
 
 /// The same of a volume that has these nodes, and of lost trees.
-fn put_all<W: Sink>(
+fn put_all<B: BlockStore, W: Sink>(
     alloc: Global,
     text: &mut String,
     sink: &mut W,
     form: ListForm,
-    view: View<'_>,
+    view: StoreView<'_, B>,
     two: bool,
     lost: &Unplaced<'_>,
     nodes: &[Node],
     trees: &[LostTree],
-) -> Result<(), RunError>
-    ensures { PassesOn (W.stream sink.old) (W.stream sink.new) (string_bytes text.old) (string_bytes text.new)
-        (all_found form (view_now view.entry) two (full_names (view_now view.entry) lost.now) nodes.now trees.now) result }
+) -> Result<(), PrintError>
+    ensures printed { B.tells → PassesOnBy (W.stream sink.old) (W.stream sink.new) (string_bytes text.old) (string_bytes text.new)
+        (all_found form (view_by B.states view.entry) two (full_names (view_by B.states view.entry) lost.now) nodes.now trees.now) result }
+    ensures fails { IsErrOf result PrintError.Unread → B.fails }
 {
     put_nodes(alloc, text, sink, form, view, two, "", lost, nodes)?;
     put_trees(alloc, text, sink, form, view, two, lost, trees)
@@ -188,24 +198,25 @@ fn put_all<W: Sink>(
 /// The lines of all names that are found behind holes of torn folders, of a volume that has these nodes and of lost trees. Where only paths are asked for there is
 /// none: a path alone could not say that it was found.
 #[tactic(auto, unfolding(crate::specs::FoundLists::found_lines))]
-pub(crate) fn put_found<W: Sink>(
+pub(crate) fn put_found<B: BlockStore, W: Sink>(
     alloc: Global,
     text: &mut String,
     sink: &mut W,
     form: ListForm,
     deleted: bool,
-    view: View<'_>,
+    view: StoreView<'_, B>,
     two: bool,
     nodes: &[Node],
     entries: &[Unnamed],
     trees: &[LostTree],
-) -> Result<(), RunError>
-    ensures { PassesOn (W.stream sink.old) (W.stream sink.new) (string_bytes text.old) (string_bytes text.new)
-        (found_lines form deleted (view_now view.entry) two nodes.now (map (full_entry (view_now view.entry)) entries.now) trees.now) result }
+) -> Result<(), PrintError>
+    ensures printed { B.tells → PassesOnBy (W.stream sink.old) (W.stream sink.new) (string_bytes text.old) (string_bytes text.new)
+        (found_lines form deleted (view_by B.states view.entry) two nodes.now (map (full_entry (view_by B.states view.entry)) entries.now) trees.now) result }
+    ensures fails { IsErrOf result PrintError.Unread → B.fails }
 {
     if form.paths {
         return Ok(());
     }
-    let lost = unplaced_in(alloc, view, deleted, trees, entries)?;
+    let lost = unplaced_by(alloc, view, deleted, trees, entries)?;
     put_all(alloc, text, sink, form, view, two, &lost, nodes, trees)
 }

@@ -56,7 +56,7 @@ pub use next_commands::{
     table_path,
 };
 pub use node_columns::lost_of;
-pub use node_list::{ListForm, write_list, write_list_by, write_listing_by};
+pub use node_list::{ListForm, write_list_by, write_listing_by};
 pub use node_widenings::push_wider;
 pub use repeating::{
     Given, pass_number, push_disc_words, push_inputs, push_shell_path, push_shell_word,
@@ -65,9 +65,9 @@ pub use safe_names::{push_safe_name, safe_names_are_safe, safe_names_tell_units}
 pub use sentences::push_sentence;
 pub use spares::{push_spares, spares_disagree, spares_disagree_in};
 pub use streams::push_streams;
-pub use summary::{first_torn_folder, write_summary, write_summary_by};
+pub use summary::{first_torn_folder, write_summary_by};
 pub use summary_figures::{Counts, Figures};
-pub use summary_json::{write_summary_json, write_summary_json_by};
+pub use summary_json::write_summary_json_by;
 pub use summary_lines::{push_disc, push_files, push_others};
 pub use tallies::Tally;
 pub use torn_rows::{TornFiles, TornRow, push_shown_path, torn_files_are_by_loss};

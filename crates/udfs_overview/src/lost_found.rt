@@ -1,8 +1,7 @@
 //! The lost folders of a volume: their trees are looked for before a line is shown.
 
 ghost use Rattle.std.specs.Prelude.{◌≡◌, IfErr, IfOk, IsErrOf, Some, option_map};
-ghost use Rattle.udfs_lattice.specs.Tables.{state_of};
-ghost use Rattle.udfs_space.specs.Views.{view_by, view_now};
+ghost use Rattle.udfs_space.specs.Views.{view_by};
 ghost use Rattle.udfs_walk.specs.GivingUp.{IfTold};
 ghost use Rattle.udfs_lost.specs.Folders.{lost_folders};
 ghost use Rattle.udfs_lost.specs.PlacedVolumes.{placed_now};
@@ -11,15 +10,13 @@ ghost use Rattle.udfs_overview.specs.LostVolumes.{FoundTreesAreTheVolumes, Place
 ghost use Rattle.udfs_overview.specs.Searched.{of_placed, rootless_now, searched_of, without_root};
 
 use crate::disagreements::has_room;
-use std::alloc::{AllocError, Global};
-use udfs_lattice::{BlockStore, BlockTable, GaveUp};
-use udfs_lost::{
-    LostTree, PlacedVolume, lost_roots, lost_roots_by, lost_trees, lost_trees_by, placed_volume_by,
-};
+use std::alloc::Global;
+use udfs_lattice::{BlockStore, GaveUp};
+use udfs_lost::{LostTree, PlacedVolume, lost_roots_by, lost_trees_by, placed_volume_by};
 use udfs_salvage::{Survey, Volume};
-use udfs_space::{StoreView, View};
+use udfs_space::StoreView;
 use udfs_volume::Profile;
-use udfs_walk::{NodesError, NodesGaveUp, Unnamed};
+use udfs_walk::{NodesGaveUp, Unnamed};
 
 /// What is known of a volume without its file set: no name is known to lead to any of its entries.
 #[derive(Debug, Drop)]
@@ -40,21 +37,6 @@ pub struct Lost {
 }
 
 /// The trees of the lost folders among entries that no name leads to.
-fn found_in(
-    alloc: Global,
-    view: View<'_>,
-    deleted: bool,
-    entries: &[Unnamed],
-) -> Result<Vec<LostTree>, NodesError>
-    ensures trees { IfOk result (λ trees. AreLost (view_now view.entry) deleted entries.now trees.items) }
-    ensures refused { IfErr result (IsUnfound (view_now view.entry) (lost_folders (view_now view.entry) deleted entries.now)) }
-{
-    let roots = lost_roots(alloc, view, deleted, entries)?;
-    let trees = lost_trees(alloc, view, &roots)?;
-    Ok(trees)
-}
-
-/// The same by any store of blocks.
 pub(crate) fn found_in_by<B: BlockStore>(
     alloc: Global,
     view: StoreView<'_, B>,
@@ -103,36 +85,21 @@ pub(crate) fn without_root_by<B: BlockStore>(
     }
 }
 
-/// The same by a table.
-fn without_root(
-    alloc: Global,
-    table: &BlockTable,
-    last: u32,
-    profile: Profile,
-) -> Result<Option<Rootless>, AllocError>
-    ensures { IfOk result (λ found. option_map (rootless_now (state_of table.now)) found ≡ without_root profile (state_of table.now) last) }
-{
-    match without_root_by(alloc, table, last, profile) {
-        Ok(found) => Ok(found),
-        Err(GaveUp::OutOfMemory) => Err(AllocError),
-        Err(GaveUp::Unread) => unreachable!(),
-    }
-}
-
 /// What is lost of a volume that does not open, where this is known of it.
-fn find_in(
+fn find_in<B: BlockStore>(
     alloc: Global,
-    table: &BlockTable,
+    blocks: &B,
     rootless: Rootless,
     deleted: bool,
-) -> Result<Lost, NodesError>
+) -> Result<Lost, NodesGaveUp>
     ensures place { IfOk result (λ lost. lost.rootless ≡ Some rootless) }
-    ensures trees { IfOk result (λ lost. AreLostBy deleted (Some (rootless_now (state_of table.now) rootless)) lost.trees.items) }
-    ensures refused { IfErr result (IsUnfoundBy deleted (Some (rootless_now (state_of table.now) rootless))) }
+    ensures trees { IfOk result (λ lost. B.tells → AreLostBy deleted (Some (rootless_now (B.states blocks.now) rootless)) lost.trees.items) }
+    ensures refused { IfErr result (λ e. B.tells → IfTold (IsUnfoundBy deleted (Some (rootless_now (B.states blocks.now) rootless))) e) }
+    ensures fails { IsErrOf result NodesGaveUp.Unread → B.fails }
 {
-    match found_in(
+    match found_in_by(
         alloc,
-        rootless.volume.view(table),
+        rootless.volume.view_by(blocks),
         deleted,
         &rootless.entries,
     ) {
@@ -145,24 +112,26 @@ fn find_in(
 }
 
 /// What is lost of a volume that does not open.
-fn find_rootless(
+fn find_rootless<B: BlockStore>(
     alloc: Global,
-    table: &BlockTable,
+    blocks: &B,
     last: u32,
     profile: Profile,
     deleted: bool,
-) -> Result<Lost, NodesError>
-    ensures place { IfOk result (λ lost. option_map (rootless_now (state_of table.now)) lost.rootless ≡ without_root profile (state_of table.now) last) }
-    ensures trees { IfOk result (λ lost. AreLostBy deleted (without_root profile (state_of table.now) last) lost.trees.items) }
-    ensures refused { IfErr result (IsUnfoundBy deleted (without_root profile (state_of table.now) last)) }
+) -> Result<Lost, NodesGaveUp>
+    ensures place { IfOk result (λ lost. B.tells → option_map (rootless_now (B.states blocks.now)) lost.rootless ≡ without_root profile (B.states blocks.now) last) }
+    ensures trees { IfOk result (λ lost. B.tells → AreLostBy deleted (without_root profile (B.states blocks.now) last) lost.trees.items) }
+    ensures refused { IfErr result (λ e. B.tells → IfTold (IsUnfoundBy deleted (without_root profile (B.states blocks.now) last)) e) }
+    ensures fails { IsErrOf result NodesGaveUp.Unread → B.fails }
 {
-    match without_root(alloc, table, last, profile) {
-        Ok(Some(rootless)) => find_in(alloc, table, rootless, deleted),
+    match without_root_by(alloc, blocks, last, profile) {
+        Ok(Some(rootless)) => find_in(alloc, blocks, rootless, deleted),
         Ok(None) => Ok(Lost {
             rootless: None,
             trees: Vec::new(alloc),
         }),
-        Err(AllocError) => Err(NodesError::OutOfMemory),
+        Err(GaveUp::OutOfMemory) => Err(NodesGaveUp::OutOfMemory),
+        Err(GaveUp::Unread) => Err(NodesGaveUp::Unread),
     }
 }
 
@@ -172,15 +141,26 @@ fn find_rootless(
 ///
 /// # Errors
 ///
-/// [`NodesError::TooManyPaths`] where more than 65,536 routes lead from all of them together to nodes, or one of the directories
-/// to which they lead lists more than 65,535 entries; [`NodesError::OutOfMemory`] where memory runs out.
-pub fn find_lost(alloc: Global, survey: &Survey<'_>, deleted: bool) -> Result<Lost, NodesError>
-    ensures found { IfOk result (IsLostOf deleted survey.now) }
-    ensures refused { IfErr result (IsUnfoundBy deleted (searched_of survey.now)) }
+/// [`NodesGaveUp::TooManyPaths`] where more than 65,536 routes lead from all of them together to nodes, or one of the directories
+/// to which they lead lists more than 65,535 entries; [`NodesGaveUp::OutOfMemory`] where memory runs out; and [`NodesGaveUp::Unread`] where the bytes of a known
+/// block could not be read.
+pub fn find_lost<B: BlockStore>(
+    alloc: Global,
+    survey: &Survey<'_, B>,
+    deleted: bool,
+) -> Result<Lost, NodesGaveUp>
+    ensures found { IfOk result (λ lost. B.tells → IsLostOf B.states deleted survey.now lost) }
+    ensures refused { IfErr result (λ e. B.tells → IfTold (IsUnfoundBy deleted (searched_of B.states survey.now)) e) }
+    ensures fails { IsErrOf result NodesGaveUp.Unread → B.fails }
 {
     match &survey.volume {
         Volume::Open(opened) => {
-            match found_in(alloc, opened.view(survey.table), deleted, &survey.unnamed) {
+            match found_in_by(
+                alloc,
+                opened.view_by(survey.table),
+                deleted,
+                &survey.unnamed,
+            ) {
                 Ok(trees) => Ok(Lost {
                     rootless: None,
                     trees,

@@ -1,14 +1,15 @@
 //! What a line of the list says of a lost folder, of what is in it, and of a lost file. Each function appends to a text; if memory
 //! runs out, a part may be appended.
 
-ghost use Rattle.std.specs.Prelude.{◌≡◌, ◌++◌, OnErr, OnOk, IfOk, Some, option_map};
+ghost use Rattle.std.specs.Prelude.{◌≡◌, ◌++◌, OnErr, OnOk, IfOk, IsErrOf, Some, option_map};
+ghost use Rattle.std.specs.List.{list_any};
 ghost use Rattle.std.specs.String.{string_bytes};
-ghost use Rattle.udfs_space.specs.Views.{view_by, view_now};
+ghost use Rattle.udfs_space.specs.Views.{view_by};
 ghost use Rattle.udfs_walk.specs.Bare.{full_entry, full_node};
 ghost use Rattle.udfs_walk.specs.Targets.{is_icb};
 ghost use Rattle.udfs_walk.specs.UnnamedEntries.{names};
 ghost use Rattle.udfs_lost.specs.Folders.{is_directory};
-ghost use Rattle.udfs_overview.specs.LostLists.{file_line, folder_at, in_member, in_place, is_folder_at, lost_columns, lost_line, lost_members, lost_object, lost_path, lost_row, lost_word, node_line, own_place, place_column, place_of};
+ghost use Rattle.udfs_overview.specs.LostLists.{file_line, folder_at, in_member, in_place, is_folder_at, is_own, lost_columns, lost_line, lost_members, lost_object, lost_path, lost_row, lost_word, node_line, own_place, place_column, place_of};
 
 use crate::node_columns::{is_whole, push_safe_path, push_told};
 use crate::node_list::{ListForm, push_end, push_tail};
@@ -18,12 +19,12 @@ use std::alloc::Global;
 use std::fmt::Write;
 use udfs_file::Kind;
 use udfs_file::file_sets::address_fault;
-use udfs_lattice::{BlockStore, ReadFault};
-use udfs_lost::parent_by;
+use udfs_lattice::{BlockStore, GaveUp, ReadFault};
+use udfs_lost::{Met, parent_by};
 use udfs_osta::{OutOfMemory, Stamp};
-use udfs_space::{StoreView, View};
+use udfs_space::StoreView;
 use udfs_tag::{LbAddr, LongAd};
-use udfs_walk::{Node, Path, Standing, Unnamed, full_standing, tail_at};
+use udfs_walk::{Node, Path, Standing, Unnamed, full_standing_by, tail_by};
 
 /// Appends what a lost folder or a lost file is called: `lost:` and the logical block of its entry, with the partition reference and a `-` before
 /// it where there are two partitions.
@@ -140,20 +141,6 @@ pub fn place_of_by<'a, B: BlockStore>(
     }
 }
 
-/// The same by a table.
-fn place_of<'a>(view: View<'_>, nodes: &'a [Node], folder: LbAddr) -> Option<&'a Path>
-    ensures { option_map (λ path. path.now) result ≡ place_of (view_now view.entry) nodes.now folder }
-{
-    let stored = StoreView {
-        blocks: view.table,
-        space: view.space,
-    };
-    match place_of_by(stored, nodes, folder) {
-        Ok(place) => place,
-        Err(_) => unreachable!(),
-    }
-}
-
 /// A path behind the word `in`.
 fn push_in(text: &mut String, place: Option<&Path>) -> Result<(), OutOfMemory>
     ensures { OnOk result (string_bytes text.new ≡ string_bytes text.old ++ in_place (option_map (λ path. path.now) place.entry)) }
@@ -184,20 +171,21 @@ fn push_in_member(text: &mut String, place: Option<&Path>) -> Result<(), OutOfMe
 }
 
 /// The column of a lost folder's place, or the member of an object.
-pub(crate) fn place_column(
+pub(crate) fn place_column<B: BlockStore>(
     alloc: Global,
     form: ListForm,
-    view: View<'_>,
+    view: StoreView<'_, B>,
     nodes: &[Node],
     folder: LbAddr,
-) -> Result<String, OutOfMemory>
-    ensures { IfOk result (λ text. string_bytes text ≡ place_column form (place_of (view_now view.entry) nodes.now folder)) }
+) -> Result<String, GaveUp>
+    ensures value { IfOk result (λ text. B.tells → string_bytes text ≡ place_column form (place_of (view_by B.states view.entry) nodes.now folder)) }
+    ensures fails { IsErrOf result GaveUp.Unread → B.fails }
 {
     let mut text = String::new(alloc);
     if form.paths {
         return Ok(text);
     }
-    let place = place_of(view, nodes, folder);
+    let place = place_of_by(view, nodes, folder)?;
     if form.json {
         push_in_member(&mut text, place)?;
     } else {
@@ -298,52 +286,71 @@ pub(crate) fn push_lost_line(
     push_end(text, form)
 }
 
-/// The line of a node of a lost tree, which is given without its blocks and holes, if it is asked for.
+/// Whether a path is that of the folder itself, which is named elsewhere.
+fn is_own(named: bool, path: &Path) -> bool
+    ensures { result ≡ is_own named path.now }
+{
+    named && path.is_empty()
+}
+
+/// The line of a node of a lost tree, which is given without its blocks and holes, if it is asked for and the node is not the tree's folder, named elsewhere.
 #[tactic(auto, unfolding(crate::specs::LostLists::node_line))]
-pub(crate) fn push_node_line(
+pub(crate) fn push_node_line<B: BlockStore>(
     alloc: Global,
     text: &mut String,
     form: ListForm,
-    view: View<'_>,
+    view: StoreView<'_, B>,
     word: &str,
     place: &str,
+    named: bool,
     node: &Node,
-) -> Result<(), OutOfMemory>
-    ensures { OnOk result (string_bytes text.new ≡ string_bytes text.old ++ node_line form (view_now view.entry) word.now place.now (full_node (view_now view.entry) node.now)) }
+) -> Result<(), GaveUp>
+    ensures line { OnOk result (B.tells → string_bytes text.new ≡ string_bytes text.old ++ node_line form (view_by B.states view.entry) word.now place.now named (full_node (view_by B.states view.entry) node.now)) }
+    ensures fails { IsErrOf result GaveUp.Unread → B.fails }
 {
-    let full = full_standing(alloc, view, node.icb, &node.standing)?;
+    if is_own(named, &node.path) {
+        return Ok(());
+    }
+    let full = full_standing_by(alloc, view, node.icb, &node.standing)?;
     if form.torn && is_whole(&full) {
         return Ok(());
     }
-    let tail = tail_at(alloc, view, node.icb)?;
+    let tail = tail_by(alloc, view, node.icb)?;
     let mut path = String::new(alloc);
     push_lost_path(&mut path, word, &node.path)?;
     let place = own_place(&node.path, place);
     push_lost_line(
         text, form, tail, &full, node.kind, node.size, node.stamp, path, place,
-    )
+    )?;
+    Ok(())
 }
 
-/// The line of a lost file, which is given without its blocks and holes, if it is asked for.
+/// The line of a lost file, which is given without its blocks and holes, if it is asked for and the file is not named elsewhere.
 #[tactic(auto, unfolding(crate::specs::LostLists::file_line))]
-pub(crate) fn push_file_line(
+pub(crate) fn push_file_line<B: BlockStore>(
     alloc: Global,
     text: &mut String,
     form: ListForm,
-    view: View<'_>,
+    view: StoreView<'_, B>,
     two: bool,
+    named: &Met,
     file: &Unnamed,
-) -> Result<(), OutOfMemory>
-    ensures { OnOk result (string_bytes text.new ≡ string_bytes text.old ++ file_line form (view_now view.entry) two (full_entry (view_now view.entry) file.now)) }
+) -> Result<(), GaveUp>
+    ensures line { OnOk result (B.tells → string_bytes text.new ≡ string_bytes text.old ++ file_line form (view_by B.states view.entry) two (λ icb. list_any (is_icb icb) named.now) (full_entry (view_by B.states view.entry) file.now)) }
+    ensures fails { IsErrOf result GaveUp.Unread → B.fails }
 {
-    let full = full_standing(alloc, view, file.icb(), &file.standing)?;
+    if named.contains(file.address()) {
+        return Ok(());
+    }
+    let full = full_standing_by(alloc, view, file.icb(), &file.standing)?;
     if form.torn && is_whole(&full) {
         return Ok(());
     }
-    let tail = tail_at(alloc, view, file.icb())?;
+    let tail = tail_by(alloc, view, file.icb())?;
     let mut path = String::new(alloc);
     push_lost_word(&mut path, two, file.address())?;
     let size = Some(file.size);
     let stamp = Some(file.stamp);
-    push_lost_line(text, form, tail, &full, file.kind, size, stamp, path, "")
+    push_lost_line(text, form, tail, &full, file.kind, size, stamp, path, "")?;
+    Ok(())
 }

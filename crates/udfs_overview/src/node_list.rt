@@ -2,13 +2,12 @@
 
 ghost use Rattle.std.specs.Prelude.{◌≡◌, ◌++◌, IsErrOf, OnOk, drop, false, flat_map, map};
 ghost use Rattle.std.specs.String.{string_bytes};
-ghost use Rattle.udfs_lattice.specs.Tables.{state_of};
 ghost use Rattle.udfs_space.specs.Views.{view_by};
 ghost use Rattle.udfs_walk.specs.Bare.{full_node, node_with};
 ghost use Rattle.udfs_salvage.specs.Found.{volume_now};
 ghost use Rattle.udfs_salvage.specs.Listings.{listing_by};
-ghost use Rattle.udfs_salvage.specs.Printing.{PassesOn, Prints};
-ghost use Rattle.udfs_salvage.specs.Surveys.{survey_by, survey_now};
+ghost use Rattle.udfs_salvage.specs.Printing.{PassesOn};
+ghost use Rattle.udfs_salvage.specs.Surveys.{survey_by};
 ghost use Rattle.udfs_overview.specs.NodeLists.{bare_lines, column_names, columns, front_columns, header_line, line_end, list_line, list_text, listed, listed_in, tail_column};
 ghost use Rattle.udfs_salvage.specs.StorePrinting.{PassesOnBy, PrintsBy};
 
@@ -302,18 +301,19 @@ fn put_parts<B: BlockStore, W: Sink>(
     put_lines(alloc, text, sink, blocks, volume, nodes, form)
 }
 
-/// The first line, where it is asked for, and the lines of all nodes of a table's volume.
-pub(crate) fn put_list<W: Sink>(
+/// The first line, where it is asked for, and the lines of all nodes of a survey's volume.
+pub(crate) fn put_list<B: BlockStore, W: Sink>(
     alloc: Global,
     text: &mut String,
     sink: &mut W,
-    survey: &Survey<'_>,
+    survey: &Survey<'_, B>,
     form: ListForm,
-) -> Result<(), RunError>
-    ensures { PassesOn (W.stream sink.old) (W.stream sink.new) (string_bytes text.old) (string_bytes text.new)
-        (list_text form (state_of survey.now.table.now) (survey_now survey.now)) result }
+) -> Result<(), PrintError>
+    ensures printed { B.tells → PassesOnBy (W.stream sink.old) (W.stream sink.new) (string_bytes text.old) (string_bytes text.new)
+        (list_text form (B.states survey.now.table.now) (survey_by B.states survey.now)) result }
+    ensures fails { IsErrOf result PrintError.Unread → B.fails }
 {
-    match put_parts(
+    put_parts(
         alloc,
         text,
         sink,
@@ -321,11 +321,7 @@ pub(crate) fn put_list<W: Sink>(
         &survey.volume,
         &survey.nodes,
         form,
-    ) {
-        Ok(()) => Ok(()),
-        Err(PrintError::Run(error)) => Err(error),
-        Err(PrintError::Unread) => unreachable!(),
-    }
+    )
 }
 
 /// The same, written.
@@ -351,32 +347,12 @@ fn write_parts<B: BlockStore, W: Sink>(
 /// kind, how many of its bytes are lost, its size in bytes, its time and its path, separated by tabs, with `-` for what is not
 /// known. Behind the path of a node whose body is read by the tail of its last extent, as the wide rules do, is the column `tail`. `form` can leave
 /// out whole nodes or all columns but the path, put the columns' names on a first line, or make each line a JSON object with these values. The blocks
-/// and holes of one node are held at a time.
+/// and holes of one node are held at a time. For each node its entry is read again, and for a torn one its body's
+/// extents.
 ///
 /// # Errors
 ///
-/// `Write` if and only if the sink failed, `OutOfMemory` if memory ran out. In both cases a prefix of the lines, possibly empty, was written.
-pub fn write_list<W: Sink>(
-    alloc: Global,
-    survey: &Survey<'_>,
-    form: ListForm,
-    sink: &mut W,
-) -> Result<(), RunError>
-    ensures { Prints (W.stream sink.old) (W.stream sink.new)
-        (list_text form (state_of survey.now.table.now) (survey_now survey.now)) result }
-{
-    match write_list_by(alloc, survey, form, sink) {
-        Ok(()) => Ok(()),
-        Err(PrintError::Run(error)) => Err(error),
-        Err(PrintError::Unread) => unreachable!(),
-    }
-}
-
-/// The same as [`write_list`], by any store of blocks. For each node its entry is read again, and for a torn one its body's extents.
-///
-/// # Errors
-///
-/// `Run` with the error of [`write_list`], and `Unread` where the bytes of a known block could not be read. In each case a prefix of the lines, possibly
+/// `Run` with `Write` if and only if the sink failed, and with `OutOfMemory` if memory ran out; `Unread` where the bytes of a known block could not be read, which no table has. In each case a prefix of the lines, possibly
 /// empty, was written: what could not be read is never told as unknown.
 pub fn write_list_by<B: BlockStore, W: Sink>(
     alloc: Global,

@@ -4,9 +4,8 @@ ghost use Rattle.std.specs.Prelude.{◌≡◌, ◌++◌, IsErrOf, OnOk, codes, l
 ghost use Rattle.std.specs.String.{string_bytes};
 ghost use Rattle.udfs_lattice.specs.Tables.{Table};
 ghost use Rattle.udfs_salvage.specs.Found.{volume_now};
-ghost use Rattle.udfs_salvage.specs.Printing.{Prints};
 ghost use Rattle.udfs_salvage.specs.StorePrinting.{PrintsBy};
-ghost use Rattle.udfs_salvage.specs.Surveys.{survey_by, survey_now};
+ghost use Rattle.udfs_salvage.specs.Surveys.{survey_by};
 ghost use Rattle.udfs_overview.specs.Repeating.{given_now};
 ghost use Rattle.udfs_overview.specs.Sentences.{sentence};
 ghost use Rattle.udfs_overview.specs.Summaries.{again_lines, counts_lines, extract_lines, fault_lines, folders_counts, folders_line, found_lines, left_out_lines, missing_in, missing_line, names_missing, next_by, next_lines, no_need_lines, nodes_lines, summary_lines, summary_text, torn_folder, wide_lines};
@@ -47,7 +46,7 @@ use udfs_lattice::BlockStore;
 use udfs_lawfulness::Lawfulness;
 use udfs_osta::OutOfMemory;
 use udfs_reading::Sink;
-use udfs_salvage::{PrintError, ReportStore, RunError, Survey, Volume, flush};
+use udfs_salvage::{PrintError, ReportStore, Survey, Volume, flush};
 use udfs_volume::Profile;
 use udfs_walk::{Node, Path};
 
@@ -456,33 +455,12 @@ fn push_summary<B: BlockStore>(
 /// known copies of its descriptors differ, how many files are complete, damaged or could not be looked at, how many files and folders are whole, torn, links, of a type
 /// that is not written or without a name, how many files have named streams, whether sparing copies disagree, whether the guarantee holds by this answer, the blocks of the disc,
 /// the torn files of which most is lost, and what to do next, as commands. A volume that does not open has a line that says why, those of what is lost, that of the guarantee, that of the blocks, and what to do next. The blocks and holes of one
-/// node are held at a time.
+/// node are held at a time. All that is read is read before anything is written.
 ///
 /// # Errors
 ///
-/// `Write` if and only if the sink failed, `OutOfMemory` if memory ran out. In both cases a prefix of the lines, possibly empty, was written.
-pub fn write_summary<W: Sink>(
-    alloc: Global,
-    given: &Given<'_>,
-    survey: &Survey<'_>,
-    answer: &Verdict,
-    sink: &mut W,
-) -> Result<(), RunError>
-    ensures { Prints (W.stream sink.old) (W.stream sink.new)
-        (summary_text (given_now given.now) survey.now.profile survey.now.table.now survey.now.last (survey_now survey.now) answer.now) result }
-{
-    match write_summary_by(alloc, given, survey, answer, sink) {
-        Ok(()) => Ok(()),
-        Err(PrintError::Run(error)) => Err(error),
-        Err(PrintError::Unread) => unreachable!(),
-    }
-}
-
-/// The same as [`write_summary`], by any store of blocks. All that is read is read before anything is written.
-///
-/// # Errors
-///
-/// `Run` with the error of [`write_summary`], and `Unread` where the bytes of a known block could not be read: what could not be read is never told as unknown.
+/// `Run` with `Write` if and only if the sink failed, and with `OutOfMemory` if memory ran out: then a prefix of the lines, possibly empty, was written. `Unread` where the bytes of a known block could not be read, which no table has: what
+/// could not be read is never told as unknown.
 pub fn write_summary_by<B: ReportStore, W: Sink>(
     alloc: Global,
     given: &Given<'_>,

@@ -8,9 +8,8 @@ ghost use Rattle.udfs_lattice.specs.Tables.{Table};
 ghost use Rattle.udfs_volume.specs.FaultNames.{volume_fault_name};
 ghost use Rattle.udfs_volume.specs.LayoutParts.{parts_now};
 ghost use Rattle.udfs_salvage.specs.Found.{volume_now};
-ghost use Rattle.udfs_salvage.specs.Printing.{Prints};
 ghost use Rattle.udfs_salvage.specs.StorePrinting.{PrintsBy};
-ghost use Rattle.udfs_salvage.specs.Surveys.{survey_by, survey_now};
+ghost use Rattle.udfs_salvage.specs.Surveys.{survey_by};
 ghost use Rattle.udfs_salvage.specs.Texts.{revision_text};
 ghost use Rattle.udfs_overview.specs.Guarantees.{guarantee_text};
 ghost use Rattle.udfs_overview.specs.SummaryJson.{disc_data, fault_data, figures_json, files_data, folders_data, guarantee_data, guarantee_state, holes_data, is_at_least, label_data, lost_data, open_count, open_data, others_data, profile_name, remarks_data, summary_data, summary_json, unnamed_data};
@@ -29,7 +28,7 @@ use std::fmt::Write;
 use udfs_lawfulness::Lawfulness;
 use udfs_osta::{Label, OutOfMemory};
 use udfs_reading::Sink;
-use udfs_salvage::{PrintError, ReportStore, RunError, Survey, Volume, flush, revision_name};
+use udfs_salvage::{PrintError, ReportStore, Survey, Volume, flush, revision_name};
 use udfs_volume::{Profile, VolumeFault, VolumeParts};
 
 /// A number behind other text.
@@ -462,32 +461,12 @@ fn push_summary(
 }
 
 /// Writes the figures of the summary of the report that a survey represents as one JSON object on a line, by the definitions of the summary's lines. Of a volume
-/// that does not open it has the blocks of the disc, whether the guarantee holds, what is lost, the profile, and the fault where it is one.
+/// that does not open it has the blocks of the disc, whether the guarantee holds, what is lost, the profile, and the fault where it is one. All that is read is read before anything is written.
 ///
 /// # Errors
 ///
-/// `Write` if and only if the sink failed, `OutOfMemory` if memory ran out. In both cases a prefix of the line, possibly empty, was written.
-pub fn write_summary_json<W: Sink>(
-    alloc: Global,
-    survey: &Survey<'_>,
-    answer: &Verdict,
-    sink: &mut W,
-) -> Result<(), RunError>
-    ensures { Prints (W.stream sink.old) (W.stream sink.new)
-        (summary_json survey.now.profile survey.now.table.now survey.now.last (survey_now survey.now) answer.now) result }
-{
-    match write_summary_json_by(alloc, survey, answer, sink) {
-        Ok(()) => Ok(()),
-        Err(PrintError::Run(error)) => Err(error),
-        Err(PrintError::Unread) => unreachable!(),
-    }
-}
-
-/// The same as [`write_summary_json`], by any store of blocks. All that is read is read before anything is written.
-///
-/// # Errors
-///
-/// `Run` with the error of [`write_summary_json`], and `Unread` where the bytes of a known block could not be read: what could not be read is never told as unknown.
+/// `Run` with `Write` if and only if the sink failed, and with `OutOfMemory` if memory ran out: then a prefix of the line, possibly empty, was written. `Unread` where the bytes of a known block could not be read, which no table has: what
+/// could not be read is never told as unknown.
 pub fn write_summary_json_by<B: ReportStore, W: Sink>(
     alloc: Global,
     survey: &Survey<'_, B>,

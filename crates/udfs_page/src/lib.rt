@@ -22,6 +22,6 @@ pub use disc_arcs::{Mark, arcs};
 pub use escapes::{html_gives_the_text_back, html_injects_nothing, push_html};
 pub use holes::{push_closings, push_ranges};
 pub use naming::Called;
-pub use pages::{pages_begin_so, write_page, write_page_by};
+pub use pages::{pages_begin_so, write_page_by};
 pub use spiral::{arcs_part_the_blocks, roots_are_square_roots};
 pub use trees::folders_nest;

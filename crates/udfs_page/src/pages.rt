@@ -6,9 +6,8 @@ ghost use Rattle.udfs_lattice.specs.Tables.{Table};
 ghost use Rattle.udfs_volume.specs.declared.profiles.Profile.{Profile};
 ghost use Rattle.udfs_salvage.specs.Found.{volume_now};
 ghost use Rattle.udfs_salvage.specs.Reports.{Report};
-ghost use Rattle.udfs_salvage.specs.Printing.{Prints};
 ghost use Rattle.udfs_salvage.specs.StorePrinting.{PassesOnBy, PrintsBy};
-ghost use Rattle.udfs_salvage.specs.Surveys.{survey_by, survey_now};
+ghost use Rattle.udfs_salvage.specs.Surveys.{survey_by};
 ghost use Rattle.udfs_page.specs.Heads.{head_text, page_mark};
 ghost use Rattle.udfs_overview.specs.Repeating.{GivenWords, given_now};
 ghost use Rattle.udfs_overview.specs.UnreadLists.{unread_paths};
@@ -34,7 +33,7 @@ use udfs_lattice::BlockStore;
 use udfs_osta::OutOfMemory;
 use udfs_overview::{Counts, Figures, Given, TornFiles, Verdict, unread_in};
 use udfs_reading::Sink;
-use udfs_salvage::{PrintError, ReportStore, RunError, Survey, Volume, flush};
+use udfs_salvage::{PrintError, ReportStore, Survey, Volume, flush};
 
 /// The head, with the title of the page.
 #[tactic(auto, unfolding(crate::specs::Heads::head_text))]
@@ -164,35 +163,12 @@ fn put_page<B: ReportStore, W: Sink>(
 
 /// Writes the page of the report that a survey represents, where these arguments were given and the page is called so: a whole HTML file, with what is found of the volume, whether the guarantee holds by this answer, the disc as a picture, what to do
 /// next, what was not read, the torn files of which most is lost, all files inside their folders, and the lost folders and files that the answer has. No name can begin or end an element in it. It is written in pieces: the
-/// blocks and holes of one node are held at a time, and no more text of the nodes than a piece and that of one of them.
+/// blocks and holes of one node are held at a time, and no more text of the nodes than a piece and that of one of them. What is missing of a torn node is read for its line.
 ///
 /// # Errors
 ///
-/// `Write` if and only if the sink failed, `OutOfMemory` if memory ran out. In both cases a prefix of the page, possibly empty, was written.
-pub fn write_page<W: Sink>(
-    alloc: Global,
-    given: &Given<'_>,
-    called: &Called<'_>,
-    survey: &Survey<'_>,
-    answer: &Verdict,
-    sink: &mut W,
-) -> Result<(), RunError>
-    ensures { Prints (W.stream sink.old) (W.stream sink.new)
-        (page_html (given_now given.now) (called_now called.now) survey.now.profile survey.now.table.now survey.now.last (survey_now survey.now) answer.now) result }
-{
-    match write_page_by(alloc, given, called, survey, answer, sink) {
-        Ok(()) => Ok(()),
-        Err(PrintError::Run(error)) => Err(error),
-        Err(PrintError::Unread) => unreachable!(),
-    }
-}
-
-/// The same as [`write_page`], by any store of blocks. What is missing of a torn node is read for its line.
-///
-/// # Errors
-///
-/// `Run` with the error of [`write_page`], and `Unread` where the bytes of a known block could not be read. In each case a prefix of the page, possibly empty,
-/// was written: what could not be read is never told as unknown.
+/// `Run` with `Write` if and only if the sink failed, and with `OutOfMemory` if memory ran out; `Unread` where the bytes of a known block could not be read, which no table has. In each case a prefix of the page, possibly
+/// empty, was written: what could not be read is never told as unknown.
 pub fn write_page_by<B: ReportStore, W: Sink>(
     alloc: Global,
     given: &Given<'_>,

@@ -33,3 +33,5 @@ pub mod SomeReading
 pub mod SomeEntries
 pub mod SomePackets
 pub mod SomeOutcomes
+pub mod Putting
+pub mod PrintingPublicLaws

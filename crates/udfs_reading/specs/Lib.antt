@@ -15,3 +15,5 @@ pub mod Inputs
 pub mod Writing
 pub mod Several
 pub mod Laws
+pub mod Puts
+pub mod PrintingLaws

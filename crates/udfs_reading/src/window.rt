@@ -8,13 +8,13 @@ use crate::device::{DeviceFault, Source};
 use std::marker::Model;
 
 /// How many bytes a source is asked for at once.
-const PIECE: usize = 262_144;
+const PIECE: usize = 65_536;
 
 /// Bytes that were read and not yet taken. They are in an array in the window itself, and no memory is allocated. It counts
 /// the bytes of the input that were taken from it.
 #[derive(Drop)]
 pub struct Window {
-    bytes: [u8; 262_144],
+    bytes: [u8; 65_536],
     start: usize,
     end: usize,
     /// The number of bytes of the input before those that are held, modulo 2 ^ 64.
@@ -31,7 +31,7 @@ impl Model for Window {
 
     ghost view = { λ w. record { bytes = slice_range w.bytes w.start w.end; at = w.at } };
 
-    ghost invariant = { λ w. (w.start ≤ w.end) × (w.end ≤ 262144) };
+    ghost invariant = { λ w. (w.start ≤ w.end) × (w.end ≤ 65536) };
 }
 
 /// Moves the bytes from `start` to `end` to the front.
@@ -60,7 +60,7 @@ impl Window {
         ensures at { result.at ≡ 0 }
     {
         Window {
-            bytes: [0; 262_144],
+            bytes: [0; 65_536],
             start: 0,
             end: 0,
             at: 0,

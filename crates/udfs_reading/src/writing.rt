@@ -14,7 +14,7 @@ use std::marker::Model;
 use udfs_lattice::{BlockTable, Fact};
 
 /// How many bytes are handed to a sink at once.
-const PIECE: usize = 262_144;
+const PIECE: usize = 65_536;
 
 /// The sink failed.
 #[derive(Clone, Copy, Debug, PartialEq, Eq)]
@@ -41,7 +41,7 @@ pub fn write_all<W: Sink>(sink: &mut W, bytes: &[u8]) -> Result<(), WriteFault>
 /// Bytes that are still to be written. They are in an array in this value itself, and no memory is allocated.
 #[derive(Drop)]
 pub struct Outgoing {
-    bytes: [u8; 262_144],
+    bytes: [u8; 65_536],
     len: usize,
 }
 
@@ -52,7 +52,7 @@ impl Model for Outgoing {
 
     ghost view = { λ o. slice_range o.bytes 0 o.len };
 
-    ghost invariant = { λ o. o.len ≤ 262144 };
+    ghost invariant = { λ o. o.len ≤ 65536 };
 }
 
 impl Outgoing {
@@ -61,7 +61,7 @@ impl Outgoing {
         ensures { result ≡ [] }
     {
         Outgoing {
-            bytes: [0; 262_144],
+            bytes: [0; 65_536],
             len: 0,
         }
     }
@@ -82,7 +82,7 @@ impl Outgoing {
 
     /// Appends these bytes to those that are held.
     fn append(&mut self, bytes: &[u8])
-        requires { length self.now + length bytes.now ≤ 262144 }
+        requires { length self.now + length bytes.now ≤ 65536 }
         ensures { self.new ≡ self.old ++ bytes.now }
     {
         let end = self.len + bytes.len();

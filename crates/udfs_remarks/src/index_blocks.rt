@@ -148,8 +148,11 @@ impl<'i, 'a, S: Stored> ReportStore for IndexBlocks<'i, 'a, S> {
 }
 
 impl<'i, 'a, S: Stored> SteadyStore for IndexBlocks<'i, 'a, S> {
-    /// Whether all inputs are as they were when they were taken, as far as their length and the time of their last change say.
+    /// Whether all reads came, and all inputs are as they were when they were taken, as far as their length and the time of their last change say.
     fn is_steady(&self) -> bool {
+        if self.unread.get().is_some() {
+            return false;
+        }
         match self.index.changed() {
             Some(input) => {
                 self.unread.set(Some(Unread { input, at: END }));

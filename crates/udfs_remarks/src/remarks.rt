@@ -239,11 +239,29 @@ fn structures_of<B: BlockStore>(
     }
 }
 
+/// Says in remarks what is said of a volume with these nodes, beside what is written of them.
+fn remark_written<F: Files>(alloc: Global, told: Told<'_>, nodes: &[Node], files: &F) {
+    remark_apart(alloc, told, files);
+    remark_left_out(alloc, nodes, files);
+}
+
 /// Says in remarks that known anchors differ, and that known copies of the volume's descriptors do, where it is so, and how many files of
-/// the volume of a listing are of a type that is not written, where some are.
-pub fn remark_on_left_out<F: Files>(alloc: Global, listing: &Listing<'_>, files: &F) {
-    remark_apart(alloc, told_in(listing, listing.table), files);
-    remark_left_out(alloc, &listing.nodes, files);
+/// the volume of a listing are of a type that is not written, where some are. It reads the blocks by which the volume is opened once more.
+///
+/// # Errors
+///
+/// Where the bytes of one of them could not be read: nothing is said then.
+pub fn remark_on_left_out<B: ReportStore, F: Files>(
+    alloc: Global,
+    listing: &Listing<'_, B>,
+    files: &F,
+) -> Result<(), ReadFault>
+    ensures { OnErr result B.fails }
+{
+    if let Some(table) = structures_of(alloc, listing.table, listing.last, &listing.volume)? {
+        remark_written(alloc, told_in(listing, &table), &listing.nodes, files);
+    }
+    Ok(())
 }
 
 /// What is said of a volume beside the blocks of it to read again.

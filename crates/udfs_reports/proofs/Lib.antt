@@ -3,5 +3,6 @@ pub mod RereadingLemmas
 pub mod TellingLemmas
 mod InRange
 mod ToldTexts
+mod LostTexts
 mod StoreListings
 mod ToldVolumes

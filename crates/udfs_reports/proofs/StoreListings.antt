@@ -1,22 +1,15 @@
 -- What a store of blocks says, it says of the table that it holds.
-use Rattle.std.proofs.Common.{◌≡◌, ap, ℕ, List, [], ◌∷◌, inl, inr, refl, subst, sym}
+use Rattle.std.proofs.Common.{◌≡◌, ℕ, inl, inr, refl, subst}
 use Rattle.udfs_lattice.specs.Tables.{Table, state_of}
 use Rattle.udfs_lattice.specs.Volumes.{Blocks}
 use Rattle.udfs_volume.specs.declared.profiles.Profile.{Profile}
-use Rattle.udfs_walk.specs.NodeFields.{NodeFields}
-use Rattle.udfs_salvage.proofs.InLineLists.{rereads_for_all}
-use Rattle.udfs_salvage.proofs.PublicLaws.{each_reread_for_suffices}
 use Rattle.udfs_salvage.proofs.StoreAnswers.{of_refusal}
-use Rattle.udfs_salvage.specs.Headline.{HeadlineBy}
-use Rattle.udfs_salvage.specs.InLine.{nodes_for}
-use Rattle.udfs_salvage.specs.Reports.{IsReportBy, Report}
 use Rattle.udfs_salvage.specs.Stores.{IfTold, IsRefused, IsStoreRefused}
 use Rattle.udfs_salvage.specs.declared.errors.SalvageError.{SalvageError}
 use Rattle.udfs_salvage.specs.declared.errors.SalvageError.TheVariants as errors
 use Rattle.udfs_salvage.specs.declared.errors.StoreError.{StoreError}
 use Rattle.udfs_salvage.specs.declared.errors.StoreError.TheVariants.{Salvage, Unread}
 use Rattle.udfs_remarks.specs.NoReports.{IsUntold, salvage_refusal_of}
-use Rattle.udfs_reports.specs.Paths.{IsListingFor}
 
 -- it has no report: nor has the table
 pub refused_table : (profile : Profile) (t : Table) (last : ℕ) (e : SalvageError) → IsRefused profile (state_of t) last e → IsUntold profile last (salvage_refusal_of e) t

@@ -1,11 +1,10 @@
 -- What holds of the join of a volume's inputs, where it is known what each file holds that is read at positions.
-use Rattle.std.proofs.Common.{◌≡◌, ℕ, Bool, List, [], Err, Ok, Option, Result, inr, refl, subst, sym}
+use Rattle.std.proofs.Common.{◌≡◌, ℕ, List, Err, Ok, Option, Result, refl, subst, sym}
 use Rattle.std.specs.Prelude.{IfErr, IfOk}
 use Rattle.udfs_index.specs.Copying.{AreAllTold}
 use Rattle.udfs_lattice.specs.Records.{join_all}
 use Rattle.udfs_lattice.specs.Tables.{IsTable, Table}
-use Rattle.udfs_pairs.specs.declared.any_stored.AnyStored.{AnyStored}
-use Rattle.udfs_reading.specs.Device.{Stream}
+use Rattle.udfs_index.specs.declared.any_stored.AnyStored.{AnyStored}
 use Rattle.udfs_words.specs.declared.request.VolumeSource.{VolumeSource}
 use Rattle.udfs_common.proofs.StoredLemmas.{HaveSources}
 use Rattle.udfs_common.proofs.StoredVolumes.{indexed_of}
@@ -13,7 +12,6 @@ use Rattle.udfs_common.specs.Blaming.{stored_reason}
 use Rattle.udfs_common.specs.Indexing.{Indexed}
 use Rattle.udfs_common.specs.Reach.{Reach}
 use Rattle.udfs_common.specs.Volumes.{IsStoredDisc, OfToldVolume, OfVolume}
-use Rattle.udfs_common.specs.declared.refusal.Refusal.{Refusal}
 
 -- what follows of it holds too
 told_by : {F I M S W : Type 0} {reach : Reach F I M S W} {at : F} {volume : VolumeSource} {Holds : ℕ → Table → Type 0} (Gives : ℕ → Table → Type 0) → OfToldVolume reach at volume Holds → (reach.stored_told → (last : ℕ) (table : Table) → Holds last table → Gives last table) → OfToldVolume reach at volume Gives

@@ -1,6 +1,7 @@
 -- What `list` prints, with lost folders and lost files where they are asked for.
 --     TellsLost          the lines of a table's report were printed, and those of what is lost
 --     IsRefusedLost      they were not, or a beginning of them, and why
+--     BeginsLost         nothing or a beginning of them was printed, and then an input could not be read again
 --     PrintsList         what is asked for of a volume was printed
 --     PrintsNoList       it was not, or a beginning of it, and why
 use Rattle.std.specs.Prelude.{◌≡◌, ◌⊎◌, ◌||◌, ℕ, Bool, true, false, List, Option, alloc_error}
@@ -14,6 +15,8 @@ use Rattle.udfs_lost.specs.declared.trees.LostTree.{LostTree}
 use Rattle.udfs_salvage.specs.Headline.{HeadlineBy}
 use Rattle.udfs_salvage.specs.Printing.{Stopped}
 use Rattle.udfs_salvage.specs.Reports.{Report, IsReportBy, all_whole}
+use Rattle.udfs_salvage.specs.StorePrinting.{leaves_as}
+use Rattle.udfs_salvage.specs.declared.errors.PrintError.TheVariants.{Unread}
 use Rattle.udfs_salvage.specs.declared.errors.RunError.{RunError}
 use Rattle.udfs_overview.specs.FullLists.{full_list}
 use Rattle.udfs_overview.specs.LostTrees.{AreLostBy, IsUnfoundBy}
@@ -21,7 +24,7 @@ use Rattle.udfs_overview.specs.Searched.{Searched, searched}
 use Rattle.udfs_overview.specs.declared.node_list.ListForm.{ListForm}
 use Rattle.udfs_words.specs.declared.request.ListRequest.{ListRequest}
 use Rattle.udfs_common.specs.Reach.{Reach}
-use Rattle.udfs_common.specs.Volumes.{IsNoVolume, OfVolume}
+use Rattle.udfs_common.specs.Volumes.{IsNoVolume, IsVolumeUnread, OfToldVolume}
 use Rattle.udfs_common.specs.declared.refusal.Refusal.{Refusal}
 use Rattle.udfs_common.specs.declared.refusal.Refusal.TheVariants.{TooManyPaths, Memory}
 use Rattle.udfs_remarks.specs.NoReports.{IsUntold, run_refusal_of}
@@ -68,10 +71,22 @@ abbrev pub IsRefusedLost : ListForm → Bool → Profile → ℕ → Stream → 
 IsRefusedLost form deleted profile last old new refusal table =
     ((new ≡ old) × (IsUntold profile last refusal table ⊎ HasUnfound deleted profile last refusal table)) ⊎ StopsLost form deleted profile last old new refusal table
 
+-- a beginning of the lines was printed, or all of them, and the sink has not failed
+pub record LeavesLost (form : ListForm) (deleted : Bool) (profile : Profile) (last : ℕ) (old new : Stream) (table : Table) : Type 0 where
+  pub report : Report
+  pub is_report : IsReportBy profile (state_of table) last report
+  pub trees : List LostTree
+  pub are_lost : AreLostBy deleted (place profile table last report) trees
+  pub begun : Stopped old new (full_list form deleted (state_of table) (place profile table last report) report trees) (leaves_as Unread)
+
+-- nothing was printed, or that
+abbrev pub BeginsLost : ListForm → Bool → Profile → ℕ → Stream → Stream → Table → Type 0
+BeginsLost form deleted profile last old new table = (new ≡ old) ⊎ LeavesLost form deleted profile last old new table
+
 module _ {F I M S W : Type 0} (reach : Reach F I M S W) (at : F) (form : ListForm) where
   -- with what is lost, or the nodes alone
   abbrev pub PrintsListBy : Bool → ListRequest → Stream → Stream → Bool → Type 0
-  PrintsListBy true r old new whole = OfVolume reach at r.volume (λ last. TellsLost form r.deleted r.volume.profile last old new whole)
+  PrintsListBy true r old new whole = OfToldVolume reach at r.volume (λ last. TellsLost form r.deleted r.volume.profile last old new whole)
   PrintsListBy false r old new whole = PrintsNodes reach at form r.volume old new whole
 
   -- what is asked for; who asks for what was deleted asks for what is lost
@@ -80,7 +95,9 @@ module _ {F I M S W : Type 0} (reach : Reach F I M S W) (at : F) (form : ListFor
 
   -- why what is lost was not printed
   abbrev pub PrintsNoLost : ListRequest → Stream → Stream → Refusal → Type 0
-  PrintsNoLost r old new refusal = ((new ≡ old) × IsNoVolume reach at r.volume refusal) ⊎ OfVolume reach at r.volume (λ last. IsRefusedLost form r.deleted r.volume.profile last old new refusal)
+  PrintsNoLost r old new refusal = ((new ≡ old) × (IsNoVolume reach at r.volume refusal ⊎ IsVolumeUnread reach at r.volume refusal)) ⊎
+      (IsVolumeUnread reach at r.volume refusal × OfToldVolume reach at r.volume (λ last. BeginsLost form r.deleted r.volume.profile last old new)) ⊎
+      OfToldVolume reach at r.volume (λ last. IsRefusedLost form r.deleted r.volume.profile last old new refusal)
 
   -- with what is lost, or the nodes alone
   abbrev pub PrintsNoListBy : Bool → ListRequest → Stream → Stream → Refusal → Type 0

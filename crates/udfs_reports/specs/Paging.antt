@@ -9,8 +9,8 @@
 --     IsNotPaged         why the page was not put, where it may take its place
 --     PageRefused        why it was not put
 use Rattle.std.specs.Prelude.{◌≡◌, ◌⊎◌, ℕ, Bool, List, Option, Result, Ok, Err, alloc_error, option_map}
-use Rattle.udfs_files.specs.Disk.{Fails}
-use Rattle.udfs_files.specs.declared.files.Files.{Ghosts}
+use Rattle.udfs_host_fs.specs.Disk.{Fails}
+use Rattle.udfs_host_fs.specs.declared.files.Files.{Ghosts}
 use Rattle.udfs_lattice.specs.Tables.{Table, state_of}
 use Rattle.udfs_salvage.specs.Reports.{Report, IsReportBy, all_whole}
 use Rattle.udfs_overview.specs.Verdicts.{IsVerdict}

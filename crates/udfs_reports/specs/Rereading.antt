@@ -17,14 +17,14 @@
 --     IsNotMapped         why it was not put, where it may take its place
 --     MapRefused          why it was not put
 use Rattle.std.specs.Prelude.{◌≡◌, ◌⊎◌, ℕ, ◌+◌, ◌++◌, ◌==◌, Bool, List, [], ◌∷◌, Option, Some, None, alloc_error, codes, decimal, length, if◌then◌else◌}
-use Rattle.udfs_files.specs.Disk.{Fails}
+use Rattle.udfs_host_fs.specs.Disk.{Fails}
 use Rattle.udfs_lattice.specs.Tables.{Table, state_of}
 use Rattle.udfs_reading.specs.Device.{Stream}
 use Rattle.udfs_reading.specs.Writing.{Failed, Wrote}
 use Rattle.udfs_lattice.specs.Volumes.{Blocks, ascending, not_known}
 use Rattle.udfs_volume.specs.Answers.{Answer}
 use Rattle.udfs_volume.specs.declared.profiles.Profile.{Profile}
-use Rattle.udfs_groups.specs.Groups.{AreGrouped}
+use Rattle.udfs_witnesses.specs.Groups.{AreGrouped}
 use Rattle.udfs_rescue.specs.Writing.{domain_text}
 use Rattle.udfs_salvage.specs.Found.{Found}
 use Rattle.udfs_salvage.specs.InLine.{reread_for}

@@ -14,12 +14,11 @@ ghost use Rattle.udfs_reports.specs.Comparing.{beside, block_of, compared, struc
 ghost use Rattle.udfs_reports.specs.Rereading.{AreAsked, AreMapped};
 
 use std::alloc::{AllocError, Global};
-use udfs_groups::{grouped, rising_front};
 use udfs_lattice::{BlockStore, Fact, GaveUp};
 use udfs_salvage::{Listing, ReportStore, Volume, reread_blocks_by};
 use udfs_space::Space;
 use udfs_tag::LongAd;
-use udfs_witnesses::{add_rising, witnesses};
+use udfs_witnesses::{add_rising, grouped, rising_front, witnesses};
 use udfs_words::group::GroupSize;
 use udfs_words::request::RereadRequest;
 

@@ -18,7 +18,7 @@ use std::alloc::Global;
 use udfs_common::files::Files;
 use udfs_common::known::Known;
 use udfs_common::refusal::Refusal;
-use udfs_files::Stage;
+use udfs_host_fs::Stage;
 use udfs_lattice::ReadFault;
 use udfs_overview::{ListForm, write_listing_by};
 use udfs_reading::Sink;

@@ -2,7 +2,7 @@
 
 ghost use Rattle.std.specs.Prelude.{◌≡◌, ◌⊎◌, Err, IfOk, IfErr, IsErrOf, OnErr, OnOk, alloc_error, map};
 ghost use Rattle.std.specs.Io.KnownBytes.{Appends};
-ghost use Rattle.udfs_files.specs.Disk.{Fails};
+ghost use Rattle.udfs_host_fs.specs.Disk.{Fails};
 ghost use Rattle.udfs_index.specs.Copying.{AreAllTold};
 ghost use Rattle.udfs_lattice.specs.Tables.{Table};
 ghost use Rattle.udfs_overview.specs.Repeating.{given_now};
@@ -30,12 +30,11 @@ use udfs_common::known::Known;
 use udfs_common::refusal::Refusal;
 use udfs_common::stored_volumes::{StoredDisc, indexed_volume, stored_volume};
 use udfs_common::volumes::{joined_volume, unwritten_volume};
-use udfs_files::{Job, Stage};
-use udfs_index::Stored;
+use udfs_host_fs::{Job, Stage};
+use udfs_index::{AnyStored, Stored};
 use udfs_lattice::ReadFault;
 use udfs_overview::Given;
 use udfs_page::{Called, write_page_by};
-use udfs_pairs::AnyStored;
 use udfs_reading::Sink;
 use udfs_remarks::no_reports::refused_report;
 use udfs_remarks::{IndexBlocks, SteadyStore};

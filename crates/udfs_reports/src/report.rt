@@ -15,7 +15,7 @@ use crate::telling::Telling;
 use std::alloc::Global;
 use udfs_common::files::Files;
 use udfs_common::refusal::Refusal;
-use udfs_files::Stage;
+use udfs_host_fs::Stage;
 use udfs_lattice::ReadFault;
 use udfs_reading::Sink;
 use udfs_remarks::SteadyStore;

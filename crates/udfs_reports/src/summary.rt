@@ -16,7 +16,7 @@ use std::alloc::Global;
 use udfs_common::files::Files;
 use udfs_common::known::Known;
 use udfs_common::refusal::Refusal;
-use udfs_files::Stage;
+use udfs_host_fs::Stage;
 use udfs_lattice::ReadFault;
 use udfs_overview::{Given, Verdict, write_summary_by, write_summary_json_by};
 use udfs_reading::Sink;

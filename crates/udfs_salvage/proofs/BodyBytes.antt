@@ -2,7 +2,7 @@
 use Rattle.std.proofs.Common.{◌≡◌, refl, sym, ◌∙◌, ap, subst, ℕ, ◌+◌, ◌-◌, List, [], ◌∷◌, ◌++◌, length, length-append, take, replicate, Option, Some, None}
 use Rattle.std.specs.Prelude.{zero, suc}
 use Rattle.std.specs.Borrow.{Bor}
-use Rattle.std.proofs.lemmas.List.{map-append, length-replicate, length-take-le, replicate-append-replicate}
+use Rattle.std.proofs.lemmas.List.{map-append, length-replicate, length-take-le, replicate-append-replicate, take-append-drop}
 use Rattle.udfs_file.specs.Pieces.{byte_cells}
 use Rattle.udfs_file.specs.Portions.{AreUnread, GivesPortion, IsFirst, IsPortion, portion_count}
 use Rattle.udfs_file.specs.declared.cells.Cell.{Cell}
@@ -61,3 +61,10 @@ none_taken s t r e g = (subst (λ z. GivesPortion s z t) e g).0
 
 pub first_count : (p : Portion) (s t : List Cell) → IsFirst p s t → length (take (portion_count p) s) ≡ portion_count p
 first_count p s t f = length-take-le (portion_count p) s f.there
+
+-- the cells of a portion, and those behind it
+pub first_split : (p : Portion) (s t : List Cell) → IsFirst p s t → s ≡ take (portion_count p) s ++ t
+first_split p s t f = sym (take-append-drop (portion_count p) s) ∙ ap (λ z. take (portion_count p) s ++ z) (sym f.rest)
+
+pub none_left : (s t : List Cell) (r : Option Portion) → r ≡ None → GivesPortion s r t → (s ≡ []) × (t ≡ [])
+none_left s t r e g = subst (λ z. GivesPortion s z t) e g

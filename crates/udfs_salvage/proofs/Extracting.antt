@@ -1,6 +1,6 @@
 -- What a node tells of the cells that are written.
-use Rattle.std.proofs.Common.{◌≡◌, refl, sym, ◌∙◌, subst, ℕ, List, get_or, Option, Some, None, true, false, Bool}
-use Rattle.std.specs.Prelude.{slice_get, IsErrOf, MatchOption, Result, Ok, Err}
+use Rattle.std.proofs.Common.{◌≡◌, refl, sym, ◌∙◌, ap, subst, ℕ, List, get_or, Option, Some, None, true, false, Bool}
+use Rattle.std.specs.Prelude.{◌↔◌, ⊤, slice_get, IsErrOf, MatchOption, Result, Ok, Err}
 use Rattle.std.proofs.lemmas.Option.{get_or_from_slice_get}
 use Rattle.udfs_volume.specs.declared.profiles.Profile.{Profile}
 use Rattle.udfs_lattice.specs.Volumes.{Blocks}
@@ -15,11 +15,14 @@ use Rattle.udfs_walk.specs.Routes.{Walked}
 use Rattle.udfs_walk.specs.declared.standings.Standing.{Standing}
 use Rattle.udfs_walk.specs.declared.standings.Standing.TheVariants.{Whole, Torn, Loop, Fault}
 use Rattle.udfs_walk.proofs.PublicLaws.{node_has_cells}
-use Rattle.udfs_tree.specs.Cells.{HasCellsAt}
+use Rattle.udfs_walk.specs.Cells.{HasCellsAt}
 use Rattle.udfs_salvage.specs.Found.{Found}
 use Rattle.udfs_salvage.specs.WalkedNodes.{AreNodesFrom}
 use Rattle.udfs_salvage.specs.Reports.{Report, IsReportBy, ReportsBy, ReportsNodes}
 use Rattle.udfs_salvage.specs.Extraction.{Extracts, HasCellsInBy, is_offered}
+use Rattle.udfs_salvage.specs.StoreExtraction.{StoreExtracts}
+use Rattle.udfs_salvage.specs.declared.extraction.StoreExtractError.{StoreExtractError}
+use Rattle.udfs_salvage.specs.declared.extraction.StoreExtractError.TheVariants.{Extract, Unread}
 use Rattle.udfs_salvage.specs.declared.extraction.Fill.{Fill}
 use Rattle.udfs_salvage.specs.declared.extraction.ExtractError.{ExtractError}
 use Rattle.udfs_salvage.specs.declared.extraction.ExtractError.TheVariants.{NotWhole, Write, OutOfMemory}
@@ -73,6 +76,28 @@ not_refused a b bytes (Ok x) h e = absurd (let z : ⊥ = cc in z)
 not_refused a b bytes (Err NotWhole) h e = h
 not_refused a b bytes (Err Write) h e = absurd (let z : ⊥ = cc in z)
 not_refused a b bytes (Err OutOfMemory) h e = absurd (let z : ⊥ = cc in z)
+
+-- the same of a store's
+pub store_not_refused : {X : Type 0} (a b : Stream) (bytes : List ℕ) (r : Result X StoreExtractError) → StoreExtracts a b bytes r → IsErrOf r (Extract NotWhole) → ⊥
+store_not_refused a b bytes (Ok x) h e = absurd (let z : ⊥ = cc in z)
+store_not_refused a b bytes (Err (Extract NotWhole)) h e = h
+store_not_refused a b bytes (Err (Extract Write)) h e = absurd (let z : ⊥ = cc in z)
+store_not_refused a b bytes (Err (Extract OutOfMemory)) h e = absurd (let z : ⊥ = cc in z)
+store_not_refused a b bytes (Err Unread) h e = absurd (let z : ⊥ = cc in z)
+
+-- the error of a store's node and that of a table's, which is the same
+pub error_up : (f : StoreExtractError) (e x : ExtractError) → f ≡ Extract e → IsErrOf {T = ⊤} (Err e) x → IsErrOf {T = ⊤} (Err f) (Extract x)
+error_up f e x is h = let same : e ≡ x = cc in ap Err (is ∙ ap Extract same)
+
+pub error_down : (f : StoreExtractError) (e x : ExtractError) → f ≡ Extract e → IsErrOf {T = ⊤} (Err f) (Extract x) → IsErrOf {T = ⊤} (Err e) x
+error_down f e x is h = let stored : f ≡ Extract x = cc in let both : Extract e ≡ Extract x = sym is ∙ stored in let same : e ≡ x = cc in ap Err same
+
+pub errors_same : (P : Type 0) (f : StoreExtractError) (e x : ExtractError) → f ≡ Extract e → (IsErrOf {T = ⊤} (Err f) (Extract x) ↔ P) → (IsErrOf {T = ⊤} (Err e) x ↔ P)
+errors_same P f e x is h = (λ told. h.0 (error_up f e x is told), λ p. error_down f e x is (h.1 p))
+
+-- neither failed
+pub errors_none : (P : Type 0) (one other : ⊤) (x : ExtractError) → (IsErrOf {T = ⊤} {E = StoreExtractError} (Ok one) (Extract x) ↔ P) → (IsErrOf {T = ⊤} {E = ExtractError} (Ok other) x ↔ P)
+errors_none P one other x h = (λ told. absurd (let z : ⊥ = cc in z), λ p. let bad = h.1 p in absurd (let z : ⊥ = cc in z))
 
 -- what holds where there is none
 pub if_none : {A P : Type 0} (Q : A → Type 0) (o : Option A) → o ≡ None → MatchOption o P Q → P

@@ -4,7 +4,7 @@ use Rattle.std.specs.Prelude.{◌&&◌, ◌||◌, not, zero, suc}
 use Rattle.std.specs.List.{list_any}
 use Rattle.std.proofs.lemmas.Bool.{eqb-true}
 use Rattle.udfs_lattice.specs.Volumes.{Blocks}
-use Rattle.udfs_tree.specs.KnownLaws.{taken}
+use Rattle.udfs_walk.specs.KnownLaws.{taken}
 use Rattle.udfs_volume.specs.Answers.{Answer, found, holes, faulty}
 use Rattle.udfs_volume.specs.Seen.{IsRising}
 use Rattle.udfs_walk.specs.NodeFields.{NodeFields}

@@ -6,7 +6,7 @@ use Rattle.std.specs.List.{list_any}
 use Rattle.std.specs.Str.{bytes_eq}
 use Rattle.std.proofs.lemmas.List.{append-nil}
 use Rattle.udfs_osta.specs.Escapes.{escaped}
-use Rattle.udfs_tree.specs.KnownLaws.{TakesAbove}
+use Rattle.udfs_walk.specs.KnownLaws.{TakesAbove}
 use Rattle.udfs_salvage.specs.Choosing.{goes_on, is_under}
 use Rattle.udfs_salvage.specs.InLine.{AsksInLine, is_in_line, lies_along}
 use Rattle.udfs_salvage.specs.NodeTexts.{names_text, path_name}

@@ -15,10 +15,10 @@ use Rattle.udfs_space.proofs.PublicLaws.{blocks_of_standard_by}
 use Rattle.udfs_file.specs.Complete.{HasPartitions, IsComplete, IsReadFileSet}
 use Rattle.udfs_file.specs.Standard.{IsFileSetAt}
 use Rattle.udfs_file.proofs.PublicLaws.{file_set_is_read}
-use Rattle.udfs_tree.specs.Lawful.{IsLawfulTree}
-use Rattle.udfs_tree.specs.Sound.{IsSoundTree}
-use Rattle.udfs_tree.specs.Trees.{PartitionBlocks}
-use Rattle.udfs_tree.proofs.PublicLaws.{sound_is_lawful}
+use Rattle.udfs_walk.specs.Lawful.{IsLawfulTree}
+use Rattle.udfs_walk.specs.Sound.{IsSoundTree}
+use Rattle.udfs_walk.specs.Trees.{PartitionBlocks}
+use Rattle.udfs_walk.proofs.TreePublicLaws.{sound_is_lawful}
 use Rattle.udfs_salvage.specs.Found.{Found}
 use Rattle.udfs_salvage.specs.Laws.{IsLawfulVolumeBy}
 use Rattle.udfs_salvage.specs.VolumeTrees.{AllIsWhole, LawfulIsWholeBy, Opened, IsOpenedBy, IsLawfulBy, found_of}

@@ -1,5 +1,6 @@
 -- Bytes that are taken to be written piece by piece.
 --     Taken old new held still all rest     of all these bytes the rest is left
+use Rattle.std.specs.Prelude.{Ok, Err, true, false}
 use Rattle.std.proofs.Common.{◌≡◌, sym, ◌∙◌, ap, subst, ℕ, ◌+◌, ◌-◌, ◌≤◌, List, [], ◌++◌, length, drop, take, append_assoc, append-nil, arith, replicate, slice_range}
 use Rattle.std.proofs.lemmas.List.{drop-drop, drop-take, drop_all, replicate-append-replicate, take-append-drop}
 use Rattle.std.proofs.lemmas.Slice.{between_is}
@@ -8,6 +9,9 @@ use Rattle.udfs_file.specs.declared.cells.Cell.{Cell}
 use Rattle.udfs_file.specs.declared.portions.Portion.{Portion}
 use Rattle.udfs_reading.specs.Writing.{Passed, FailedPast}
 use Rattle.udfs_salvage.specs.Extraction.{filled}
+use Rattle.udfs_salvage.specs.StoreExtraction.{PassesBody, PushesNext, WritesBody}
+use Rattle.udfs_salvage.specs.declared.body_bytes.BodyFault.{BodyFault}
+use Rattle.udfs_salvage.specs.declared.body_bytes.BodyFault.TheVariants as body_fault
 use Rattle.udfs_salvage.proofs.Passing.{passed_none, passed_then, failed_then, failed_more}
 use Rattle.udfs_salvage.proofs.BodyBytes.{filled_append}
 use Rattle.udfs_reading.specs.Device.{Stream}
@@ -68,3 +72,21 @@ portion_split x p s t f = ap (filled x) (sym (take-append-drop (portion_count p)
 
 pub no_same_left : (x left : ℕ) → left ≡ 0 → replicate left x ≡ []
 no_same_left x left e = ap (λ n. replicate n x) e
+
+-- ---- one turn of the loop over the portions of a body
+
+pub pushed_more : (x : ℕ) (a b c : Stream) (p q r all : List ℕ) (s t : List Cell) → Taken a b p q all (filled x s) → PushesNext b c q r x s t (Ok true) → Taken a c p r all (filled x t)
+pushed_more x a b c p q r all s t h step = taken_more (filled x step.0) (filled x t) (ap (filled x) step.1 ∙ filled_append x step.0 t) h step.2
+
+pub pushed_all : (x : ℕ) (a b c : Stream) (p q r all : List ℕ) (s t : List Cell) → Taken a b p q all (filled x s) → PushesNext b c q r x s t (Ok false) → Passed a c p r all
+unfolding filled
+pushed_all x a b c p q r all s t h step = subst (λ (z : Stream). Passed a z p r all) (sym step.2) (subst (λ (l : List ℕ). Passed a b p l all) (sym step.3) (taken_all (ap (filled x) step.0) h))
+
+pub pushed_stops : (X : Type 0) (x : ℕ) (a b c : Stream) (p q r all : List ℕ) (s t : List Cell) (e : BodyFault) → Taken a b p q all (filled x s) → PushesNext b c q r x s t (Err e) → PassesBody {X = X} a c p r all (Err e)
+pushed_stops X x a b c p q r all s t body_fault.Write h step = taken_fails (filled x step.0) (filled x step.1) (ap (filled x) step.2 ∙ filled_append x step.0 step.1) h step.3
+pushed_stops X x a b c p q r all s t body_fault.Unread h step = tt
+
+-- what failed before the piece was held failed from nothing
+pub body_failed : (X : Type 0) (a b : Stream) (held still bytes : List ℕ) (e : BodyFault) → held ≡ [] → PassesBody {X = X} a b held still bytes (Err e) → WritesBody {X = X} a b bytes (Err e)
+body_failed X a b held still bytes body_fault.Write none h = record { out = h.out; rest = h.rest; given = h.given; whole = ap (λ (l : List ℕ). l ++ bytes) (sym none) ∙ h.whole; moved = h.moved }
+body_failed X a b held still bytes body_fault.Unread none h = tt

@@ -4,8 +4,8 @@ use Rattle.std.specs.Prelude.{Option, Some, None, Result, Ok, Err, IfErr, is_ok,
 use Rattle.std.specs.List.{flat_map}
 use Rattle.udfs_reading.specs.Writing.{Failed, Wrote}
 use Rattle.udfs_reading.specs.declared.writing.WriteFault.{WriteFault}
-use Rattle.udfs_printing.specs.Puts.{Finishes, Puts}
-use Rattle.udfs_printing.proofs.PublicLaws as printing
+use Rattle.udfs_reading.specs.Puts.{Finishes, Puts}
+use Rattle.udfs_reading.proofs.PrintingPublicLaws as printing
 use Rattle.udfs_walk.specs.NodeFields.{NodeFields}
 use Rattle.udfs_salvage.specs.NodeTexts.{node_text, nodes_text}
 use Rattle.udfs_salvage.specs.Printing.{Prints, PutsFront, PutsMost, Stopped}

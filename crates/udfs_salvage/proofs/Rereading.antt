@@ -17,13 +17,13 @@ use Rattle.udfs_file.specs.declared.cells.Cell.{Cell}
 use Rattle.udfs_walk.specs.NodeFields.{NodeFields}
 use Rattle.udfs_walk.specs.Rereads.{reread}
 use Rattle.udfs_walk.specs.Walks.{AreNodes}
-use Rattle.udfs_tree.specs.Cells.{IsWholeAs, HasCellsAt}
-use Rattle.udfs_tree.specs.KnownLaws.{IsListedWhole, AreWanted}
-use Rattle.udfs_tree.specs.KnownLaws as known
-use Rattle.udfs_tree.specs.Laws.{IsNodeOf}
-use Rattle.udfs_tree.specs.Needs.{Needs, HasKnown, IsMet}
-use Rattle.udfs_tree.specs.Trees.{PartitionBlocks, TreeFile, InTree}
-use Rattle.udfs_tree.proofs.PublicLaws.{missing_is_wanted, partial_nodes, root_is_in_tree, whole_alike}
+use Rattle.udfs_walk.specs.Cells.{IsWholeAs, HasCellsAt}
+use Rattle.udfs_walk.specs.KnownLaws.{IsListedWhole, AreWanted}
+use Rattle.udfs_walk.specs.KnownLaws as known
+use Rattle.udfs_walk.specs.TreeLaws.{IsNodeOf}
+use Rattle.udfs_walk.specs.Needs.{Needs, HasKnown, IsMet}
+use Rattle.udfs_walk.specs.Trees.{PartitionBlocks, TreeFile, InTree}
+use Rattle.udfs_walk.proofs.TreePublicLaws.{missing_is_wanted, partial_nodes, root_is_in_tree, whole_alike}
 use Rattle.udfs_salvage.specs.Found.{Found, volume_by}
 use Rattle.udfs_salvage.specs.Laws.{IsVolumeGroup, IsToldOf}
 use Rattle.udfs_salvage.specs.KnownEnough.{IsReportedWhole, MetIsReported, StaysWhole, HoldsWantedIn, IsWantedBlock, RereadsSuffice}

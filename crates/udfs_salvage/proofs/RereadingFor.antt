@@ -10,11 +10,11 @@ use Rattle.udfs_volume.specs.Laws.{ListsGroup, valid_anchors}
 use Rattle.udfs_volume.specs.Sequence.{anchor_places}
 use Rattle.udfs_walk.specs.Rereads.{reread}
 use Rattle.udfs_walk.specs.Walks.{AreNodes}
-use Rattle.udfs_tree.specs.KnownLaws.{AreWantedOf, IsListedWhole, taken}
-use Rattle.udfs_tree.specs.KnownLaws as known
-use Rattle.udfs_tree.specs.Needs.{HasKnown}
-use Rattle.udfs_tree.specs.Trees.{TreeFile, InTree}
-use Rattle.udfs_tree.proofs.PublicLaws.{chosen_is_wanted}
+use Rattle.udfs_walk.specs.KnownLaws.{AreWantedOf, IsListedWhole, taken}
+use Rattle.udfs_walk.specs.KnownLaws as known
+use Rattle.udfs_walk.specs.Needs.{HasKnown}
+use Rattle.udfs_walk.specs.Trees.{TreeFile, InTree}
+use Rattle.udfs_walk.proofs.TreePublicLaws.{chosen_is_wanted}
 use Rattle.udfs_salvage.specs.Found.{Found}
 use Rattle.udfs_salvage.specs.InLine.{EachRereadForSuffices, IsWantedFor, is_in_line, reread_by, reread_for}
 use Rattle.udfs_salvage.specs.KnownEnough.{HoldsWantedIn, IsReportedWhole}

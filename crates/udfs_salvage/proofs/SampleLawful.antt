@@ -12,10 +12,10 @@ use Rattle.udfs_file.specs.Complete.{IsComplete}
 use Rattle.udfs_file.specs.Sample.{sample_contents, sample_root, sample_view}
 use Rattle.udfs_file.proofs.PublicLaws.{sample_file_set_is_found}
 use Rattle.udfs_walk.proofs.PublicLaws.{sample_nodes_are_whole}
-use Rattle.udfs_tree.specs.Lawful.{IsLawfulTree}
-use Rattle.udfs_tree.specs.Sample.{HasSampleFiles}
-use Rattle.udfs_tree.specs.Trees.{PartitionBlocks, TreeFile}
-use Rattle.udfs_tree.proofs.PublicLaws.{sample_tree_is_lawful}
+use Rattle.udfs_walk.specs.Lawful.{IsLawfulTree}
+use Rattle.udfs_walk.specs.TreeSample.{HasSampleFiles}
+use Rattle.udfs_walk.specs.Trees.{PartitionBlocks, TreeFile}
+use Rattle.udfs_walk.proofs.TreePublicLaws.{sample_tree_is_lawful}
 use Rattle.udfs_salvage.specs.Found.{Found, placed, rooted, volume_by}
 use Rattle.udfs_salvage.specs.TreeReports.{SomeLawful, SomeLawfulBy}
 use Rattle.udfs_salvage.specs.VolumeTrees.{AllIsWhole, IsInVolumeBy, IsLawfulBy}

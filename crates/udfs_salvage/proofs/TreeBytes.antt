@@ -15,9 +15,9 @@ use Rattle.udfs_walk.specs.NodeFields.{NodeFields}
 use Rattle.udfs_walk.specs.declared.standings.Standing.{Standing}
 use Rattle.udfs_walk.specs.declared.standings.Standing.TheVariants.{Whole, Torn, Loop, Fault}
 use Rattle.udfs_walk.specs.Rereads.{holes_of}
-use Rattle.udfs_tree.specs.Cells.{HasCellsAt, IsByteOf, IsByteOrMissing, IsToldAs, IsTornAs, IsUntold}
-use Rattle.udfs_tree.specs.Laws.{IsTold}
-use Rattle.udfs_tree.proofs.PublicLaws.{one_reading}
+use Rattle.udfs_walk.specs.Cells.{HasCellsAt, IsByteOf, IsByteOrMissing, IsToldAs, IsTornAs, IsUntold}
+use Rattle.udfs_walk.specs.TreeLaws.{IsTold}
+use Rattle.udfs_walk.proofs.TreePublicLaws.{one_reading}
 use Rattle.udfs_salvage.specs.Found.{Found, volume_by}
 use Rattle.udfs_salvage.specs.Reports.{Report, IsReportBy}
 use Rattle.udfs_salvage.specs.Extraction.{HasCellsInBy, cell_byte, filled, is_offered}

@@ -7,10 +7,10 @@ use Rattle.udfs_space.specs.Places.{view, IsPartOf}
 use Rattle.udfs_space.proofs.PublicLaws.{places_are_blocks_by}
 use Rattle.udfs_walk.specs.NodeFields.{NodeFields}
 use Rattle.udfs_walk.specs.Routes.{HasMoreRoutes}
-use Rattle.udfs_tree.specs.Trees.{TreeFile, InTree}
-use Rattle.udfs_tree.specs.Needs.{Needs, HasKnown, IsMet}
-use Rattle.udfs_tree.specs.Laws.{AreTheTree, IsNodeOf}
-use Rattle.udfs_tree.proofs.PublicLaws.{complete_nodes, fewer_routes, once_per_path, one_file, partial_nodes}
+use Rattle.udfs_walk.specs.Trees.{TreeFile, InTree}
+use Rattle.udfs_walk.specs.Needs.{Needs, HasKnown, IsMet}
+use Rattle.udfs_walk.specs.TreeLaws.{AreTheTree, IsNodeOf}
+use Rattle.udfs_walk.proofs.TreePublicLaws.{complete_nodes, fewer_routes, once_per_path, one_file, partial_nodes}
 use Rattle.udfs_salvage.specs.Found.{Found}
 use Rattle.udfs_salvage.specs.Laws.{IsVolumeGroup, IsFoundOf, IsToldOf}
 use Rattle.udfs_salvage.specs.Reports.{Report, ReportsNodes, ReportsBy, IsReportBy, IsOutOfRange, IsPastEnd, HasTooManyPathsBy, IsLookRefused, IsUnfit}

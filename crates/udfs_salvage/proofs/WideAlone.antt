@@ -26,10 +26,10 @@ use Rattle.udfs_walk.specs.Routes.{entries_below}
 use Rattle.udfs_walk.specs.Sample.{AreNodesIn}
 use Rattle.udfs_walk.specs.Standings.{cells_standing}
 use Rattle.udfs_walk.specs.Targets.{target}
-use Rattle.udfs_tree.specs.Lawful.{IsLawfulTree}
-use Rattle.udfs_tree.specs.Sample.{HasSampleFiles}
-use Rattle.udfs_tree.specs.Trees.{PartitionBlocks, TreeFile}
-use Rattle.udfs_tree.proofs.PublicLaws.{sample_tree_is_lawful}
+use Rattle.udfs_walk.specs.Lawful.{IsLawfulTree}
+use Rattle.udfs_walk.specs.TreeSample.{HasSampleFiles}
+use Rattle.udfs_walk.specs.Trees.{PartitionBlocks, TreeFile}
+use Rattle.udfs_walk.proofs.TreePublicLaws.{sample_tree_is_lawful}
 use Rattle.udfs_salvage.specs.Found.{Found, placed, rooted, volume_by}
 use Rattle.udfs_salvage.specs.Laws.{IsLawfulVolumeBy}
 use Rattle.udfs_salvage.specs.VolumeTrees.{AllIsWhole, IsInVolumeBy, IsLawfulBy}

@@ -25,9 +25,9 @@ use Rattle.udfs_walk.specs.Standings.{body_standing, cells_standing, depth_or, k
 use Rattle.udfs_walk.specs.Targets.{Target, bad, unread, entry, target}
 use Rattle.udfs_walk.specs.declared.standings.Standing.{Standing}
 use Rattle.udfs_walk.specs.declared.standings.Standing.TheVariants.{Whole, Loop}
-use Rattle.udfs_tree.specs.Lawful.{IsLawfulTree}
-use Rattle.udfs_tree.specs.Sound.{IsSoundTree}
-use Rattle.udfs_tree.specs.Trees.{PartitionBlocks, TreeFile, IsFileAt, IsDirectoryAt, Leads, InTree}
+use Rattle.udfs_walk.specs.Lawful.{IsLawfulTree}
+use Rattle.udfs_walk.specs.Sound.{IsSoundTree}
+use Rattle.udfs_walk.specs.Trees.{PartitionBlocks, TreeFile, IsFileAt, IsDirectoryAt, Leads, InTree}
 
 -- ---- directories
 no_fault : (o : Option NodeFault) (inner : Standing) → standing_or_fault o inner ≡ Whole → o ≡ None

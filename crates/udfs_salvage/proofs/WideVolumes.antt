@@ -17,9 +17,9 @@ use Rattle.udfs_space.proofs.PublicLaws.{any_copies}
 use Rattle.udfs_file.specs.Addresses.{file_set}
 use Rattle.udfs_file.specs.Complete.{IsComplete}
 use Rattle.udfs_file.specs.Laws.{by_profile}
-use Rattle.udfs_tree.specs.Lawful.{IsLawfulTree}
-use Rattle.udfs_tree.specs.Sound.{IsSoundTree}
-use Rattle.udfs_tree.specs.Trees.{TreeFile, InTree}
+use Rattle.udfs_walk.specs.Lawful.{IsLawfulTree}
+use Rattle.udfs_walk.specs.Sound.{IsSoundTree}
+use Rattle.udfs_walk.specs.Trees.{TreeFile, InTree}
 use Rattle.udfs_salvage.specs.Found.{Found, placed, rooted, volume_by}
 use Rattle.udfs_salvage.specs.Laws.{IsLawfulVolumeBy}
 use Rattle.udfs_salvage.specs.VolumeTrees.{Opened, IsOpenedBy, IsInVolumeBy, IsLawfulBy}

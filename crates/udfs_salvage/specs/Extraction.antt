@@ -14,7 +14,7 @@ use Rattle.udfs_file.specs.declared.cells.Cell.TheVariants as cell
 use Rattle.udfs_walk.specs.declared.standings.Standing.{Standing}
 use Rattle.udfs_walk.specs.declared.standings.Standing.TheVariants.{Whole, Torn, Loop, Fault}
 use Rattle.udfs_reading.specs.Writing.{Wrote, Failed}
-use Rattle.udfs_tree.specs.Cells.{HasCellsAt}
+use Rattle.udfs_walk.specs.Cells.{HasCellsAt}
 use Rattle.udfs_salvage.specs.Found.{Found, volume_by}
 use Rattle.udfs_salvage.specs.declared.extraction.Fill.{Fill}
 use Rattle.udfs_salvage.specs.declared.extraction.Fill.TheVariants.{Refuse, Byte}

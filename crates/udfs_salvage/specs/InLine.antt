@@ -13,8 +13,8 @@ use Rattle.udfs_file.specs.declared.faults.Kind.{Kind}
 use Rattle.udfs_file.specs.declared.faults.Kind.TheVariants.{Directory, Unread}
 use Rattle.udfs_lattice.specs.States.{join_of}
 use Rattle.udfs_lattice.specs.Volumes.{Blocks, Volume, Agrees, IsUnread}
-use Rattle.udfs_tree.specs.KnownLaws.{taken}
-use Rattle.udfs_tree.specs.Trees.{TreeFile}
+use Rattle.udfs_walk.specs.KnownLaws.{taken}
+use Rattle.udfs_walk.specs.Trees.{TreeFile}
 use Rattle.udfs_volume.specs.Answers.{Answer, found, holes, faulty}
 use Rattle.udfs_volume.specs.Laws.{valid_anchors}
 use Rattle.udfs_volume.specs.Sequence.{anchor_places}

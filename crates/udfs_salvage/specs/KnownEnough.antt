@@ -12,8 +12,8 @@ use Rattle.udfs_volume.specs.Answers.{found}
 use Rattle.udfs_volume.specs.Laws.{valid_anchors}
 use Rattle.udfs_volume.specs.Sequence.{anchor_places}
 use Rattle.udfs_space.specs.Places.{view}
-use Rattle.udfs_tree.specs.Trees.{TreeFile}
-use Rattle.udfs_tree.specs.KnownLaws.{HoldsGroup, IsListedWhole}
+use Rattle.udfs_walk.specs.Trees.{TreeFile}
+use Rattle.udfs_walk.specs.KnownLaws.{HoldsGroup, IsListedWhole}
 use Rattle.udfs_salvage.specs.Found.{Found}
 use Rattle.udfs_salvage.specs.Reports.{Report, IsReportBy}
 use Rattle.udfs_salvage.specs.VolumeTrees.{IsLawfulBy, IsInVolumeBy, IsNeededIn, IsMetBy}

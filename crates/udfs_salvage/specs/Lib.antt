@@ -4,6 +4,7 @@ pub mod VolumeTrees
 pub mod WideVolumes
 pub mod Reports
 pub mod Stores
+pub mod StoreExtraction
 pub mod TreeReports
 pub mod Texts
 pub mod NodeTexts

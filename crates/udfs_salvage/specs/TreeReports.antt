@@ -19,10 +19,10 @@ use Rattle.udfs_space.specs.Places.{view}
 use Rattle.udfs_file.specs.declared.cells.Cell.{Cell}
 use Rattle.udfs_walk.specs.NodeFields.{NodeFields}
 use Rattle.udfs_walk.specs.declared.standings.Standing.TheVariants.{Whole}
-use Rattle.udfs_tree.specs.Trees.{TreeFile}
+use Rattle.udfs_walk.specs.Trees.{TreeFile}
 use Rattle.udfs_walk.specs.Rereads.{holes_of}
-use Rattle.udfs_tree.specs.Cells.{HasCellsAt, HasNoFault, IsInRuns, IsWholeAs, IsToldAs}
-use Rattle.udfs_tree.specs.Laws.{HasPathsOnce, IsTold}
+use Rattle.udfs_walk.specs.Cells.{HasCellsAt, HasNoFault, IsInRuns, IsWholeAs, IsToldAs}
+use Rattle.udfs_walk.specs.TreeLaws.{HasPathsOnce, IsTold}
 use Rattle.udfs_salvage.specs.Found.{Found}
 use Rattle.udfs_salvage.specs.Reports.{Report, IsReportBy}
 use Rattle.udfs_salvage.specs.VolumeTrees.{Opened, IsOpenedBy, IsInVolumeBy, IsLawfulBy, IsMetBy}

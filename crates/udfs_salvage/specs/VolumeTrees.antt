@@ -19,10 +19,10 @@ use Rattle.udfs_space.specs.Laws.{AreBlocksOf}
 use Rattle.udfs_space.specs.Places.{view}
 use Rattle.udfs_space.specs.Standard.{standard_space}
 use Rattle.udfs_file.specs.Standard.{IsFileSetAt}
-use Rattle.udfs_tree.specs.Trees.{PartitionBlocks, TreeFile, InTree}
-use Rattle.udfs_tree.specs.Needs.{Needs, HasKnown}
-use Rattle.udfs_tree.specs.Lawful.{IsLawfulTree}
-use Rattle.udfs_tree.specs.Sound.{IsSoundTree}
+use Rattle.udfs_walk.specs.Trees.{PartitionBlocks, TreeFile, InTree}
+use Rattle.udfs_walk.specs.Needs.{Needs, HasKnown}
+use Rattle.udfs_walk.specs.Lawful.{IsLawfulTree}
+use Rattle.udfs_walk.specs.Sound.{IsSoundTree}
 use Rattle.udfs_salvage.specs.Found.{Found}
 use Rattle.udfs_salvage.specs.Laws.{IsLawfulVolumeBy, IsVolumeGroup}
 

@@ -12,7 +12,7 @@ use Rattle.udfs_file.specs.Entries.{EntryFields}
 use Rattle.udfs_file.specs.TailBodies.{is_tail_read}
 use Rattle.udfs_walk.specs.Routes.{Route, Walked, walked}
 use Rattle.udfs_walk.specs.Targets.{entry, target}
-use Rattle.udfs_tree.specs.Trees.{TreeFile}
+use Rattle.udfs_walk.specs.Trees.{TreeFile}
 use Rattle.udfs_salvage.specs.Laws.{IsLawfulVolumeBy}
 use Rattle.udfs_salvage.specs.VolumeTrees.{IsInVolumeBy, IsLawfulBy}
 

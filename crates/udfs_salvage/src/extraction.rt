@@ -3,7 +3,7 @@
 ghost use Rattle.std.specs.Prelude.{◌≡◌, ◌<◌, ◌↔◌, ℕ, Bool, true, false, List, [], Some, length, slice_get, IsErrOf, IfErr, OnOk};
 ghost use Rattle.udfs_lattice.specs.Tables.{state_of};
 ghost use Rattle.udfs_space.specs.Places.{view};
-ghost use Rattle.udfs_space.specs.Views.{view_now};
+ghost use Rattle.udfs_space.specs.Views.{view_by, view_now};
 ghost use Rattle.udfs_file.specs.declared.cells.Cell.{Cell};
 ghost use Rattle.udfs_volume.specs.Answers.{found};
 ghost use Rattle.udfs_volume.specs.declared.profiles.Profile.{Profile};
@@ -13,17 +13,19 @@ ghost use Rattle.udfs_salvage.specs.Found.{Found, volume_now};
 ghost use Rattle.udfs_salvage.specs.Reports.{IsReport, IsReportBy, report_now};
 ghost use Rattle.udfs_salvage.specs.TreeReports.{FillsFile, FillsFileBy, WritesFile, WritesFileBy};
 ghost use Rattle.udfs_salvage.specs.Extraction.{Extracts, HasCellsIn, HasCellsInBy, fill_byte, filled, is_offered};
+ghost use Rattle.udfs_salvage.specs.StoreExtraction.{StoreExtracts};
 
-use crate::body_bytes::write_body;
+use crate::body_bytes::{BodyFault, write_body};
 use crate::reports::Report;
 use crate::volumes::Volume;
-use std::alloc::{AllocError, Global};
+use std::alloc::Global;
 use std::error::Error;
 use std::fmt;
-use udfs_reading::{Outgoing, Sink, WriteFault};
-use udfs_space::View;
+use udfs_lattice::{BlockStore, GaveUp};
+use udfs_reading::{Outgoing, Sink};
+use udfs_space::{StoreView, View};
 use udfs_tag::LongAd;
-use udfs_walk::{Node, Standing, body_at};
+use udfs_walk::{Node, Standing, body_by};
 
 /// What is written of nodes that are not whole.
 #[derive(Clone, Copy, Debug, PartialEq, Eq)]
@@ -78,7 +80,57 @@ pub fn is_offered(node: &Node, fill: Fill) -> bool
     }
 }
 
+/// Why a node of a store of blocks was not written, or only a beginning of it.
+#[derive(Clone, Copy, Debug, PartialEq, Eq)]
+pub enum StoreExtractError {
+    /// As of a table.
+    Extract(ExtractError),
+    /// The bytes of a known block could not be read. A beginning of the node's may be written then.
+    Unread,
+}
+
+impl fmt::Display for StoreExtractError {
+    fn fmt<W: fmt::Write>(&self, f: &mut fmt::Formatter<W>) -> fmt::Result {
+        match self {
+            StoreExtractError::Extract(error) => write!(f, "{error}"),
+            StoreExtractError::Unread => write!(f, "a known block could not be read"),
+        }
+    }
+}
+
+impl Error for StoreExtractError {}
+
 /// Writes the body of the entry at an address, where there is one, through a piece of outgoing bytes that holds none, nor does after it.
+pub(crate) fn write_at_by<B: BlockStore, W: Sink>(
+    alloc: Global,
+    view: StoreView<'_, B>,
+    address: LongAd,
+    fill: u8,
+    out: &mut Outgoing,
+    sink: &mut W,
+) -> Result<(), StoreExtractError>
+    requires { out.old ≡ [] }
+    ensures cells { B.tells → (cs : List Cell) → HasCells (view_by B.states view.entry) address cs →
+        StoreExtracts (W.stream sink.old) (W.stream sink.new) (filled fill cs) result }
+    ensures not_whole { IsErrOf result (StoreExtractError.Extract ExtractError.NotWhole) → sink.new ≡ sink.old }
+    ensures memory { IsErrOf result (StoreExtractError.Extract ExtractError.OutOfMemory) → sink.new ≡ sink.old }
+    ensures wanted { IsErrOf result (StoreExtractError.Extract ExtractError.OutOfMemory) → B.tells → MayTakeMemory (view_by B.states view.entry) address }
+    ensures fails { IsErrOf result StoreExtractError.Unread → B.fails }
+    ensures empty { OnOk result (out.new ≡ []) }
+{
+    match body_by(alloc, view, address) {
+        Ok(Some(body)) => match write_body(out, sink, view, &body, fill) {
+            Ok(()) => Ok(()),
+            Err(BodyFault::Write) => Err(StoreExtractError::Extract(ExtractError::Write)),
+            Err(BodyFault::Unread) => Err(StoreExtractError::Unread),
+        },
+        Ok(None) => Err(StoreExtractError::Extract(ExtractError::NotWhole)),
+        Err(GaveUp::OutOfMemory) => Err(StoreExtractError::Extract(ExtractError::OutOfMemory)),
+        Err(GaveUp::Unread) => Err(StoreExtractError::Unread),
+    }
+}
+
+/// The same of a table, whose blocks are never read again.
 pub(crate) fn write_at<W: Sink>(
     alloc: Global,
     view: View<'_>,
@@ -95,13 +147,14 @@ pub(crate) fn write_at<W: Sink>(
     ensures wanted { IsErrOf result ExtractError.OutOfMemory → MayTakeMemory (view_now view.entry) address }
     ensures empty { OnOk result (out.new ≡ []) }
 {
-    match body_at(alloc, view, address) {
-        Ok(Some(body)) => match write_body(out, sink, view, &body, fill) {
-            Ok(()) => Ok(()),
-            Err(WriteFault) => Err(ExtractError::Write),
-        },
-        Ok(None) => Err(ExtractError::NotWhole),
-        Err(AllocError) => Err(ExtractError::OutOfMemory),
+    let stored = StoreView {
+        blocks: view.table,
+        space: view.space,
+    };
+    match write_at_by(alloc, stored, address, fill, out, sink) {
+        Ok(()) => Ok(()),
+        Err(StoreExtractError::Extract(error)) => Err(error),
+        Err(StoreExtractError::Unread) => unreachable!(),
     }
 }
 

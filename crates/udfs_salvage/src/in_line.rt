@@ -6,7 +6,7 @@ ghost use Rattle.udfs_salvage.specs.Choosing.{is_under};
 ghost use Rattle.udfs_salvage.specs.InLine.{AsksInLine, EachRereadForSuffices, IsFirstOf, RereadsForAll, is_in_line, lies_along, may_hide, may_list, names_nothing, nodes_for, reread_for};
 ghost use Rattle.udfs_salvage.specs.Listings.{listing_by};
 ghost use Rattle.udfs_salvage.specs.NodeTexts.{path_name};
-ghost use Rattle.udfs_tree.specs.KnownLaws.{taken};
+ghost use Rattle.udfs_walk.specs.KnownLaws.{taken};
 ghost use Rattle.udfs_volume.specs.Seen.{IsRising};
 
 use crate::choosing::{is_node, is_under, text_of};

@@ -39,9 +39,9 @@ mod words;
 
 pub use appending::push_names;
 pub use errors::{PrintError, RunError, SalvageError, StoreError};
-pub use extraction::{ExtractError, Fill, extract, extract_by, is_offered};
+pub use extraction::{ExtractError, Fill, StoreExtractError, extract, extract_by, is_offered};
 pub use json_reports::report_json;
-pub use listed_extraction::{write_lost, write_node};
+pub use listed_extraction::{write_lost, write_lost_by, write_node, write_node_by};
 pub use listings::{
     Listing, list_store, list_unnamed, list_unnamed_by, list_volume_by, reread_blocks,
     reread_blocks_by,

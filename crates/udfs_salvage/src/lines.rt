@@ -5,7 +5,7 @@ ghost use Rattle.udfs_lattice.specs.Tables.{Table};
 ghost use Rattle.udfs_volume.specs.Answers.{found, holes, faulty};
 ghost use Rattle.udfs_volume.specs.LayoutParts.{partition_now};
 ghost use Rattle.udfs_volume.specs.Parts.{map_now};
-ghost use Rattle.udfs_printing.specs.Puts.{Puts};
+ghost use Rattle.udfs_reading.specs.Puts.{Puts};
 ghost use Rattle.udfs_salvage.specs.Found.{found_now, volume_now};
 ghost use Rattle.udfs_salvage.specs.Texts.{block_text, block_texts, count_line, end_line, first_line, form_text, has_two, head_text_by, label_line, label_lines, map_texts, open_text, partition_map_text, profile_lines, reread_line, reread_lines, state_text, volume_line};
 
@@ -15,8 +15,7 @@ use crate::word_printing::{put_count, put_escaped};
 use crate::words::{fault_number, revision_name};
 use udfs_lattice::{BlockStore, Fact};
 use udfs_osta::{Label, Name};
-use udfs_printing::Printer;
-use udfs_reading::Sink;
+use udfs_reading::{Printer, Sink};
 use udfs_volume::{Partition, PartitionMap, Profile, VolumeFault};
 
 /// Whether the volume opens and has two partitions.

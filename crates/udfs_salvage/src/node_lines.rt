@@ -1,15 +1,14 @@
 //! The lines of nodes, and of entries that no name leads to.
 
 ghost use Rattle.std.specs.Prelude.{◌++◌, Some, codes, decimal};
-ghost use Rattle.udfs_printing.specs.Puts.{Puts};
+ghost use Rattle.udfs_reading.specs.Puts.{Puts};
 ghost use Rattle.udfs_salvage.specs.NodeTexts.{hole_line, kind_text, missing_line, name_text, names_text, node_line, path_name, path_text, place_text, size_text, standing_text, stamp_column, told_text, unnamed_line};
 
 use crate::word_printing::{put_count, put_escaped, put_stamp, put_word};
 use crate::words::{kind_word, standing_word};
 use udfs_file::Kind;
 use udfs_osta::{Name, Stamp};
-use udfs_printing::Printer;
-use udfs_reading::Sink;
+use udfs_reading::{Printer, Sink};
 use udfs_tag::LbAddr;
 use udfs_walk::{Node, Path, Standing, Unnamed};
 

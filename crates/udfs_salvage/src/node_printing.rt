@@ -3,7 +3,7 @@
 ghost use Rattle.std.specs.Prelude.{◌++◌, IfOk, IsErrOf, map};
 ghost use Rattle.udfs_space.specs.Views.{view_by};
 ghost use Rattle.udfs_walk.specs.Bare.{full_entry, full_node, lists_at, with_lists};
-ghost use Rattle.udfs_printing.specs.Puts.{Puts};
+ghost use Rattle.udfs_reading.specs.Puts.{Puts};
 ghost use Rattle.udfs_salvage.specs.KeptLists.{AreKeptLists};
 ghost use Rattle.udfs_salvage.specs.Printing.{PutsMost};
 ghost use Rattle.udfs_salvage.specs.NodeTexts.{gap_lines, hole_lines, missing_lines, node_text, nodes_text, unnamed_text, unnamed_texts};
@@ -12,8 +12,7 @@ use crate::kept_lists::KeptLists;
 use crate::node_lines::{put_hole, put_missing, put_node_line, put_unnamed_line};
 use std::alloc::Global;
 use udfs_lattice::{BlockStore, GaveUp};
-use udfs_printing::Printer;
-use udfs_reading::Sink;
+use udfs_reading::{Printer, Sink};
 use udfs_space::StoreView;
 use udfs_tag::LongAd;
 use udfs_walk::{Node, Standing, Unnamed, full_standing_by};

@@ -2,7 +2,7 @@
 
 ghost use Rattle.std.specs.Prelude.{◌≡◌, ◌<◌, ◌≤◌, [], IfErr, length, OnOk};
 ghost use Rattle.std.specs.String.{string_bytes};
-ghost use Rattle.udfs_printing.specs.Puts.{Finishes, Puts};
+ghost use Rattle.udfs_reading.specs.Puts.{Finishes, Puts};
 ghost use Rattle.udfs_salvage.specs.Found.{volume_now};
 ghost use Rattle.udfs_salvage.specs.Printing.{PassesOn, Prints};
 ghost use Rattle.udfs_salvage.specs.Reports.{report_now};
@@ -15,8 +15,7 @@ use crate::lines::{has_two, put_end, put_head, put_rereads, put_volume};
 use crate::node_printing::{put_all_unnamed, put_nodes};
 use crate::reports::Report;
 use crate::volumes::Volume;
-use udfs_printing::Printer;
-use udfs_reading::{Sink, WriteFault, write_all};
+use udfs_reading::{Printer, Sink, WriteFault, write_all};
 
 /// How many bytes of text are gathered before they are written.
 const PIECE: usize = 65_536;

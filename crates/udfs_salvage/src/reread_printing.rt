@@ -1,12 +1,11 @@
 //! The blocks to read again are printed by themselves.
 
-ghost use Rattle.udfs_printing.specs.Puts.{Puts};
+ghost use Rattle.udfs_reading.specs.Puts.{Puts};
 ghost use Rattle.udfs_reading.specs.Writing.{Writes};
 ghost use Rattle.udfs_salvage.specs.RereadTexts.{number_line, number_lines};
 
 use crate::reports::Report;
-use udfs_printing::Printer;
-use udfs_reading::{Sink, WriteFault};
+use udfs_reading::{Printer, Sink, WriteFault};
 
 /// The number of a block on a line of its own.
 fn put_number<W: Sink>(out: &mut Printer, sink: &mut W, block: u32)

@@ -18,8 +18,7 @@ use crate::surveys::Survey;
 use crate::volumes::Volume;
 use std::alloc::Global;
 use udfs_lattice::{BlockStore, GaveUp};
-use udfs_printing::Printer;
-use udfs_reading::Sink;
+use udfs_reading::{Printer, Sink};
 
 /// The lines of the nodes.
 fn put_survey_nodes<B: BlockStore, W: Sink>(

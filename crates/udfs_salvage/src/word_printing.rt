@@ -3,13 +3,12 @@
 ghost use Rattle.std.specs.Prelude.{◌≤◌, ◌++◌, length, decimal};
 ghost use Rattle.udfs_osta.specs.Escapes.{escaped};
 ghost use Rattle.udfs_osta.specs.StampTexts.{stamp_text};
-ghost use Rattle.udfs_printing.specs.Puts.{Puts};
+ghost use Rattle.udfs_reading.specs.Puts.{Puts};
 ghost use Rattle.udfs_salvage.specs.NodeTexts.{word_text};
 
 use crate::words::Word;
 use udfs_osta::{Name, Stamp};
-use udfs_printing::Printer;
-use udfs_reading::Sink;
+use udfs_reading::{Printer, Sink};
 
 /// `front`, and then a number in decimal.
 pub(crate) fn put_count<W: Sink>(out: &mut Printer, sink: &mut W, front: &str, number: u64)

@@ -1,6 +1,6 @@
 -- How the calls that put an image and its mapfile follow one another.
 use Rattle.std.proofs.Common.{◌≡◌, inl, inr, ⊎_elim, ℕ, List, Some, None, refl, sym, ◌∙◌, arith}
-use Rattle.udfs_files.specs.Disk.{Disk, Same, Gone, Replaced, After, Goes}
+use Rattle.udfs_host_fs.specs.Disk.{Disk, Same, Gone, Replaced, After, Goes}
 use Rattle.udfs_tables.specs.Pairing.{BothReplaced}
 use Rattle.udfs_common.specs.Guarding.{IsApart}
 

@@ -1,10 +1,10 @@
 -- What a job that writes a table file leaves of the output's path, and that the file is that of what the inputs hold.
 use Rattle.std.proofs.Common.{◌≡◌, ◌≢◌, ◌⊎◌, ◌∙◌, ℕ, Bool, true, List, Option, Ok, Err, Some, alloc_error, inl, inr, length, refl, subst, sym, ⊎_elim}
-use Rattle.udfs_files.specs.Disk.{After, Disk, Fails, Replaced, SinkFails}
+use Rattle.udfs_host_fs.specs.Disk.{After, Disk, Fails, Replaced, SinkFails}
 use Rattle.udfs_index.specs.Copying.{AreAllTold}
 use Rattle.udfs_lattice.specs.Records.{join_all}
 use Rattle.udfs_lattice.specs.Tables.{Table}
-use Rattle.udfs_pairs.specs.declared.any_stored.AnyStored.{AnyStored}
+use Rattle.udfs_index.specs.declared.any_stored.AnyStored.{AnyStored}
 use Rattle.udfs_words.specs.declared.input_path.InputPath.{InputPath}
 use Rattle.udfs_words.specs.declared.request.Inputs.{Inputs}
 use Rattle.udfs_common.specs.Keeping.{FailedOut, IsKept, IsTaken, Opens}

@@ -1,7 +1,7 @@
 -- What is said of two paths where an image and its mapfile are put: of the calls that put them, of nothing, of more, and where the paths lead.
 use Rattle.std.proofs.Common.{◌≡◌, ◌≢◌, ◌⊎◌, ◌∙◌, ℕ, ◌+◌, List, None, Some, Ok, Err, Result, OnOk, alloc_error, arith, inl, inr, refl, subst, sym, ⊎_elim}
-use Rattle.udfs_files.specs.Disk.{Disk, Goes, Gone, IsOwn, Replaced}
-use Rattle.udfs_files.specs.declared.files.Files.{Ghosts}
+use Rattle.udfs_host_fs.specs.Disk.{Disk, Goes, Gone, IsOwn, Replaced}
+use Rattle.udfs_host_fs.specs.declared.files.Files.{Ghosts}
 use Rattle.udfs_lattice.specs.Tables.{Table}
 use Rattle.udfs_words.specs.declared.request.ImageRequest.{ImageRequest}
 use Rattle.udfs_common.specs.Ends.{IsEnd}

@@ -4,7 +4,7 @@
 --     OutRefused     why it may not be written
 --     IsNotWritten   the inputs were not joined, or the table file was not put, and why
 use Rattle.std.specs.Prelude.{◌≡◌, ◌⊎◌, Bool, true, List, ℕ, alloc_error}
-use Rattle.udfs_files.specs.Disk.{Fails}
+use Rattle.udfs_host_fs.specs.Disk.{Fails}
 use Rattle.udfs_words.specs.Requests.{texts}
 use Rattle.udfs_words.specs.declared.request.Inputs.{Inputs}
 use Rattle.udfs_common.specs.Guarding.{IsFree, IsSpared, MayNotBeSeen}

@@ -12,8 +12,8 @@
 --     SparesPair      what the two paths hold, and that nothing else changes, whatever the call returned
 --     PutsPair        all of these: what a call with this result does with the two paths
 use Rattle.std.specs.Prelude.{◌≡◌, ◌≢◌, ◌⊎◌, ℕ, List, None, Some, Result, IfErr, OnOk}
-use Rattle.udfs_files.specs.Disk.{After, Disk, Fails, Goes, IsOwn, Same, SinkFails}
-use Rattle.udfs_files.specs.declared.files.Files.{Ghosts}
+use Rattle.udfs_host_fs.specs.Disk.{After, Disk, Fails, Goes, IsOwn, Same, SinkFails}
+use Rattle.udfs_host_fs.specs.declared.files.Files.{Ghosts}
 use Rattle.udfs_common.specs.Keeping.{IsKept}
 use Rattle.udfs_common.specs.Reach.{Reach}
 use Rattle.udfs_common.specs.Refused.{IsRereadOf}

@@ -1,8 +1,8 @@
 //! The command `image`: readings in, the image of their disc and its mapfile out.
 
 ghost use Rattle.std.specs.Prelude.{◌≡◌, ◌⊎◌, ◌<◌, ◌≤◌, ℕ, IfErr, OnOk, Some, None, length, string_bytes};
-ghost use Rattle.udfs_files.specs.Disk.{Fails, SinkFails};
-ghost use Rattle.udfs_files.specs.declared.files.Kind.{Kind};
+ghost use Rattle.udfs_host_fs.specs.Disk.{Fails, SinkFails};
+ghost use Rattle.udfs_host_fs.specs.declared.files.Kind.{Kind};
 ghost use Rattle.udfs_index.specs.Copying.{AreAllTold};
 ghost use Rattle.udfs_lattice.specs.Tables.{Table, state_of};
 ghost use Rattle.udfs_rescue.specs.Images.{image_bytes};
@@ -27,9 +27,8 @@ use udfs_common::known::Known;
 use udfs_common::placing::{Places, find_places, look_at_both};
 use udfs_common::refusal::Refusal;
 use udfs_common::stored_inputs::open_all_stored;
-use udfs_files::{Content, Stage};
-use udfs_index::Stored;
-use udfs_pairs::AnyStored;
+use udfs_host_fs::{Content, Stage};
+use udfs_index::{AnyStored, Stored};
 use udfs_reading::{Sink, WriteFault};
 use udfs_rescue::write_image_map;
 use udfs_words::request::ImageRequest;

@@ -2,7 +2,7 @@
 
 ghost use Rattle.std.specs.Prelude.{◌≡◌, ◌⊎◌, ◌<◌, ◌≤◌, ⊤, ℕ, IfErr, MatchOption, OnOk, length};
 ghost use Rattle.std.specs.Io.KnownBytes.{Appends};
-ghost use Rattle.udfs_files.specs.Disk.{SinkFails};
+ghost use Rattle.udfs_host_fs.specs.Disk.{SinkFails};
 ghost use Rattle.udfs_index.specs.Copying.{AreAllTold};
 ghost use Rattle.udfs_lattice.specs.Tables.{IsTable, Table, state_of};
 ghost use Rattle.udfs_rescue.specs.Images.{image_bytes};
@@ -15,9 +15,8 @@ ghost use Rattle.udfs_common.proofs.IndexingLemmas.{states_are};
 
 use udfs_common::index_taking::reread_of;
 use udfs_common::refusal::Refusal;
-use udfs_index::{CopyFault, Cursor, END, Index, Stored, Unread};
+use udfs_index::{AnyStored, CopyFault, Cursor, END, Index, Stored, Unread};
 use udfs_lattice::{BlockStore, BlockTable, Fact};
-use udfs_pairs::AnyStored;
 use udfs_reading::{Sink, Taker, WriteFault};
 use udfs_rescue::{RunStatus, Statuses, write_image};
 

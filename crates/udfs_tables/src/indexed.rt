@@ -16,9 +16,8 @@ use udfs_common::index_taking::reread_of;
 use udfs_common::job_putting::put_job;
 use udfs_common::known::Known;
 use udfs_common::refusal::Refusal;
-use udfs_files::Job;
-use udfs_index::{CopyFault, Cursor, END, Index, Stored, Unread};
-use udfs_pairs::AnyStored;
+use udfs_host_fs::Job;
+use udfs_index::{AnyStored, CopyFault, Cursor, END, Index, Stored, Unread};
 use udfs_reading::{Sink, Taker};
 use udfs_words::forms::Version;
 

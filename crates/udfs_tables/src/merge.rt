@@ -19,7 +19,7 @@ use udfs_common::known::Known;
 use udfs_common::putting::put_file;
 use udfs_common::refusal::Refusal;
 use udfs_common::stored_inputs::open_all_stored;
-use udfs_files::Content;
+use udfs_host_fs::Content;
 use udfs_lattice::BlockTable;
 use udfs_reading::{Sink, WriteFault, write_table, write_table_v1};
 use udfs_words::forms::Version;

@@ -2,8 +2,8 @@
 
 ghost use Rattle.std.specs.Prelude.{◌≡◌, ◌≢◌, ◌⊎◌, ◌≤◌, ℕ, List, Some, None, IfErr, OnOk, OnErr};
 ghost use Rattle.std.specs.Io.KnownBytes.{Appends};
-ghost use Rattle.udfs_files.specs.Disk.{Disk, Fails, SinkFails, Goes, Gone, IsOwn, Replaced};
-ghost use Rattle.udfs_files.specs.declared.files.Kind.{Kind};
+ghost use Rattle.udfs_host_fs.specs.Disk.{Disk, Fails, SinkFails, Goes, Gone, IsOwn, Replaced};
+ghost use Rattle.udfs_host_fs.specs.declared.files.Kind.{Kind};
 ghost use Rattle.udfs_tables.specs.Pairing.{AreKept, GoesPair, IsGone, IsUnmade};
 ghost use Rattle.udfs_common.specs.Guarding.{IsApart};
 ghost use Rattle.udfs_common.specs.Keeping.{IsKept};
@@ -15,7 +15,7 @@ use crate::imaged::Imaged;
 use std::alloc::{AllocError, Global};
 use udfs_common::files::Files;
 use udfs_common::refusal::Refusal;
-use udfs_files::{Content, Job, JobError, Kind, ReplaceError, replace, replace_by_job};
+use udfs_host_fs::{Content, Job, JobError, Kind, ReplaceError, replace, replace_by_job};
 use udfs_reading::{DeviceFault, Sink};
 
 /// What an image is written of, up to a last block.

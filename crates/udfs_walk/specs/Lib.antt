@@ -23,3 +23,11 @@ pub mod Gathering
 pub mod GivingUp
 pub mod Memos
 pub mod Counting
+pub mod Trees
+pub mod Needs
+pub mod Lawful
+pub mod Sound
+pub mod Cells
+pub mod TreeLaws
+pub mod KnownLaws
+pub mod TreeSample

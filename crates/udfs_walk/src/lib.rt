@@ -1,6 +1,9 @@
 // SPDX-License-Identifier: MIT OR Apache-2.0
 //! The nodes of a volume of which some blocks are not known: every path with what is known of it, the entries that
 //! no name leads to, and the blocks to read again.
+//!
+//! Laws, which nothing runs, say what the nodes tell of the tree that the standard reads from the volume's complete bytes: each is over one view,
+//! of which a part is known, and its complete one.
 #![tactic(auto)]
 
 pub mod answers;
@@ -11,6 +14,7 @@ mod children;
 pub mod counting;
 mod gaps;
 mod kinds;
+pub mod known_laws;
 pub mod laws;
 mod memos;
 mod node_bodies;
@@ -20,6 +24,7 @@ mod settling;
 pub mod standings;
 mod targets;
 mod told;
+pub mod tree_laws;
 pub mod unnamed_entries;
 mod visits;
 mod walks;

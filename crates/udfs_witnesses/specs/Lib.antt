@@ -1,2 +1,4 @@
 pub mod Witnesses
 pub mod Laws
+pub mod Groups
+pub mod Adding

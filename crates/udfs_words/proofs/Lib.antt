@@ -4,3 +4,8 @@ pub mod GroupLemmas
 pub mod SizeLemmas
 pub mod SlashLemmas
 pub mod LineLemmas
+mod GlobNaming
+mod GlobReaching
+pub mod GlobCounting
+mod GlobFronts
+mod GlobBelow

@@ -1,4 +1,6 @@
 pub mod Asking
+pub mod GlobRows
+pub mod Globs
 pub mod Grammar
 pub mod Obeying
 pub mod Requests

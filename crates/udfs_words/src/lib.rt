@@ -5,6 +5,9 @@
 mod arguments;
 pub mod asking;
 pub mod forms;
+mod glob_names;
+mod glob_rows;
+pub mod globs;
 pub mod group;
 pub mod input_path;
 pub mod last;

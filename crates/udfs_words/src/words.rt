@@ -160,6 +160,9 @@ fn program<'a>(alloc: Global) -> Command<'a>
 {
     Command::new(alloc, "udfsalvage")
         .about("Recovers files from scratched rewritable UDF discs")
+        .after_help(
+            "Example:{n}  udfsalvage merge --out disc.tab --ddrescue p1.img p1.map{n}  udfsalvage summary --size-of p1.map disc.tab{n}  udfsalvage extract --size-of p1.map --to files disc.tab",
+        )
         .version("0.1.0")
         .subcommand_required(true)
 }

@@ -11,7 +11,7 @@ use std::process::ExitCode;
 use std::{env, io};
 use udfs_calls::{Calls, Host};
 use udfs_commands::{refuse_words, run};
-use udfs_files::Machine;
+use udfs_host_fs::Machine;
 use udfs_reading::Writer;
 
 /// How many bytes a path has at most, with the zero byte at its end (`PATH_MAX` of Linux).

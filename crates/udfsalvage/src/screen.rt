@@ -4,7 +4,7 @@ use std::alloc::{AllocError, Global};
 use std::cell::Cell;
 use std::io::{Error, Write};
 use std::time::{Clock, Duration, Instant};
-use udfs_files::{Stage, Watch};
+use udfs_host_fs::{Stage, Watch};
 use udfs_overview::push_size;
 use udfs_reading::{DeviceFault, Sink};
 

@@ -118,22 +118,24 @@ $ list --lost --last 600 disc.tab
 done 1 torn\tdirectory\t40\t40\t2001-07-04T09:30:00Z\t/D\nwhole\tdirectory\t0\t80\t2001-07-04T09:30:00Z\tlost:20/\tin /D\nwhole\tfile\t0\t5000\t2001-07-04T09:30:00Z\tlost:20/A\n
 
 = names_behind_a_hole_are_found
-# The first of two blocks of /D is not read. In the second are A, X and Y, of which each tag has a CRC that covers the descriptor, and N, whose tag's CRC covers nothing.
+# The first of two blocks of /D is not read. In the second are A, X, Y and X once more, of which each tag has a CRC that covers the descriptor, and N, whose tag's CRC
+# covers nothing. What has a name is listed by it alone, or by each of two.
 directory 1 D=10
 directory 10 A=3
 write 282 48 \x01
-write 282 56 \xa0\x08
-write 282 176 \xa0\x08
+write 282 56 \xc8\x08
+write 282 176 \xc8\x08
 write 275 48 \x01
 write 276 48 \x01
 write 284 0 \x01\x01\x02\0\x3e\0\0\0\xf1\x25\x18\0\x0c\0\0\0\x01\0\0\x02\0\x08\0\0\x03\0\0\0\0\0\0\0\0\0\0\0\0\0\x08A
 write 284 40 \x01\x01\x02\0\x6c\0\0\0\x76\xce\x18\0\x0c\0\0\0\x01\0\0\x02\0\x08\0\0\x04\0\0\0\0\0\0\0\0\0\0\0\0\0\x08X
 write 284 80 \x01\x01\x02\0\x5d\0\0\0W\xde\x18\0\x0c\0\0\0\x01\0\0\x02\0\x08\0\0\x04\0\0\0\0\0\0\0\0\0\0\0\0\0\x08Y
 write 284 120 \x01\x01\x02\0\x10\0\0\0\0\0\0\0\x0c\0\0\0\x01\0\0\x02\0\x08\0\0\x03\0\0\0\0\0\0\0\0\0\0\0\0\0\x08N
+write 284 160 \x01\x01\x02\0\x6c\0\0\0\x76\xce\x18\0\x0c\0\0\0\x01\0\0\x02\0\x08\0\0\x04\0\0\0\0\0\0\0\0\0\0\0\0\0\x08X
 
 but 283
 $ list --lost --last 600 disc.tab
-done 1 torn\tdirectory\t2048\t2208\t2001-07-04T09:30:00Z\t/D\nwhole\tfile\t0\t5000\t2001-07-04T09:30:00Z\tlost:3\nwhole\tfile\t0\t2\t2001-07-04T09:30:00Z\tlost:4\nwhole\tfile\t0\t5000\t2001-07-04T09:30:00Z\t/D/A\tlost:3\tfound\nwhole\tfile\t0\t2\t2001-07-04T09:30:00Z\t/D/X\tlost:4\tfound\nwhole\tfile\t0\t2\t2001-07-04T09:30:00Z\t/D/Y\tlost:4\tfound\n
+done 1 torn\tdirectory\t2048\t2248\t2001-07-04T09:30:00Z\t/D\nwhole\tfile\t0\t5000\t2001-07-04T09:30:00Z\t/D/A\tlost:3\tfound\nwhole\tfile\t0\t2\t2001-07-04T09:30:00Z\t/D/X\tlost:4\tfound\nwhole\tfile\t0\t2\t2001-07-04T09:30:00Z\t/D/Y\tlost:4\tfound\n
 
 but 283
 $ list --lost --paths --last 600 disc.tab
@@ -141,16 +143,38 @@ done 1 /D\nlost:3\nlost:4\n
 
 but 283 278
 $ list --lost --torn --json --last 600 disc.tab
-done 1 {"standing":"torn","kind":"directory","lost":2048,"size":2208,"time":"2001-07-04T09:30:00.000000Z","path":"/D"}\n{"standing":"torn","kind":"file","lost":2048,"size":5000,"time":"2001-07-04T09:30:00.000000Z","path":"lost:3"}\n{"standing":"torn","kind":"file","lost":2048,"size":5000,"time":"2001-07-04T09:30:00.000000Z","path":"/D/A","found":"lost:3"}\n
+done 1 {"standing":"torn","kind":"directory","lost":2048,"size":2248,"time":"2001-07-04T09:30:00.000000Z","path":"/D"}\n{"standing":"torn","kind":"file","lost":2048,"size":5000,"time":"2001-07-04T09:30:00.000000Z","path":"/D/A","found":"lost:3"}\n
 
 but 283
 $ list --last 600 disc.tab
-done 1 torn\tdirectory\t2048\t2208\t2001-07-04T09:30:00Z\t/D\n
+done 1 torn\tdirectory\t2048\t2248\t2001-07-04T09:30:00Z\t/D\n
 
 # Where the root is not read, the folder is lost, and names in it are found all the same.
 but 274 283
 $ list --lost --last 600 disc.tab
-done 1 torn\tdirectory\t2048\t2208\t2001-07-04T09:30:00Z\tlost:10/\nwhole\tfile\t0\t5000\t2001-07-04T09:30:00Z\tlost:3\nwhole\tfile\t0\t2\t2001-07-04T09:30:00Z\tlost:4\nwhole\tfile\t0\t5000\t2001-07-04T09:30:00Z\tlost:10/A\tlost:3\tfound\nwhole\tfile\t0\t2\t2001-07-04T09:30:00Z\tlost:10/X\tlost:4\tfound\nwhole\tfile\t0\t2\t2001-07-04T09:30:00Z\tlost:10/Y\tlost:4\tfound\n
+done 1 torn\tdirectory\t2048\t2248\t2001-07-04T09:30:00Z\tlost:10/\nwhole\tfile\t0\t5000\t2001-07-04T09:30:00Z\tlost:10/A\tlost:3\tfound\nwhole\tfile\t0\t2\t2001-07-04T09:30:00Z\tlost:10/X\tlost:4\tfound\nwhole\tfile\t0\t2\t2001-07-04T09:30:00Z\tlost:10/Y\tlost:4\tfound\n
+
+= a_lost_folder_by_a_name_that_is_found
+# In the second block of /D is F twice, the folder at 20. What is in that is listed below its block.
+directory 1 D=10
+directory 10 A=3
+directory 20 C=4
+write 282 48 \x01
+write 282 56 \x50\x08
+write 282 176 \x50\x08
+write 292 48 \x01
+write 275 48 \x01
+write 276 48 \x01
+write 284 0 \x01\x01\x02\0\xc9\0\0\0\x83\x1e\x18\0\x0c\0\0\0\x01\0\0\x02\0\x08\0\0\x14\0\0\0\0\0\0\0\0\0\0\0\0\0\x08F
+write 284 40 \x01\x01\x02\0\xc9\0\0\0\x83\x1e\x18\0\x0c\0\0\0\x01\0\0\x02\0\x08\0\0\x14\0\0\0\0\0\0\0\0\0\0\0\0\0\x08F
+
+but 283
+$ list --lost --last 600 disc.tab
+done 1 torn\tdirectory\t2048\t2128\t2001-07-04T09:30:00Z\t/D\nwhole\tfile\t0\t2\t2001-07-04T09:30:00Z\tlost:20/C\nwhole\tfile\t0\t5000\t2001-07-04T09:30:00Z\tlost:3\nwhole\tdirectory\t0\t40\t2001-07-04T09:30:00Z\t/D/F\tlost:20\tfound\n
+
+but 283
+$ list --lost --paths --last 600 disc.tab
+done 1 /D\nlost:20/\nlost:20/C\nlost:3\n
 
 = what_was_deleted
 directory 1 D=10

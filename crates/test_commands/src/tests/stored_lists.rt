@@ -99,6 +99,37 @@ $ list -v --last 600 disc.tab
 done 1
 remarked the volume does not open: blocks 32 and 48 are needed\n
 
+= a_device_that_fails_in_the_middle_of_a_list_of_what_is_lost
+# The headers are read twice, 56 bytes, and then the anchor: to open the volume, again for the places of its blocks, and again for what is remarked.
+at 256
+
+some 0 4152
+inputs-fail «n»
+$ list --lost --last 600 disc.tab
+refused udfsalvage: input 1: fault 8 Io at record 0\n
+
+inputs-fail 4152
+$ list --lost -v --last 600 disc.tab
+done 1
+remarked no remarks on the volume: an input could not be read again\n
+
+inputs-fail 6200
+$ list --lost -v --last 600 disc.tab
+done 1
+remarked the volume does not open: blocks 32 and 48 are needed\n
+
+= a_device_that_fails_while_a_lost_folder_is_walked
+# The headers of the table, which are read twice, have 488 bytes, and the volume is opened by more than six blocks.
+directory 1 D=10
+directory 10 A=3
+write 282 48 \x01
+write 275 48 \x01
+but 274
+
+inputs-fail 12776
+$ list --lost --last 600 disc.tab
+refused udfsalvage: input 1: fault 8 Io at record 0\n
+
 = a_device_that_fails_in_the_middle_of_a_report
 # The same reads as for a list; and then those for the remark on the guarantee.
 at 256
@@ -132,6 +163,37 @@ inputs-fail «n»
 $ page --last 600 --out p.html disc.tab
 refused udfsalvage: input 1: fault 8 Io at record 0\n
 files 1
+
+= a_device_that_fails_in_the_middle_of_an_extraction
+# The anchor is read to open the volume, and again for what is remarked. Nothing is made of a volume that does not open.
+at 256
+then no-folder out
+then files 1
+
+some 0 2104
+inputs-fail «n»
+$ extract --last 600 --to out disc.tab
+refused udfsalvage: input 1: fault 8 Io at record 0\n
+
+inputs-fail 4152
+$ extract --last 600 --to out disc.tab
+done 1 volume holes 32 48\n
+
+= the_same_files_of_files_and_devices
+# What is in `dev/` is a device: then the blocks are held.
+file dev/none.rd reading
+but
+then done 0 written /A\nwritten /B\n
+then has out/A text «2048*a»«2048*b»«904*c»
+then has out/B text Hi
+
+$ extract --last 600 --to out disc.tab
+
+$ extract --last 600 --to out disc.tab dev/none.rd
+
+$ extract --last 600 --unnamed more --lost lost --to out disc.tab
+
+$ extract --last 600 --unnamed more --lost lost --to out disc.tab dev/none.rd
 
 = the_same_report_of_files_and_devices
 # What is in `dev/` is a device: then the blocks are held.

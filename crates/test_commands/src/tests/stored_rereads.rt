@@ -69,6 +69,19 @@ inputs-fail 2104
 $ reread --last 600 disc.tab
 done 1 32\n48\n
 
+= a_device_that_fails_on_the_way_to_a_path_or_a_mapfile
+# The headers of the table, which are read twice, have 488 bytes, and the volume is opened by more than six blocks.
+but 278
+
+inputs-fail 12776
+$ reread --only /A --last 600 disc.tab
+refused udfsalvage: input 1: fault 8 Io at record 0\n
+
+inputs-fail 12776
+$ reread --mapfile m.map --last 600 disc.tab
+refused udfsalvage: input 1: fault 8 Io at record 0\n
+files 1
+
 = a_file_that_is_no_input
 file x text no reading
 but

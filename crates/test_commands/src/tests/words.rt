@@ -18,6 +18,10 @@ out-has merge
 
 $ -h
 out-begins Recovers files from scratched rewritable UDF discs
+
+$ --help
+out-begins Recovers files from scratched rewritable UDF discs
+out-has \n\nExample:\n  udfsalvage merge --out disc.tab --ddrescue p1.img p1.map\n
 out-has merge
 
 $ help merge

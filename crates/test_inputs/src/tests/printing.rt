@@ -5,8 +5,7 @@ use std::alloc::{AllocError, Global};
 use std::io;
 use std::io::Write;
 use std::test::Fail;
-use udfs_printing::Printer;
-use udfs_reading::{WriteFault, Writer};
+use udfs_reading::{Printer, WriteFault, Writer};
 
 /// Takes bytes until it has taken `good`, takes none in the next call, and takes all after that.
 #[derive(Drop)]

@@ -7,10 +7,10 @@ use std::alloc::Global;
 use std::test::Fail;
 use udfs_reading::{Reader, Writer, join_inputs, write_table, write_table_v1};
 
-/// A reading of `count` blocks in order, from block 0 on, all bytes of each of them the block's number modulo 251.
-fn in_order(alloc: Global, count: u32) -> Result<Vec<u8>, Fail> {
+/// A reading of the blocks from `first` up to `end` in order, all bytes of each of them the block's number modulo 251.
+fn in_order(alloc: Global, first: u32, end: u32) -> Result<Vec<u8>, Fail> {
     let mut records = Vec::new(alloc);
-    for n in 0..count {
+    for n in first..end {
         records.push((n, (n % 251) as u8))?;
     }
     Ok(reading(alloc, records.as_slice())?)
@@ -33,7 +33,8 @@ fn copied(alloc: Global, file: &[u8]) -> Result<(Vec<u8>, u64), Fail> {
 #[test]
 fn blocks_in_order_are_read_at_once(rt: HostRuntime) -> Result<(), Fail> {
     let alloc = rt.alloc();
-    let file = in_order(alloc, 41)?;
+    // 31 blocks, of which the first 12 are in one packet, the others in the next.
+    let file = in_order(alloc, 20, 51)?;
     let Ok(table) = join_inputs(alloc, &mut [Reader::new(file.as_slice())]) else {
         assert!(rt; false);
         return Ok(());
@@ -55,50 +56,50 @@ fn blocks_in_order_are_read_at_once(rt: HostRuntime) -> Result<(), Fail> {
 }
 
 #[test]
-fn three_hundred_blocks_are_read_by_three_reads(rt: HostRuntime) -> Result<(), Fail> {
+fn three_hundred_blocks_are_read_by_ten_reads(rt: HostRuntime) -> Result<(), Fail> {
     let alloc = rt.alloc();
-    let file = in_order(alloc, 300)?;
+    let file = in_order(alloc, 0, 300)?;
     let Ok(table) = join_inputs(alloc, &mut [Reader::new(file.as_slice())]) else {
         assert!(rt; false);
         return Ok(());
     };
     let mut out = Writer::new(Vec::new(alloc));
     assert!(rt; write_table(&table, &mut out).is_ok());
-    // 127 records have 260,604 bytes, and one more would be above 262,144.
+    // From the first block of 31 records to the end of the last are 63,608 bytes; with one more it would be above 65,536.
     let (written, reads) = copied(alloc, file.as_slice())?;
     assert!(rt; written == out.into_inner());
-    assert_same(&rt, reads, 3);
+    assert_same(&rt, reads, 10);
     Ok(())
 }
 
 #[test]
 fn a_device_that_fails_between_two_reads_is_named(rt: HostRuntime) -> Result<(), Fail> {
     let alloc = rt.alloc();
-    let file = in_order(alloc, 300)?;
+    let file = in_order(alloc, 0, 300)?;
     let other = reading(alloc, &[(400, 0x61)])?;
     let stored = Shaky::new(file.as_slice());
     let last = Shaky::new(other.as_slice());
     let (index, error) = index_of(alloc, &stored, &last)?;
     assert!(rt; error.is_none());
     let mut out = Writer::new(Vec::new(alloc));
-    // The third read begins with the block of record 254, counted from 0.
+    // The third read begins with the block of record 62, counted from 0.
     stored.reads.set(2);
     assert_same(
         &rt,
         index.write_table(&mut out),
-        unread(0, 16 + 2052 * 254 + 4),
+        unread(0, 16 + 2052 * 62 + 4),
     );
     stored.reads.set(2);
     assert_same(
         &rt,
         index.write_table_v1(&mut out),
-        unread(0, 16 + 2052 * 254 + 4),
+        unread(0, 16 + 2052 * 62 + 4),
     );
-    stored.reads.set(3);
+    stored.reads.set(10);
     last.reads.set(0);
     assert_same(&rt, index.write_table(&mut out), unread(1, 20));
-    // In both versions the first input is read by three reads, and the other one by one.
-    stored.reads.set(3);
+    // In both versions the first input is read by ten reads, and the other one by one.
+    stored.reads.set(10);
     last.reads.set(1);
     assert_same(&rt, index.write_table_v1(&mut out), Ok(()));
     Ok(())

@@ -4,7 +4,7 @@ use crate::tests::assert_text;
 use std::alloc::Global;
 use std::test::Fail;
 use udfs_lattice::BlockTable;
-use udfs_overview::{ListForm, write_list};
+use udfs_overview::{ListForm, write_list_by};
 use udfs_reading::Writer;
 use udfs_salvage::survey_volume;
 use udfs_samples::{Disc, LAST};
@@ -21,7 +21,7 @@ pub(super) const ALL: ListForm = ListForm {
 fn listed(alloc: Global, table: &BlockTable, form: ListForm) -> Result<String, Fail> {
     let survey = survey_volume(alloc, table, LAST)?;
     let mut text = Writer::new(Vec::new(alloc));
-    write_list(alloc, &survey, form, &mut text)?;
+    write_list_by(alloc, &survey, form, &mut text)?;
     Ok(String::from_utf8(text.into_inner())?)
 }
 

@@ -6,9 +6,9 @@ use std::io;
 use std::io::Write;
 use std::test::Fail;
 use udfs_overview::Given;
-use udfs_page::{Called, write_page};
+use udfs_page::{Called, write_page_by};
 use udfs_reading::Writer;
-use udfs_salvage::{RunError, survey_volume};
+use udfs_salvage::{PrintError, RunError, survey_volume};
 use udfs_samples::{Disc, LAST};
 
 /// The arguments of `page --last 600 --out p.html disc.tab`.
@@ -58,13 +58,13 @@ fn a_sink_that_fails_is_told(rt: HostRuntime) -> Result<(), Fail> {
     let survey = survey_volume(alloc, &table, LAST)?;
     let answer = judged(alloc, &survey)?;
     let mut text = Writer::new(Vec::new(alloc));
-    write_page(alloc, &GIVEN, &CALLED, &survey, &answer, &mut text)?;
+    write_page_by(alloc, &GIVEN, &CALLED, &survey, &answer, &mut text)?;
     let whole = text.into_inner();
     for good in [0usize, 1, 50_000, whole.len().saturating_sub(1)] {
         let bytes = Vec::new(alloc);
         let mut sink = Writer::new(Narrow { bytes, good });
-        let outcome = write_page(alloc, &GIVEN, &CALLED, &survey, &answer, &mut sink);
-        assert_case(&rt, outcome == Err(RunError::Write), good);
+        let outcome = write_page_by(alloc, &GIVEN, &CALLED, &survey, &answer, &mut sink);
+        assert_case(&rt, outcome == Err(PrintError::Run(RunError::Write)), good);
         let begun = whole.as_slice().get(..good).unwrap_or(&[]);
         assert_same_in(&rt, sink.into_inner().bytes.as_slice(), begun, good);
     }

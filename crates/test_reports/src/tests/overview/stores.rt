@@ -10,10 +10,10 @@ use std::test::Fail;
 use udfs_lattice::{BlockStore, BlockTable, Fact, ReadFault};
 use udfs_lawfulness::lawfulness;
 use udfs_overview::{
-    Given, Verdict, tally_lost, write_list_by, write_listing_by, write_summary, write_summary_by,
-    write_summary_json, write_summary_json_by,
+    Given, Verdict, tally_lost, write_list_by, write_listing_by, write_summary_by,
+    write_summary_json_by,
 };
-use udfs_page::{Called, write_page, write_page_by};
+use udfs_page::{Called, write_page_by};
 use udfs_reading::{Sink, Writer};
 use udfs_salvage::{
     Listing, PrintError, ReportStore, Survey, list_volume_by, survey_volume, write_json,
@@ -253,9 +253,9 @@ fn told(alloc: Global, table: &BlockTable, shown: Shown) -> Result<String, Fail>
     match shown {
         Shown::Report => write_survey(alloc, &survey, &mut text)?,
         Shown::ReportJson => write_json(alloc, &survey, &mut text)?,
-        Shown::Summary => write_summary(alloc, &GIVEN, &survey, &answer, &mut text)?,
-        Shown::SummaryJson => write_summary_json(alloc, &survey, &answer, &mut text)?,
-        Shown::Page => write_page(alloc, &GIVEN, &CALLED, &survey, &answer, &mut text)?,
+        Shown::Summary => write_summary_by(alloc, &GIVEN, &survey, &answer, &mut text)?,
+        Shown::SummaryJson => write_summary_json_by(alloc, &survey, &answer, &mut text)?,
+        Shown::Page => write_page_by(alloc, &GIVEN, &CALLED, &survey, &answer, &mut text)?,
     }
     Ok(String::from_utf8(text.into_inner())?)
 }

@@ -2,8 +2,8 @@
 
 use crate::tests::assert_same;
 use jiff_tz::TimeZone;
+use udfs_host_fs::{Times, Zone, moment_in};
 use udfs_osta::Stamp;
-use udfs_times::{Times, Zone, moment_in};
 
 /// `date -u -d 2004-07-01T12:30:45 +%s` is 1088685045.
 #[test]

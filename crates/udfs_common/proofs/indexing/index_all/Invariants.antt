@@ -1,7 +1,7 @@
 -- Where nothing was taken before, the inputs before this place were taken.
 use Rattle.std.proofs.Common.{take}
 use Rattle.udfs_lattice.specs.Tables.{empty_table}
-use Rattle.udfs_pairs.specs.AnyStored.{stored_in}
+use Rattle.udfs_index.specs.AnyStored.{stored_in}
 use Rattle.udfs_common.specs.Indexing.{Indexed}
 use Rattle.udfs_common.proofs.indexing.index_all.Given as goal
 

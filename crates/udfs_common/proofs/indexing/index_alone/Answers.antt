@@ -1,6 +1,6 @@
 use Rattle.std.proofs.Common.{◌∙◌}
 use Rattle.std.proofs.lemmas.Option.{get_or_from_slice_get}
-use Rattle.udfs_pairs.specs.AnyStored.{stored_in}
+use Rattle.udfs_index.specs.AnyStored.{stored_in}
 use Rattle.udfs_common.proofs.IndexingLemmas.{at_place, fails_at, taken_at}
 use Rattle.udfs_common.proofs.StoredLemmas.{stored_blamed}
 use Rattle.udfs_common.proofs.indexing.index_alone.Goals as goal

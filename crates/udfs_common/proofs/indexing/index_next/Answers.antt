@@ -2,7 +2,7 @@ use Rattle.std.proofs.Common.{◌≡◌, ◌∙◌, false, inl, inr, rules, sym,
 use Rattle.std.proofs.lemmas.Bool.{true≢false}
 use Rattle.udfs_lattice.specs.Records.{join_all}
 use Rattle.udfs_lattice.specs.Tables.{join_tables}
-use Rattle.udfs_pairs.specs.AnyStored.{stored_in}
+use Rattle.udfs_index.specs.AnyStored.{stored_in}
 use Rattle.udfs_common.proofs.TakingLemmas.{compared_is}
 use Rattle.udfs_common.specs.OtherDiscs.{IsOneDisc}
 use Rattle.udfs_common.proofs.IndexingLemmas.{at_place, few_one, indexed_more, judged_one, other_judged}

@@ -1,7 +1,7 @@
 use Rattle.std.proofs.Common.{◌≡◌, ◌⊎◌, ℕ, List, [], Some, inl, inr, rules, subst}
-use Rattle.udfs_files.specs.Disk.{After, Fails, IsOwn, Replaced, SinkFails}
-use Rattle.udfs_files.specs.Jobs.{JobBlames}
-use Rattle.udfs_files.specs.declared.replacing.JobError.{JobError}
+use Rattle.udfs_host_fs.specs.Disk.{After, Fails, IsOwn, Replaced, SinkFails}
+use Rattle.udfs_host_fs.specs.Jobs.{JobBlames}
+use Rattle.udfs_host_fs.specs.declared.replacing.JobError.{JobError}
 use Rattle.udfs_common.specs.Keeping.{IsKept}
 use Rattle.udfs_common.proofs.JobLemmas.{else_at, held_only, inside_as, kept_only, outside_as, put_each}
 use Rattle.udfs_common.proofs.job_putting.put_job.Goals as goal

@@ -1,5 +1,5 @@
 use Rattle.std.proofs.Common.{◌≡◌, ◌+◌, ◌∙◌, arith, ap, ap₂, sym, ℕ}
-use Rattle.udfs_compare.specs.Comparing.{are_known, are_other}
+use Rattle.udfs_index.specs.Comparing.{are_known, are_other}
 use Rattle.udfs_lattice.specs.Tables.{state_of}
 use Rattle.udfs_common.proofs.CountingLemmas.{counted_all, counted_none, known_next, other_next}
 use Rattle.udfs_common.proofs.judging.compare_stores.Goals as goal

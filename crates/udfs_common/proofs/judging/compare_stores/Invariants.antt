@@ -1,6 +1,6 @@
 -- The blocks before this one were compared.
 use Rattle.std.proofs.Common.{◌≡◌, ◌≤◌, ℕ}
-use Rattle.udfs_compare.specs.Comparing.{are_known, are_other}
+use Rattle.udfs_index.specs.Comparing.{are_known, are_other}
 use Rattle.udfs_lattice.specs.Tables.{Table, state_of}
 use Rattle.udfs_common.proofs.CountingLemmas.{counted}
 use Rattle.udfs_common.proofs.judging.compare_stores.Given as goal

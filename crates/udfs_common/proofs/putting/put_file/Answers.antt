@@ -1,6 +1,6 @@
 use Rattle.std.proofs.Common.{inl, inr, refl, rules}
 use Rattle.std.proofs.lemmas.Result.{on_err_weaker}
-use Rattle.udfs_files.specs.Disk.{After, Replaced}
+use Rattle.udfs_host_fs.specs.Disk.{After, Replaced}
 use Rattle.udfs_common.proofs.putting.put_file.Goals as goal
 
 pub returns-in-Err-NotKept-clause-left : goal.returns-in-Err-NotKept-clause-left

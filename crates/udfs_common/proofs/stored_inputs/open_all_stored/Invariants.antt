@@ -1,6 +1,6 @@
 -- Each path so far has its input.
 use Rattle.std.proofs.Common.{◌≡◌, vec_len}
-use Rattle.udfs_pairs.specs.AnyStored.{stored_in}
+use Rattle.udfs_index.specs.AnyStored.{stored_in}
 use Rattle.udfs_common.specs.Blaming.{AreJudgedFor, stored_reason}
 use Rattle.udfs_common.specs.Keeping.{Opens}
 use Rattle.udfs_common.proofs.stored_inputs.open_all_stored.Given as goal

@@ -1,8 +1,8 @@
 -- The names so far were added.
-use Rattle.udfs_space.specs.Views.{view_now}
+use Rattle.udfs_space.specs.Views.{view_by}
 use Rattle.udfs_extraction.specs.Adding.{Adds}
 use Rattle.udfs_extraction.specs.Seats.{IsFoundAmong}
 use Rattle.udfs_extraction.proofs.found_places.add_nodes.Given as goal
 
 abbrev pub invariant-loop-folder : goal.invariant-loop-folder
-invariant-loop-folder l = Adds (IsFoundAmong (view_now l.view) l.lost l.tree l.nodes) l.initial.places l.places
+invariant-loop-folder g l = g.B.BlockStore.tells → Adds (IsFoundAmong (view_by g.B.BlockStore.states l.view) l.lost l.tree l.nodes) l.initial.places l.places

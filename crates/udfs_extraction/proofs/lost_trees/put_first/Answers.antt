@@ -1,10 +1,9 @@
 use Rattle.std.proofs.Common.{◌≡◌, ◌⊎◌, ◌∙◌, ◌++◌, ◌∷◌, [], inl, List, ℕ, Option, rules, subst, sym, ap, string_bytes, codes, refl, Some, true, false}
 use Rattle.udfs_common.specs.Keeping.{IsKept}
-use Rattle.udfs_files.specs.Disk.{Fails, SinkFails}
+use Rattle.udfs_host_fs.specs.Disk.{Fails, SinkFails}
 use Rattle.udfs_walk.specs.NodeFields.{NodeFields}
-use Rattle.udfs_lattice.specs.Tables.{state_of}
 use Rattle.udfs_salvage.specs.Found.{volume_now}
-use Rattle.udfs_salvage.specs.Listings.{full_in, listing_now}
+use Rattle.udfs_salvage.specs.Listings.{full_in, listing_by}
 use Rattle.udfs_salvage.specs.declared.extraction.Fill.TheVariants.{Refuse}
 use Rattle.udfs_extraction.specs.Extracting.{IsIn, TellsLines, fate_line, path_below}
 use Rattle.udfs_extraction.specs.ShortNames.{own_name, placed}
@@ -49,18 +48,19 @@ returns-clause-spares g c =
     named_spares g.F.Files c.args.folder.now c.as_str-path.result.now _ _ _ c.in_ok-done.done.fate is_in step.stays step.others (λ told. step.crash told c.args.folder.now is_in) c.in_ok-done.ensures.fresh named.unwritten named.others named.crash
 
 pub returns-clause-put : goal.returns-clause-put
-returns-clause-put g c n at =
+returns-clause-put g c known n at =
     let F = g.F.Files in
     let S = g.O.Sink in
     let out = g.F.Output.Sink.stream in
     let l = c.args.listing.now in
-    let report = listing_now l in
+    let M = g.B.BlockStore.states l.table.now in
+    let report = listing_by g.B.BlockStore.states l in
     let target = c.in_ok-target.ensures in
     let text : c.as_str-place.result.now ≡ string_bytes c.in_ok-target.target.text = search rules in
     let is : c.as_str-path.result.now ≡ c.args.folder.now ++ c.as_str-place.result.now = search rules in
     let here : c.as_str-path.result.now ≡ path_below c.args.folder.now (placed c.args.short report 0 n) = is ∙ ap (λ t. c.args.folder.now ++ t) (text ∙ target.text n at) in
     let m = c.node_at-node.result.now in
-    let same : full_in (state_of l.table.now) (volume_now l.volume) m ≡ n = let e = sym c.node_at-node.ensures ∙ at in cc in
+    let same : full_in M (volume_now l.volume) m ≡ n = let e = sym c.node_at-node.ensures ∙ at in cc in
     let seen : c.node.inside.path ≡ m.path = search rules in
     let path : c.node.inside.path ≡ n.path = seen ∙ ap (λ (x : NodeFields). x.path) same in
     let own : c.in_ok-target.target.own ≡ own_name c.args.short report n = target.own n at in
@@ -68,9 +68,9 @@ returns-clause-put g c n at =
     let fate = c.name_file-fate.result in
     let named = c.name_file-fate.ensures in
     let after = c.name_file-fate.new.files in
-    let held = c.in_ok-done.ensures.put n c.args.short c.args.folder.now at here in
+    let held = c.in_ok-done.ensures.put known n c.args.short c.args.folder.now at here in
     let end = named.end in
-    let put = end_done (codes "/" ∷ []) F.tells (Fails F.faults ⊎ SinkFails out) l.table.now report Refuse c.args.short c.args.folder.now _ _ 0 n end.0 before fate end.1 (λ not. inl (end.2 not))
+    let put = end_done (codes "/" ∷ []) F.tells (Fails F.faults ⊎ SinkFails out) M report Refuse c.args.short c.args.folder.now _ _ 0 n end.0 before fate end.1 (λ not. inl (end.2 not))
     (λ is_named written told bytes there.
     safe F.moment F.may_leave F.left_since after (F.holds after) _ bytes (g.met.F.Files.only_now after)
     (subst (λ p. IsKept (F.holds after) (F.may_leave after) p bytes) here (named.kept (end.1.same is_named ∙ written) told bytes (subst (λ p. F.holds c.put_node.new.files p ≡ Some (Some bytes)) (sym here) there))))

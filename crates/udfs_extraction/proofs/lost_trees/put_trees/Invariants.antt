@@ -13,8 +13,8 @@ invariant-loop-tree g l =
     let S = g.O.Sink in
     record {
       same : (l.current.volume ≡ l.fn.listing.volume) × (l.current.table ≡ l.fn.listing.table);
-      put : (all : List TreePut) × EachTree (IsAllOf (IsTreePut F g.F.Output.Sink.stream l.files l.fn.listing.table.now (volume_now l.fn.listing.volume) l.short l.folder l.names)) l.fn.trees.items all ×
-          TellsLines true (S.stream l.initial.out) (S.stream l.out) (trees_lines (tree_lines l.fn.listing.table.now (volume_now l.fn.listing.volume) l.short) l.fn.trees.items all) ×
+      put : g.B.BlockStore.tells → (all : List TreePut) × EachTree (IsAllOf (IsTreePut F g.F.Output.Sink.stream l.files (g.B.BlockStore.states l.fn.listing.table.now) (volume_now l.fn.listing.volume) l.short l.folder l.names)) l.fn.trees.items all ×
+          TellsLines true (S.stream l.initial.out) (S.stream l.out) (trees_lines (tree_lines (g.B.BlockStore.states l.fn.listing.table.now) (volume_now l.fn.listing.volume) l.short) l.fn.trees.items all) ×
           (length all + l.tree-iterator.rest.len ≡ length l.fn.trees.items) × (l.tree-iterator.rest.items ≡ drop (length all) l.fn.trees.items) × (l.good ≡ list_all is_put_well all);
       spares : SparesLost F l.folder l.initial.files l.files;
     }

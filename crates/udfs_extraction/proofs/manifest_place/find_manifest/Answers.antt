@@ -1,5 +1,5 @@
 use Rattle.std.proofs.Common.{◌≡◌, ◌∙◌, Err, List, None, Some, ap, rules, string_bytes, subst, sym, ℕ, ◌++◌, codes, inl, inr, ⊎_elim}
-use Rattle.udfs_files.specs.Identities.{IsFileOf}
+use Rattle.udfs_host_fs.specs.Identities.{IsFileOf}
 use Rattle.udfs_common.specs.declared.refusal.Refusal.TheVariants.{Spared}
 use Rattle.udfs_extraction.specs.BarePaths.{bare}
 use Rattle.udfs_extraction.specs.Manifests.{IsBeside, IsNear}

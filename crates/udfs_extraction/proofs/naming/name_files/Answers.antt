@@ -1,6 +1,6 @@
 use Rattle.std.proofs.Common.{◌≡◌, ◌<◌, ◌≤◌, ◌∙◌, length, Some, ap, arith, refl, rules, slice_get, string_bytes, subst, sym, ⊎_elim}
 use Rattle.std.proofs.lemmas.Bool.{cases_lt}
-use Rattle.udfs_files.specs.Disk.{folder_of}
+use Rattle.udfs_host_fs.specs.Disk.{folder_of}
 use Rattle.udfs_extraction.specs.declared.naming.Put.{Put}
 use Rattle.udfs_extraction.specs.declared.nodes.Fate.TheVariants.{Written}
 use Rattle.udfs_extraction.proofs.PutNodes.{goes_on}

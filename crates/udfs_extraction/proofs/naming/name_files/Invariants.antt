@@ -1,7 +1,7 @@
 -- The names of all files so far are on the disk, and so are those in the folder of the last one.
 use Rattle.std.proofs.Common.{◌≡◌, ◌<◌, ℕ, List, Some, slice_get, string_bytes}
 use Rattle.std.specs.Prelude.{MatchOption, ⊤}
-use Rattle.udfs_files.specs.Disk.{Disk, Goes, Same}
+use Rattle.udfs_host_fs.specs.Disk.{Disk, Goes, Same}
 use Rattle.udfs_extraction.specs.Runs.{IsNamed}
 use Rattle.udfs_extraction.specs.declared.naming.Put.{Put}
 use Rattle.udfs_extraction.specs.declared.nodes.Fate.TheVariants.{Written}

@@ -1,5 +1,5 @@
 use Rattle.std.proofs.Common.{◌≡◌, ◌∙◌, refl, rules, sym, true, false}
-use Rattle.udfs_files.specs.Disk.{Fails}
+use Rattle.udfs_host_fs.specs.Disk.{Fails}
 use Rattle.udfs_extraction.specs.declared.nodes.Fate.TheVariants.{Written}
 use Rattle.udfs_extraction.proofs.node_files.name_file.Goals as goal
 

@@ -1,7 +1,7 @@
 use Rattle.std.proofs.Common.{subst, sym}
-use Rattle.udfs_salvage.specs.Listings.{listing_now}
+use Rattle.udfs_salvage.specs.Listings.{listing_by}
 use Rattle.udfs_extraction.specs.ShortNames.{IsWay}
 use Rattle.udfs_extraction.proofs.places.place_of.Goals as goal
 
 pub returns-clause-text : goal.returns-clause-text
-returns-clause-text c n k at next way = c.in_ok-text.ensures.text n at (subst (IsWay (listing_now c.args.listing.now).nodes c.args.index) (sym c.as_slice.ensures.value) (c.in_ok-enter.ensures k next way))
+returns-clause-text g c n k at next way = c.in_ok-text.ensures.text n at (subst (IsWay (listing_by g.B.BlockStore.states c.args.listing.now).nodes c.args.index) (sym c.as_slice.ensures.value) (c.in_ok-enter.ensures k next way))

@@ -2,19 +2,19 @@ use Rattle.std.proofs.Common.{◌≡◌, ◌∙◌, ◌++◌, ◌∷◌, [], ap,
 use Rattle.std.specs.String.{string_bytes}
 use Rattle.std.specs.Prelude.{unwrap_or}
 use Rattle.udfs_salvage.specs.NodeTexts.{name_text, names_text}
-use Rattle.udfs_salvage.specs.Listings.{listing_now}
+use Rattle.udfs_salvage.specs.Listings.{listing_by}
 use Rattle.udfs_extraction.specs.ShortNames.{icb_above, parts, shortened}
 use Rattle.udfs_extraction.proofs.PlaceLemmas.{names_more, parts_next, some_name}
 use Rattle.udfs_extraction.proofs.places.push_parts.Goals as goal
 use Rattle.udfs_extraction.proofs.places.push_parts.Goals.{in-Some+in_ok-push_part, in_default}
 
 pub loop-depth-preserved : goal.loop-depth-preserved
-loop-depth-preserved c =
+loop-depth-preserved g c =
     let inv = c.loop-depth.invariant in
     let two = c.has_two_partitions-two.result in
     let path = c.behind-listing.inside.path in
     let i = c.loop-depth.depth in
-    let nodes = (listing_now c.args.listing.now).nodes in
+    let nodes = (listing_by g.B.BlockStore.states c.args.listing.now).nodes in
     let old = string_bytes c.args.text.now in
     elim c.match-get.branch [
       | in-Some+in_ok-push_part w ↦

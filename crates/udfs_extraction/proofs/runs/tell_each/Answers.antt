@@ -1,9 +1,8 @@
 use Rattle.std.proofs.Common.{◌≡◌, ◌≢◌, ◌∙◌, ◌+◌, ◌<◌, ◌++◌, ◌∷◌, ℕ, [], Bor, List, Option, Some, ap, append_assoc, arith, drop, false, length, length-append, map, refl, rules, slice_get, string_bytes, subst, sym, if◌then◌else◌}
 use Rattle.std.proofs.lemmas.List.{append-nil, length-map}
-use Rattle.udfs_lattice.specs.Tables.{state_of}
 use Rattle.udfs_walk.specs.NodeFields.{NodeFields}
 use Rattle.udfs_salvage.specs.Found.{volume_now}
-use Rattle.udfs_salvage.specs.Listings.{full_in, listing_now}
+use Rattle.udfs_salvage.specs.Listings.{full_in, listing_by}
 use Rattle.udfs_extraction.specs.Extracting.{IsDone, IsPutAt, TellsOn, fate_line, fate_lines, is_good, node_line}
 use Rattle.udfs_extraction.specs.Manifests.{IsLine, IsNoted, notes_of, notes_text}
 use Rattle.udfs_extraction.specs.ShortNames.{placed}
@@ -33,13 +32,13 @@ loop-k-preserved g c =
     let k = c.loop-k.k in
     let first = c.args.first in
     let l = c.args.listing.now in
-    let report = listing_now l in
+    let report = listing_by g.B.BlockStore.states l in
     let nodes = report.nodes in
     let only = map (λ (word : Bor (List ℕ)). word.now) c.args.only.now in
     let puts = c.args.puts.now in
     let put = c.put_at-put.result.now in
     let there : slice_get puts k ≡ Some put = c.put_at-put.ensures in
-    let many : length nodes ≡ length l.nodes.items = length-map l.nodes.items (full_in (state_of l.table.now) (volume_now l.volume)) in
+    let many : length nodes ≡ length l.nodes.items = length-map l.nodes.items (full_in (g.B.BlockStore.states l.table.now) (volume_now l.volume)) in
     let less : k < length puts = search rules in
     let node = get_there nodes (first + k) (omega (arith, less, many, c.requires.few)) in
     let n = node.0 in
@@ -50,13 +49,13 @@ loop-k-preserved g c =
     record {
       told = λ fill short digest held.
           let lined = node_line c.args.word.now short report in
-          let P : ℕ → NodeFields → Fate → Type 0 = λ j m f. IsDone only (IsPutAt F out files l.table.now report fill short c.args.folder.now) j m f × (c.args.named ≡ false → f ≢ Written) in
+          let P : ℕ → NodeFields → Fate → Type 0 = λ j m f. IsDone only (IsPutAt F out files (g.B.BlockStore.states l.table.now) report fill short c.args.folder.now) j m f × (c.args.named ≡ false → f ≢ Written) in
           let before = inv.told fill short digest held in
           let fates = before.0 in
           let h = held k n put there node.1 in
           let here : first + k ≡ length fates + first = (let count = before.2 in omega (arith, count)) in
           let at : slice_get (drop first nodes) (length fates) ≡ Some n = drop_at nodes first (length fates) ∙ subst (λ j. slice_get nodes (first + j) ≡ Some n) (sym before.2) node.1 in
-          let one = told_of F out only l.table.now report fill short c.args.folder.now digest files (first + k) n put c.args.named fate (g.met.F.Files.only_now files) c.requires.cause
+          let one = told_of F out only (g.B.BlockStore.states l.table.now) report fill short c.args.folder.now digest files (first + k) n put c.args.named fate (g.met.F.Files.only_now files) c.requires.cause
           (λ is told written bytes holds. c.requires.kept is told k put bytes there written holds) h end in
           let line = notes_text short report (notes_of fate put.done.digest (first + k)) in (
             fates ++ fate ∷ [],
@@ -85,7 +84,7 @@ loop-k-preserved g c =
 pub returns-in_err-tell_put-clause-put : goal.returns-in_err-tell_put-clause-put
 returns-in_err-tell_put-clause-put g c fill short digest held =
     let S = g.O.Sink in
-    let report = listing_now c.args.listing.now in
+    let report = listing_by g.B.BlockStore.states c.args.listing.now in
     let before = c.loop-k.invariant.told fill short digest held in
     let untold = c.in_err-tell_put.ensures.untold in
     let text = fate_lines (node_line c.args.word.now short report) (drop c.args.first report.nodes) before.0 in (

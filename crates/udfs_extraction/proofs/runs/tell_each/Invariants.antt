@@ -1,7 +1,7 @@
 -- What was held of each node of the run so far is told, as the files were before any was removed.
 use Rattle.std.proofs.Common.{◌≡◌, ◌≢◌, ◌++◌, ℕ, Bool, Bor, List, true, false, drop, length, map, if◌then◌else◌}
-use Rattle.udfs_files.specs.Disk.{Goes}
-use Rattle.udfs_salvage.specs.Listings.{listing_now}
+use Rattle.udfs_host_fs.specs.Disk.{Goes}
+use Rattle.udfs_salvage.specs.Listings.{listing_by}
 use Rattle.udfs_salvage.specs.declared.extraction.Fill.{Fill}
 use Rattle.udfs_extraction.specs.Extracting.{IsDone, IsPutAt, all_good, node_line}
 use Rattle.udfs_extraction.specs.Manifests.{AreLines, notes_text}
@@ -17,10 +17,10 @@ invariant-loop-k g l =
     let S = g.O.Sink in
     let out = g.F.Output.Sink.stream in
     let only = map (λ (word : Bor (List ℕ)). word.now) l.only in
-    let report = listing_now l.listing in
+    let report = listing_by g.B.BlockStore.states l.listing in
     record {
-      told : (fill : Fill) (short digest : Bool) → AreHeld F out l.initial.files only l.listing.table.now report fill short digest l.folder l.first l.puts →
-          (fates : List Fate) × RunsOn (node_line l.word short report) (λ k n fate. IsDone only (IsPutAt F out l.initial.files l.listing.table.now report fill short l.folder) k n fate × (l.named ≡ false → fate ≢ Written))
+      told : (fill : Fill) (short digest : Bool) → AreHeld F out l.initial.files only (g.B.BlockStore.states l.listing.table.now) report fill short digest l.folder l.first l.puts →
+          (fates : List Fate) × RunsOn (node_line l.word short report) (λ k n fate. IsDone only (IsPutAt F out l.initial.files (g.B.BlockStore.states l.listing.table.now) report fill short l.folder) k n fate × (l.named ≡ false → fate ≢ Written))
           l.first report.nodes l.initial.told.heard l.told.heard (S.stream l.initial.out) (S.stream l.out) fates ×
           (length fates ≡ l.k) × (l.told.good ≡ (if all_good fates then l.initial.told.good else false)) ×
           (digest ≡ true → F.tells → (text : List ℕ) × AreLines (placed short report) (F.holds l.initial.files) l.folder l.first (drop l.first report.nodes) fates text ×

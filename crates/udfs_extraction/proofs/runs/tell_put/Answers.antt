@@ -1,6 +1,5 @@
 use Rattle.std.proofs.Common.{◌≡◌, ◌∙◌, List, ℕ, ap, rules, subst, sym}
 use Rattle.udfs_walk.specs.NodeFields.{NodeFields}
-use Rattle.udfs_lattice.specs.Tables.{state_of}
 use Rattle.udfs_salvage.specs.Found.{volume_now}
 use Rattle.udfs_salvage.specs.Listings.{full_in}
 use Rattle.udfs_extraction.specs.Extracting.{TellsOn, fate_line}
@@ -17,7 +16,7 @@ returns-clause-told g c =
       fate,
       c.end_of-fate.ensures.end,
       λ n at.
-          let same : full_in (state_of l.table.now) (volume_now l.volume) m ≡ n = let e = sym c.node_at-node.ensures ∙ at in cc in
+          let same : full_in (g.B.BlockStore.states l.table.now) (volume_now l.volume) m ≡ n = let e = sym c.node_at-node.ensures ∙ at in cc in
           subst (λ (p : List (List ℕ)). TellsOn c.args.told.now.heard c.in_ok-heard.heard (S.stream c.args.out.now) (S.stream c.tell.new.out) (fate_line c.args.word.now fate p c.args.put.now.place.own)) (seen ∙ ap (λ (x : NodeFields). x.path) same) c.in_ok-heard.ensures.lines,
       c.still_good-told.ensures,
       c.in_ok-note.ensures,

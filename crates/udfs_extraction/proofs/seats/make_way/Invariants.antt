@@ -1,6 +1,6 @@
 -- Nothing changes but that there are folders.
 use Rattle.std.proofs.Common.{◌≡◌, List, ℕ}
-use Rattle.udfs_files.specs.Disk.{Goes, Same}
+use Rattle.udfs_host_fs.specs.Disk.{Goes, Same}
 use Rattle.udfs_extraction.proofs.seats.make_way.Given as goal
 
 abbrev pub invariant-loop-part : goal.invariant-loop-part

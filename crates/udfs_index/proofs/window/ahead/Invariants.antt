@@ -7,6 +7,6 @@ abbrev pub invariant-loop-next : goal.invariant-loop-next
 invariant-loop-next l =
     record {
       some : 2048 ≤ l.span;
-      fits : l.span ≤ 262144;
+      fits : l.span ≤ 65536;
       held : (wholes : List (List ℕ)) → AreWhole wholes l.packets → AreHeld wholes l.place l.span;
     }

@@ -2,7 +2,7 @@ use Rattle.std.proofs.Common.{map, take}
 use Rattle.std.specs.Prelude.{flat_map}
 use Rattle.std.specs.String.{string_bytes}
 use Rattle.udfs_reading.specs.Writing.{Passed}
-use Rattle.udfs_space.specs.Views.{view_now}
+use Rattle.udfs_space.specs.Views.{view_by}
 use Rattle.udfs_lost.specs.FoundNames.{full_found}
 use Rattle.udfs_overview.specs.FoundLists.{found_line}
 use Rattle.udfs_overview.proofs.found_list.put_names.Given as goal
@@ -11,5 +11,5 @@ use Rattle.udfs_overview.proofs.found_list.put_names.Given as goal
 abbrev pub invariant-loop-name : goal.invariant-loop-name
 invariant-loop-name g l =
     let W = g.W.Sink in
-    Passed (W.stream l.fn.sink) (W.stream l.sink) (string_bytes l.fn.text) (string_bytes l.text)
-    (flat_map (found_line l.form (view_now l.view) l.two l.word l.folder) (take l.name-index (map (full_found (view_now l.view)) l.names)))
+    g.B.BlockStore.tells → Passed (W.stream l.fn.sink) (W.stream l.sink) (string_bytes l.fn.text) (string_bytes l.text)
+    (flat_map (found_line l.form (view_by g.B.BlockStore.states l.view) l.two l.word l.folder) (take l.name-index (map (full_found (view_by g.B.BlockStore.states l.view)) l.names)))

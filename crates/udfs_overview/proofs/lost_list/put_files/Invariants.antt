@@ -1,9 +1,11 @@
 use Rattle.std.proofs.Common.{map, take}
+use Rattle.std.specs.List.{list_any}
 use Rattle.std.specs.Prelude.{flat_map}
 use Rattle.std.specs.String.{string_bytes}
 use Rattle.udfs_reading.specs.Writing.{Passed}
-use Rattle.udfs_space.specs.Views.{view_now}
+use Rattle.udfs_space.specs.Views.{view_by}
 use Rattle.udfs_walk.specs.Bare.{full_entry}
+use Rattle.udfs_walk.specs.Targets.{is_icb}
 use Rattle.udfs_overview.specs.LostLists.{file_line}
 use Rattle.udfs_overview.proofs.lost_list.put_files.Given as goal
 
@@ -11,5 +13,5 @@ use Rattle.udfs_overview.proofs.lost_list.put_files.Given as goal
 abbrev pub invariant-loop-file : goal.invariant-loop-file
 invariant-loop-file g l =
     let W = g.W.Sink in
-    Passed (W.stream l.fn.sink) (W.stream l.sink) (string_bytes l.fn.text) (string_bytes l.text)
-    (flat_map (file_line l.form (view_now l.view) l.two) (take l.file-index (map (λ file. full_entry (view_now l.view) file.now) l.files)))
+    g.B.BlockStore.tells → Passed (W.stream l.fn.sink) (W.stream l.sink) (string_bytes l.fn.text) (string_bytes l.text)
+    (flat_map (file_line l.form (view_by g.B.BlockStore.states l.view) l.two (λ icb. list_any (is_icb icb) l.named)) (take l.file-index (map (λ file. full_entry (view_by g.B.BlockStore.states l.view) file.now) l.files)))

@@ -1,4 +1,4 @@
-use Rattle.std.proofs.Common.{◌≡◌, ◌∙◌, ◌++◌, ap, subst, ℕ, List}
+use Rattle.std.proofs.Common.{◌∙◌, ◌++◌, ap, subst, ℕ, List}
 use Rattle.udfs_lattice.specs.Volumes.{Blocks, ascending}
 use Rattle.udfs_salvage.specs.Found.{volume_now}
 use Rattle.udfs_salvage.specs.Listings.{listing_by}

@@ -1,31 +1,27 @@
-use Rattle.std.proofs.Common.{◌∙◌, ap, take}
-use Rattle.std.proofs.lemmas.Result.{err_from_is_err_and}
-use Rattle.udfs_file.specs.Portions.{portion_count}
+use Rattle.std.proofs.Common.{Bool, Ok, ap, subst}
+use Rattle.std.specs.Prelude.{⊤}
+use Rattle.udfs_space.specs.Views.{view_by}
+use Rattle.udfs_file.specs.Stretches.{cells_of}
 use Rattle.udfs_salvage.specs.Extraction.{filled}
-use Rattle.udfs_salvage.proofs.BodyBytes.{first_count, first_taken, none_taken}
-use Rattle.udfs_salvage.proofs.Pieces.{taken_none, taken_more, taken_all, taken_fails, portion_split}
+use Rattle.udfs_salvage.specs.StoreExtraction.{PushesNext}
+use Rattle.udfs_salvage.proofs.Pieces.{pushed_all, pushed_more, pushed_stops, taken_none}
 use Rattle.udfs_salvage.proofs.body_bytes.push_portions.Goals as goal
 
-pub loop-portion-init : goal.loop-portion-init
-loop-portion-init g c = taken_none _ _ _ _ (ap (filled c.args.fill) (c.into_iter-portion-iterator.ensures.into_iter_gives ∙ c.portions-portion-items.ensures))
+pub portions-init : goal.portions-init
+portions-init g c tells = taken_none _ _ _ _ (ap (filled c.args.fill) c.portions_by-portions.ensures)
 
-pub returns-in_err-push_portion : goal.returns-in_err-push_portion
-returns-in_err-push_portion g c =
-    let p = err_from_is_err_and c.from_residual.result c.from_residual.ensures.1 in
-    let first = first_taken c.loop-portion.portion-iterator c.next.new.self c.next.result c.in-Some.portion c.in-Some.is c.next.ensures.steps in
-    let s = c.loop-portion.portion-iterator in
-    let front = take (portion_count c.in-Some.portion) s in
-    rw p.1 (taken_fails (filled c.args.fill front) (filled c.args.fill c.next.new.self) (portion_split c.args.fill c.in-Some.portion s c.next.new.self first)
-    c.loop-portion.invariant (c.in_err-push_portion.ensures front first.portion (first_count c.in-Some.portion s c.next.new.self first)))
+pub portions-preserved : goal.portions-preserved
+portions-preserved g c tells =
+    let W = g.W.Sink in
+    let step = subst (λ (more : Bool). PushesNext (W.stream c.portions.sink) (W.stream c.push_next.new.sink) c.portions.out c.push_next.new.out c.args.fill c.portions.portions c.push_next.new.portions (Ok more)) c.in-Ok-true.field-0-test (c.in-Ok-true.ensures.step tells) in
+    pushed_more c.args.fill _ _ _ _ _ _ _ c.portions.portions c.push_next.new.portions (c.portions.invariant tells) step
 
-pub loop-portion-preserved : goal.loop-portion-preserved
-loop-portion-preserved g c =
-    let first = first_taken c.loop-portion.portion-iterator c.next.new.self c.next.result c.in-Some.portion c.in-Some.is c.next.ensures.steps in
-    let s = c.loop-portion.portion-iterator in
-    let front = take (portion_count c.in-Some.portion) s in
-    taken_more (filled c.args.fill front) (filled c.args.fill c.next.new.self) (portion_split c.args.fill c.in-Some.portion s c.next.new.self first)
-    c.loop-portion.invariant (c.in_ok-push_portion.ensures front first.portion (first_count c.in-Some.portion s c.next.new.self first))
+pub returns-in-Ok-false-clause-passes : goal.returns-in-Ok-false-clause-passes
+returns-in-Ok-false-clause-passes g c tells =
+    let W = g.W.Sink in
+    let step = subst (λ (more : Bool). PushesNext (W.stream c.portions.sink) (W.stream c.push_next.new.sink) c.portions.out c.push_next.new.out c.args.fill c.portions.portions c.push_next.new.portions (Ok more)) c.in-Ok-false.field-0-test (c.in-Ok-false.ensures.step tells) in
+    pushed_all c.args.fill _ _ _ _ _ _ _ c.portions.portions c.push_next.new.portions (c.portions.invariant tells) step
 
-pub returns : goal.returns
-unfolding filled
-returns g c = taken_all (ap (filled c.args.fill) (none_taken c.loop-portion.portion-iterator c.next.new.self c.next.result c.in-None.is c.next.ensures.steps)) c.loop-portion.invariant
+pub returns-in-Err-clause-passes : goal.returns-in-Err-clause-passes
+returns-in-Err-clause-passes g c tells =
+    pushed_stops ⊤ c.args.fill _ _ _ _ _ c.push_next.new.out (filled c.args.fill (cells_of (view_by g.B.BlockStore.states c.args.view) c.args.body.now)) c.portions.portions c.push_next.new.portions c.in-Err.fault (c.portions.invariant tells) (c.in-Err.ensures.step tells)

@@ -1,7 +1,7 @@
 -- The nodes so far that are in line, and those of what is left.
 use Rattle.std.proofs.Common.{◌≡◌, ◌++◌, Bor, ℕ, List, map}
 use Rattle.std.specs.Vec.Iter.{into_iter_items}
-use Rattle.udfs_tree.specs.KnownLaws.{taken}
+use Rattle.udfs_walk.specs.KnownLaws.{taken}
 use Rattle.udfs_salvage.specs.InLine.{is_in_line}
 use Rattle.udfs_salvage.proofs.in_line.nodes_in_line.Given as goal
 

@@ -1,5 +1,5 @@
 use Rattle.udfs_salvage.specs.Texts.{block_text}
-use Rattle.udfs_printing.proofs.PublicLaws.{puts_none, puts_piece}
+use Rattle.udfs_reading.proofs.PrintingPublicLaws.{puts_none, puts_piece}
 use Rattle.udfs_salvage.proofs.lines.put_blocks.Goals as goal
 
 pub loop-block-init : goal.loop-block-init

@@ -1,6 +1,6 @@
 use Rattle.std.proofs.Common.{take}
 use Rattle.udfs_salvage.specs.Texts.{block_texts}
-use Rattle.udfs_printing.specs.Puts.{Puts}
+use Rattle.udfs_reading.specs.Puts.{Puts}
 use Rattle.udfs_salvage.proofs.lines.put_blocks.Given as goal
 
 -- what is put so far

@@ -2,7 +2,7 @@ use Rattle.std.proofs.Common.{map}
 use Rattle.udfs_volume.specs.Layout.{Partition}
 use Rattle.udfs_volume.specs.LayoutParts.{partition_now}
 use Rattle.udfs_salvage.specs.Texts.{partition_map_text}
-use Rattle.udfs_printing.proofs.PublicLaws.{puts_none}
+use Rattle.udfs_reading.proofs.PrintingPublicLaws.{puts_none}
 use Rattle.udfs_salvage.proofs.FullTexts.{full_at, full_length}
 use Rattle.udfs_salvage.proofs.Putting.{puts_item}
 use Rattle.udfs_salvage.proofs.lines.put_maps.Goals as goal

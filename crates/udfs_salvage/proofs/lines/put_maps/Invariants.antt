@@ -1,7 +1,7 @@
 use Rattle.std.proofs.Common.{map, take}
 use Rattle.udfs_volume.specs.LayoutParts.{partition_now}
 use Rattle.udfs_salvage.specs.Texts.{map_texts}
-use Rattle.udfs_printing.specs.Puts.{Puts}
+use Rattle.udfs_reading.specs.Puts.{Puts}
 use Rattle.udfs_salvage.proofs.lines.put_maps.Given as goal
 
 -- what is put so far

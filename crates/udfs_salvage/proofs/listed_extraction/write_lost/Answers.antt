@@ -1,37 +1,23 @@
-use Rattle.std.proofs.Common.{◌≡◌, ◌∙◌, sym, ap, subst, true, Some, slice_get, List}
-use Rattle.udfs_lattice.specs.Tables.{state_of}
-use Rattle.udfs_space.specs.Places.{view}
-use Rattle.udfs_walk.specs.NodeBodies.{HasCells}
-use Rattle.udfs_walk.specs.Targets.{icb_at}
-use Rattle.udfs_walk.specs.UnnamedEntries.{address_of}
-use Rattle.udfs_walk.specs.declared.answers.Unnamed.{Unnamed}
-use Rattle.udfs_salvage.specs.Found.{found_now, volume_now}
-use Rattle.udfs_salvage.specs.Listings.{full_entry_in, listing_now}
+use Rattle.std.proofs.Common.{Err, subst}
+use Rattle.std.specs.Prelude.{⊤}
 use Rattle.udfs_salvage.specs.Extraction.{filled}
-use Rattle.udfs_salvage.specs.UnnamedExtraction.{is_lost_file}
-use Rattle.udfs_salvage.proofs.Extracting.{not_refused, true_false}
-use Rattle.udfs_salvage.proofs.UnnamedEntries.{lost_cells}
-use Rattle.udfs_salvage.proofs.ListedNodes.{same_full, same_lost}
+use Rattle.udfs_salvage.specs.StoreExtraction.{StoreExtracts}
+use Rattle.udfs_salvage.specs.declared.extraction.ExtractError.TheVariants.{NotWhole}
+use Rattle.udfs_salvage.specs.declared.extraction.StoreExtractError.{StoreExtractError}
+use Rattle.udfs_salvage.proofs.Extracting.{errors_none, errors_same}
 use Rattle.udfs_salvage.proofs.listed_extraction.write_lost.Goals as goal
 
-pub returns-in-Open-clause-cells : goal.returns-in-Open-clause-cells
-returns-in-Open-clause-cells g c = λ profile last u is are at lost.
-    let r = c.args.listing.now in
-    let b = state_of r.table.now in
-    let k = lost_cells profile b last c.args.index (listing_now r) (found_now c.in-Open.opened) u is (ap volume_now c.in-Open.is) at lost in
-    let same = same_full (full_entry_in b (volume_now r.volume)) c.args.entries.now c.args.index u c.index-entries-index.result (subst (λ (us : List Unnamed). slice_get us c.args.index ≡ Some u) (sym are) at) c.index-entries-index.is in
-    let address : c.icb-address.result ≡ address_of (icb_at u.reference u.block) = c.icb-address.ensures ∙ ap (λ (w : Unnamed). address_of (icb_at w.reference w.block)) same in (
-      k.0,
-      k.1,
-      c.write_at.ensures.cells k.0 (subst (λ v. HasCells v c.icb-address.result k.0) (sym c.view-view.ensures.value) (subst (λ a. HasCells (view b c.in-Open.opened.space) a k.0) (sym address) k.2)),
-    )
+pub returns-in-Ok-clause-cells : goal.returns-in-Ok-clause-cells
+returns-in-Ok-clause-cells g c = c.in-Ok.ensures.cells tt
 
-pub returns-in-Open-clause-not_whole : goal.returns-in-Open-clause-not_whole
-returns-in-Open-clause-not_whole g c = λ profile last u is are at.
+pub returns-in-Ok-clause-not_whole : goal.returns-in-Ok-clause-not_whole
+returns-in-Ok-clause-not_whole g c = λ profile last u is are at. errors_none _ _ _ NotWhole (c.in-Ok.ensures.not_whole tt profile last u is are at)
+
+pub returns-in-Err-Extract-clause-cells : goal.returns-in-Err-Extract-clause-cells
+returns-in-Err-Extract-clause-cells g c = λ profile last u is are at lost.
     let W = g.W.Sink in
-    let r = c.args.listing.now in
-    let b = state_of r.table.now in
-    let same = same_full (full_entry_in b (volume_now r.volume)) c.args.entries.now c.args.index u c.index-entries-index.result (subst (λ (us : List Unnamed). slice_get us c.args.index ≡ Some u) (sym are) at) c.index-entries-index.is in
-    let lost : is_lost_file u ≡ true = ap is_lost_file (sym same) ∙ same_lost b (volume_now r.volume) c.index-entries-index.result ∙ sym c.is_lost_file.ensures ∙ c.if-not-is_lost_file.false in
-    let written = returns-in-Open-clause-cells g c profile last u is are at lost in
-    (λ e. absurd (not_refused (W.stream c.args.sink.now) (W.stream c.write_at.new.sink) (filled 0 written.0) c.write_at.result written.2 e), λ e. absurd (true_false (is_lost_file u) lost e))
+    let k = c.in-Err-Extract.ensures.cells tt profile last u is are at lost in
+    (k.0, k.1, subst (λ (e : StoreExtractError). StoreExtracts {X = ⊤} (W.stream c.args.sink.now) (W.stream c.write_lost_by.new.sink) (filled 0 k.0) (Err e)) c.in-Err-Extract.field-0-is k.2)
+
+pub returns-in-Err-Extract-clause-not_whole : goal.returns-in-Err-Extract-clause-not_whole
+returns-in-Err-Extract-clause-not_whole g c = λ profile last u is are at. errors_same _ c.in-Err-Extract.field-0 c.in-Err-Extract.error NotWhole c.in-Err-Extract.field-0-is (c.in-Err-Extract.ensures.not_whole tt profile last u is are at)

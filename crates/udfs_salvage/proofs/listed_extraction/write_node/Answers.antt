@@ -1,89 +1,61 @@
-use Rattle.std.proofs.Common.{◌≡◌, ◌∙◌, sym, ap, subst, true}
+use Rattle.std.proofs.Common.{Err, subst}
+use Rattle.std.specs.Prelude.{⊤}
 use Rattle.udfs_lattice.specs.Tables.{state_of}
-use Rattle.udfs_space.specs.Places.{view}
-use Rattle.udfs_walk.specs.NodeBodies.{HasCells, MayTakeMemory}
-use Rattle.udfs_salvage.specs.Found.{found_now, volume_now}
-use Rattle.udfs_salvage.specs.Listings.{full_in, listing_now}
-use Rattle.udfs_salvage.specs.Extraction.{Extracts, fill_byte, filled, is_offered}
-use Rattle.udfs_salvage.proofs.Extracting.{report_cells, not_refused, true_false, walked_cells}
-use Rattle.udfs_salvage.proofs.Founds.{found_same}
-use Rattle.udfs_salvage.proofs.ListedNodes.{same_full, same_offered}
-use Rattle.udfs_salvage.proofs.TreeBytes.{fills_file, writes_file}
+use Rattle.udfs_salvage.specs.Extraction.{fill_byte, filled}
+use Rattle.udfs_salvage.specs.StoreExtraction.{StoreExtracts}
+use Rattle.udfs_salvage.specs.TreeReports.{FillsFileBy, WritesFileBy}
+use Rattle.udfs_salvage.specs.declared.extraction.ExtractError.TheVariants.{NotWhole, OutOfMemory}
+use Rattle.udfs_salvage.specs.declared.extraction.StoreExtractError.{StoreExtractError}
+use Rattle.udfs_salvage.proofs.Extracting.{error_up, errors_none, errors_same}
 use Rattle.udfs_salvage.proofs.listed_extraction.write_node.Goals as goal
 
-pub returns-in-Open-clause-cells : goal.returns-in-Open-clause-cells
-returns-in-Open-clause-cells g c = λ profile last n is at offered.
-    let W = g.W.Sink in
-    let r = c.args.listing.now in
-    let b = state_of r.table.now in
-    let v = view b c.in-Open.opened.space in
-    let k = report_cells profile b last c.args.index (listing_now r) (found_now c.in-Open.opened) n c.args.fill is (ap volume_now c.in-Open.is) at offered in
-    let same = same_full (full_in b (volume_now r.volume)) r.nodes.items c.args.index n c.index-node.result.now at c.index-node.ensures in
-    let icb : c.node.inside.icb ≡ n.icb = ap (λ m. m.icb) c.node.view_is ∙ ap (λ m. m.icb) same in (
-      k.0,
-      k.1,
-      subst (λ x. Extracts (W.stream c.args.sink.now) (W.stream c.write_at.new.sink) (filled x k.0) c.write_at.result) c.fill_byte-byte.ensures
-          (c.write_at.ensures.cells k.0 (subst (λ w. HasCells w c.node.inside.icb k.0) (sym c.view-view.ensures.value) (subst (λ a. HasCells v a k.0) (sym icb) k.2))),
-    )
+pub returns-in-Ok-clause-cells : goal.returns-in-Ok-clause-cells
+returns-in-Ok-clause-cells g c = c.in-Ok.ensures.cells tt
 
-pub returns-in-Open-clause-not_whole : goal.returns-in-Open-clause-not_whole
-returns-in-Open-clause-not_whole g c = λ profile last n is at.
-    let W = g.W.Sink in
-    let r = c.args.listing.now in
-    let b = state_of r.table.now in
-    let same = same_full (full_in b (volume_now r.volume)) r.nodes.items c.args.index n c.index-node.result.now at c.index-node.ensures in
-    let offered : is_offered n.standing n.size c.args.fill ≡ true =
-    ap (λ m. is_offered m.standing m.size c.args.fill) (sym same) ∙ same_offered b (volume_now r.volume) c.index-node.result.now.icb c.index-node.result.now.standing c.index-node.result.now.size c.args.fill ∙ sym c.is_offered.ensures ∙ c.if-not-is_offered.false in
-    let written = returns-in-Open-clause-cells g c profile last n is at offered in
-    (λ e. absurd (not_refused (W.stream c.args.sink.now) (W.stream c.write_at.new.sink) (filled (fill_byte c.args.fill) written.0) c.write_at.result written.2 e), λ e. absurd (true_false (is_offered n.standing n.size c.args.fill) offered e))
+pub returns-in-Ok-clause-not_whole : goal.returns-in-Ok-clause-not_whole
+returns-in-Ok-clause-not_whole g c = λ profile last n is at. errors_none _ _ _ NotWhole (c.in-Ok.ensures.not_whole tt profile last n is at)
 
-pub returns-in-Open-clause-walked : goal.returns-in-Open-clause-walked
-returns-in-Open-clause-walked g c = λ f root n is at offered.
-    let W = g.W.Sink in
-    let r = c.args.listing.now in
-    let b = state_of r.table.now in
-    let k = walked_cells b f root (listing_now r) c.args.index n c.args.fill is at offered in
-    let same = same_full (full_in b (volume_now r.volume)) r.nodes.items c.args.index n c.index-node.result.now at c.index-node.ensures in
-    let icb : c.node.inside.icb ≡ n.icb = ap (λ m. m.icb) c.node.view_is ∙ ap (λ m. m.icb) same in
-    let opened : found_now c.in-Open.opened ≡ f = found_same _ _ (sym (ap volume_now c.in-Open.is) ∙ is.opens) in (
-      k.0,
-      k.1,
-      subst (λ x. Extracts (W.stream c.args.sink.now) (W.stream c.write_at.new.sink) (filled x k.0) c.write_at.result) c.fill_byte-byte.ensures
-          (c.write_at.ensures.cells k.0 (subst (λ v. HasCells v c.node.inside.icb k.0) (sym c.view-view.ensures.value) (subst (λ a. HasCells (view b c.in-Open.opened.space) a k.0) (sym icb) (subst (λ h. HasCells (view b h.space) n.icb k.0) (sym opened) k.2)))),
-    )
+pub returns-in-Ok-clause-walked : goal.returns-in-Ok-clause-walked
+returns-in-Ok-clause-walked g c = c.in-Ok.ensures.walked tt
 
-pub returns-in-Open-clause-unfit : goal.returns-in-Open-clause-unfit
-returns-in-Open-clause-unfit g c = λ f root n is at.
-    let W = g.W.Sink in
-    let r = c.args.listing.now in
-    let b = state_of r.table.now in
-    let same = same_full (full_in b (volume_now r.volume)) r.nodes.items c.args.index n c.index-node.result.now at c.index-node.ensures in
-    let offered : is_offered n.standing n.size c.args.fill ≡ true =
-    ap (λ m. is_offered m.standing m.size c.args.fill) (sym same) ∙ same_offered b (volume_now r.volume) c.index-node.result.now.icb c.index-node.result.now.standing c.index-node.result.now.size c.args.fill ∙ sym c.is_offered.ensures ∙ c.if-not-is_offered.false in
-    let written = returns-in-Open-clause-walked g c f root n is at offered in
-    (λ e. absurd (not_refused (W.stream c.args.sink.now) (W.stream c.write_at.new.sink) (filled (fill_byte c.args.fill) written.0) c.write_at.result written.2 e), λ e. absurd (true_false (is_offered n.standing n.size c.args.fill) offered e))
+pub returns-in-Ok-clause-unfit : goal.returns-in-Ok-clause-unfit
+returns-in-Ok-clause-unfit g c = λ f root n is at. errors_none _ _ _ NotWhole (c.in-Ok.ensures.unfit tt f root n is at)
 
-pub returns-in-Open-clause-wanted : goal.returns-in-Open-clause-wanted
-returns-in-Open-clause-wanted g c = λ f n opens at refused.
-    let r = c.args.listing.now in
-    let b = state_of r.table.now in
-    let same = same_full (full_in b (volume_now r.volume)) r.nodes.items c.args.index n c.index-node.result.now at c.index-node.ensures in
-    let icb : c.node.inside.icb ≡ n.icb = ap (λ m. m.icb) c.node.view_is ∙ ap (λ m. m.icb) same in
-    let opened : found_now c.in-Open.opened ≡ f = found_same _ _ (sym (ap volume_now c.in-Open.is) ∙ opens) in
-    subst (λ h. MayTakeMemory (view b h.space) n.icb) opened (subst (λ a. MayTakeMemory (view b c.in-Open.opened.space) a) icb (subst (λ v. MayTakeMemory v c.node.inside.icb) c.view-view.ensures.value (c.write_at.ensures.wanted refused)))
+pub returns-in-Ok-clause-tree : goal.returns-in-Ok-clause-tree
+returns-in-Ok-clause-tree g c = c.in-Ok.ensures.tree tt
 
-pub returns-in-Open-clause-tree : goal.returns-in-Open-clause-tree
-returns-in-Open-clause-tree g c = λ profile last n is at whole.
-    let W = g.W.Sink in
-    let r = c.args.listing.now in
-    writes_file profile (state_of r.table.now) last c.args.index (listing_now r) (fill_byte c.args.fill)
-    (λ bytes. Extracts (W.stream c.args.sink.now) (W.stream c.write_at.new.sink) bytes c.write_at.result)
-    is n at whole (returns-in-Open-clause-cells g c profile last n is at (ap (λ s. is_offered s n.size c.args.fill) whole))
+pub returns-in-Ok-clause-filled : goal.returns-in-Ok-clause-filled
+returns-in-Ok-clause-filled g c = c.in-Ok.ensures.filled tt
 
-pub returns-in-Open-clause-filled : goal.returns-in-Open-clause-filled
-returns-in-Open-clause-filled g c = λ profile last n is at offered.
+pub returns-in-Err-Extract-clause-cells : goal.returns-in-Err-Extract-clause-cells
+returns-in-Err-Extract-clause-cells g c = λ profile last n is at offered.
     let W = g.W.Sink in
-    let r = c.args.listing.now in
-    fills_file profile (state_of r.table.now) last c.args.index (listing_now r) (fill_byte c.args.fill) c.args.fill
-    (λ bytes. Extracts (W.stream c.args.sink.now) (W.stream c.write_at.new.sink) bytes c.write_at.result)
-    is n at offered (returns-in-Open-clause-cells g c profile last n is at offered)
+    let k = c.in-Err-Extract.ensures.cells tt profile last n is at offered in
+    (k.0, k.1, subst (λ (e : StoreExtractError). StoreExtracts {X = ⊤} (W.stream c.args.sink.now) (W.stream c.write_node_by.new.sink) (filled (fill_byte c.args.fill) k.0) (Err e)) c.in-Err-Extract.field-0-is k.2)
+
+pub returns-in-Err-Extract-clause-walked : goal.returns-in-Err-Extract-clause-walked
+returns-in-Err-Extract-clause-walked g c = λ f root n is at offered.
+    let W = g.W.Sink in
+    let k = c.in-Err-Extract.ensures.walked tt f root n is at offered in
+    (k.0, k.1, subst (λ (e : StoreExtractError). StoreExtracts {X = ⊤} (W.stream c.args.sink.now) (W.stream c.write_node_by.new.sink) (filled (fill_byte c.args.fill) k.0) (Err e)) c.in-Err-Extract.field-0-is k.2)
+
+pub returns-in-Err-Extract-clause-not_whole : goal.returns-in-Err-Extract-clause-not_whole
+returns-in-Err-Extract-clause-not_whole g c = λ profile last n is at. errors_same _ c.in-Err-Extract.field-0 c.in-Err-Extract.error NotWhole c.in-Err-Extract.field-0-is (c.in-Err-Extract.ensures.not_whole tt profile last n is at)
+
+pub returns-in-Err-Extract-clause-unfit : goal.returns-in-Err-Extract-clause-unfit
+returns-in-Err-Extract-clause-unfit g c = λ f root n is at. errors_same _ c.in-Err-Extract.field-0 c.in-Err-Extract.error NotWhole c.in-Err-Extract.field-0-is (c.in-Err-Extract.ensures.unfit tt f root n is at)
+
+pub returns-in-Err-Extract-clause-tree : goal.returns-in-Err-Extract-clause-tree
+returns-in-Err-Extract-clause-tree g c = λ profile last n is at whole.
+    let W = g.W.Sink in
+    subst (λ (e : StoreExtractError). WritesFileBy profile (state_of c.args.listing.now.table.now) last n (λ bytes. StoreExtracts {X = ⊤} (W.stream c.args.sink.now) (W.stream c.write_node_by.new.sink) bytes (Err e))) c.in-Err-Extract.field-0-is
+    (c.in-Err-Extract.ensures.tree tt profile last n is at whole)
+
+pub returns-in-Err-Extract-clause-filled : goal.returns-in-Err-Extract-clause-filled
+returns-in-Err-Extract-clause-filled g c = λ profile last n is at offered.
+    let W = g.W.Sink in
+    subst (λ (e : StoreExtractError). FillsFileBy profile (state_of c.args.listing.now.table.now) last n (fill_byte c.args.fill) (λ bytes. StoreExtracts {X = ⊤} (W.stream c.args.sink.now) (W.stream c.write_node_by.new.sink) bytes (Err e))) c.in-Err-Extract.field-0-is
+    (c.in-Err-Extract.ensures.filled tt profile last n is at offered)
+
+pub returns-in-Err-Extract-clause-wanted : goal.returns-in-Err-Extract-clause-wanted
+returns-in-Err-Extract-clause-wanted g c = λ f n opens at refused. c.in-Err-Extract.ensures.wanted tt f n opens at (error_up c.in-Err-Extract.field-0 c.in-Err-Extract.error OutOfMemory c.in-Err-Extract.field-0-is refused)

@@ -1,6 +1,6 @@
 use Rattle.std.proofs.Common.{sym, arith, append-nil}
 use Rattle.udfs_salvage.specs.NodeTexts.{name_text}
-use Rattle.udfs_printing.proofs.PublicLaws.{puts_none}
+use Rattle.udfs_reading.proofs.PrintingPublicLaws.{puts_none}
 use Rattle.udfs_salvage.proofs.PathNames.{next_name, some_name}
 use Rattle.udfs_salvage.proofs.Putting.{puts_same, puts_with}
 use Rattle.udfs_salvage.proofs.node_lines.put_names.Goals.{in-Some, in_default}

@@ -1,5 +1,5 @@
 use Rattle.udfs_salvage.specs.NodeTexts.{unnamed_text}
-use Rattle.udfs_printing.proofs.PublicLaws.{puts_none}
+use Rattle.udfs_reading.proofs.PrintingPublicLaws.{puts_none}
 use Rattle.udfs_salvage.proofs.Putting.{puts_item}
 use Rattle.udfs_salvage.proofs.node_printing.put_all_unnamed.Goals as goal
 

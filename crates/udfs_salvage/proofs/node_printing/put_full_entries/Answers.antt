@@ -3,7 +3,7 @@ use Rattle.std.proofs.lemmas.Result.{err_from_is_err_and}
 use Rattle.udfs_space.specs.Views.{view_by}
 use Rattle.udfs_walk.specs.Bare.{full_entry}
 use Rattle.udfs_salvage.specs.NodeTexts.{unnamed_text}
-use Rattle.udfs_printing.proofs.PublicLaws.{puts_none}
+use Rattle.udfs_reading.proofs.PrintingPublicLaws.{puts_none}
 use Rattle.udfs_salvage.proofs.FullTexts.{full_at, full_length}
 use Rattle.udfs_salvage.proofs.Putting.{front_item, puts_item}
 use Rattle.udfs_salvage.proofs.node_printing.put_full_entries.Goals as goal

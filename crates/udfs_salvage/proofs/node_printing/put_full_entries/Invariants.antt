@@ -2,7 +2,7 @@ use Rattle.std.proofs.Common.{map, take}
 use Rattle.udfs_space.specs.Views.{view_by}
 use Rattle.udfs_walk.specs.Bare.{full_entry}
 use Rattle.udfs_salvage.specs.NodeTexts.{unnamed_texts}
-use Rattle.udfs_printing.specs.Puts.{Puts}
+use Rattle.udfs_reading.specs.Puts.{Puts}
 use Rattle.udfs_salvage.proofs.node_printing.put_full_entries.Given as goal
 
 -- what is put so far

@@ -3,7 +3,7 @@ use Rattle.udfs_space.specs.Views.{view_by}
 use Rattle.udfs_walk.specs.Bare.{full_node}
 use Rattle.udfs_salvage.specs.KeptLists.{AreKeptLists}
 use Rattle.udfs_salvage.specs.NodeTexts.{nodes_text}
-use Rattle.udfs_printing.specs.Puts.{Puts}
+use Rattle.udfs_reading.specs.Puts.{Puts}
 use Rattle.udfs_salvage.proofs.node_printing.put_full_nodes.Given as goal
 
 -- what is put so far

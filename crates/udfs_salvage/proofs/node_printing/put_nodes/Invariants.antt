@@ -1,6 +1,6 @@
 use Rattle.std.proofs.Common.{take}
 use Rattle.udfs_salvage.specs.NodeTexts.{nodes_text}
-use Rattle.udfs_printing.specs.Puts.{Puts}
+use Rattle.udfs_reading.specs.Puts.{Puts}
 use Rattle.udfs_salvage.proofs.node_printing.put_nodes.Given as goal
 
 -- what is put so far

@@ -1,5 +1,5 @@
 use Rattle.std.proofs.Common.{rules}
-use Rattle.udfs_printing.proofs.PublicLaws.{puts_two}
+use Rattle.udfs_reading.proofs.PrintingPublicLaws.{puts_two}
 use Rattle.udfs_salvage.proofs.reread_printing.put_number.Goals as goal
 
 pub returns : goal.returns

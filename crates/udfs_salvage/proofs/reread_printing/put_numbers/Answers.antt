@@ -1,5 +1,5 @@
 use Rattle.udfs_salvage.specs.RereadTexts.{number_line}
-use Rattle.udfs_printing.proofs.PublicLaws.{puts_none, puts_piece}
+use Rattle.udfs_reading.proofs.PrintingPublicLaws.{puts_none, puts_piece}
 use Rattle.udfs_salvage.proofs.reread_printing.put_numbers.Goals as goal
 
 pub loop-block-init : goal.loop-block-init

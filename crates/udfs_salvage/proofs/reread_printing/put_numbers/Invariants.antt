@@ -1,5 +1,5 @@
 use Rattle.std.proofs.Common.{take}
-use Rattle.udfs_printing.specs.Puts.{Puts}
+use Rattle.udfs_reading.specs.Puts.{Puts}
 use Rattle.udfs_salvage.specs.RereadTexts.{number_lines}
 use Rattle.udfs_salvage.proofs.reread_printing.put_numbers.Given as goal
 

@@ -1,5 +1,5 @@
 use Rattle.std.proofs.Common.{sym}
-use Rattle.udfs_printing.proofs.PublicLaws.{puts_all}
+use Rattle.udfs_reading.proofs.PrintingPublicLaws.{puts_all}
 use Rattle.udfs_salvage.proofs.reread_printing.write_numbers.Goals as goal
 
 pub returns : goal.returns

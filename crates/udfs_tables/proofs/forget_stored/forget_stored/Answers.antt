@@ -5,7 +5,7 @@ use Rattle.udfs_common.proofs.IndexingLemmas.{all_fit, tell_all}
 use Rattle.udfs_common.proofs.NamingLemmas.{err_is}
 use Rattle.udfs_common.proofs.PutsLemmas.{wider}
 use Rattle.udfs_common.proofs.StoredLemmas.{any_told, reasons_for_any, sources_for_any}
-use Rattle.udfs_pairs.specs.AnyStored.{stored_in}
+use Rattle.udfs_index.specs.AnyStored.{stored_in}
 use Rattle.udfs_tables.specs.Forgetting.{Forgets}
 use Rattle.udfs_words.specs.declared.forms.Version.TheVariants.{Two}
 use Rattle.udfs_tables.proofs.ForgettingLemmas.{forgets_of, forgets_without, left_is_table, without}

@@ -1,6 +1,6 @@
 use Rattle.std.proofs.Common.{inl, inr, length, ⊎_elim}
 use Rattle.udfs_index.specs.Copying.{AreAllTold}
-use Rattle.udfs_pairs.specs.AnyStored.{stored_in}
+use Rattle.udfs_index.specs.AnyStored.{stored_in}
 use Rattle.udfs_lattice.specs.Records.{join_all}
 use Rattle.udfs_common.proofs.IndexingLemmas.{all_fit, tell_all}
 use Rattle.udfs_common.proofs.NamingLemmas.{reread_names_none}

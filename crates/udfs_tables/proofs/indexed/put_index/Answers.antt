@@ -1,7 +1,7 @@
 use Rattle.std.proofs.Common.{◌+◌, ap, Err, inl, inr, refl, ⊎_elim}
 use Rattle.udfs_index.specs.Copying.{AreAllTold}
 use Rattle.udfs_common.specs.Spelling.{table_file}
-use Rattle.udfs_pairs.specs.AnyStored.{stored_in}
+use Rattle.udfs_index.specs.AnyStored.{stored_in}
 use Rattle.udfs_tables.proofs.MergingLemmas.{job_broken, job_put, job_unput}
 use Rattle.udfs_common.proofs.NamingLemmas.{err_is, reread_early}
 use Rattle.udfs_common.proofs.StoredLemmas.{any_told, any_told_or_silent, taken_by}

@@ -1,8 +1,8 @@
 use Rattle.std.proofs.Common.{◌≡◌, ◌⊎◌, ℕ, List, [], Some, inl, inr, rules, subst, ⊎_elim}
 use Rattle.std.specs.Io.KnownBytes.{Appends}
-use Rattle.udfs_files.specs.Disk.{Fails, SinkFails}
-use Rattle.udfs_files.specs.Jobs.{JobBlames}
-use Rattle.udfs_files.specs.declared.replacing.JobError.{JobError}
+use Rattle.udfs_host_fs.specs.Disk.{Fails, SinkFails}
+use Rattle.udfs_host_fs.specs.Jobs.{JobBlames}
+use Rattle.udfs_host_fs.specs.declared.replacing.JobError.{JobError}
 use Rattle.udfs_lattice.specs.Tables.{Table}
 use Rattle.udfs_rescue.specs.Images.{image_bytes}
 use Rattle.udfs_common.proofs.JobLemmas.{held_only, kept_only, replaced_only}

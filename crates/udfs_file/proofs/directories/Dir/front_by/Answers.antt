@@ -5,31 +5,34 @@ use Rattle.udfs_file.specs.Stretches.{cells_of}
 use Rattle.udfs_file.specs.Steps.{IsListedIn, bytes_of}
 use Rattle.udfs_file.specs.declared.cells.Cell.{Cell}
 use Rattle.udfs_file.proofs.FrontLemmas.{IsFronting, front-start, front_listed, front_unlisted, front_ended, lists_entry, lists_some}
+use Rattle.udfs_file.proofs.StoreSteps.{passed_by}
 use Rattle.udfs_file.proofs.Telling.{tells_front}
 use Rattle.udfs_file.proofs.directories.Dir.front_by.Goals as goal
 
 pub steps-init : goal.steps-init
 steps-init g c = record {
-  fronting = λ told. subst (IsFronting c.args.profile (cells_of (view_by g.B.BlockStore.states c.args.view) c.args.body.now) c.new-cursor.result) (sym c.new-entries.ensures.items)
-      (subst (λ (cs : List Cell). IsFronting c.args.profile (cells_of (view_by g.B.BlockStore.states c.args.view) c.args.body.now) cs []) (sym c.new-cursor.ensures)
+  fronting = λ told. subst (IsFronting c.args.profile (cells_of (view_by g.B.BlockStore.states c.args.view) c.args.body.now) c.keep.new.self) (sym c.new-entries.ensures.items)
+      (subst (λ (cs : List Cell). IsFronting c.args.profile (cells_of (view_by g.B.BlockStore.states c.args.view) c.args.body.now) cs []) (sym (c.in_ok-keep.ensures.same ∙ c.new-cursor.ensures))
       (front-start c.args.profile (cells_of (view_by g.B.BlockStore.states c.args.view) c.args.body.now)));
   few = let e : length c.new-entries.result.items ≡ 0 = ap length c.new-entries.ensures.items in omega (arith, e);
 }
 
 pub returns-then-len-most-clause-refused : goal.returns-then-len-most-clause-refused
-returns-then-len-most-clause-refused g c told = let more = lists_entry c.args.profile (cells_of (view_by g.B.BlockStore.states c.args.view) c.args.body.now) c.steps.cursor c.steps.entries.items c.next.new.self
+returns-then-len-most-clause-refused g c told = let more = lists_entry c.args.profile (cells_of (view_by g.B.BlockStore.states c.args.view) c.args.body.now) c.steps.cursor c.steps.entries.items _
     c.in-Id.pieces c.in_ok-pieces.field-0 c.in-Ok-Some.entry (c.steps.invariant.fronting told) (c.in_ok-pieces.ensures.step told) c.in-Id.is (subst (IsListedIn (bytes_of c.in-Id.pieces)) c.in-Ok-Some.field-0-is c.in-Ok-Some.ensures.entry) in
     omega (arith, more)
 
 pub returns-in-Err-clause-refused : goal.returns-in-Err-clause-refused
-returns-in-Err-clause-refused g c told = let more = lists_some c.args.profile (cells_of (view_by g.B.BlockStore.states c.args.view) c.args.body.now) c.steps.cursor c.steps.entries.items c.next.new.self
+returns-in-Err-clause-refused g c told = let more = lists_some c.args.profile (cells_of (view_by g.B.BlockStore.states c.args.view) c.args.body.now) c.steps.cursor c.steps.entries.items _
     c.in-Id.pieces c.in_ok-pieces.field-0 (c.steps.invariant.fronting told) (c.in_ok-pieces.ensures.step told) c.in-Id.is c.in-Err.ensures.memory in
     omega (arith, more)
 
 pub steps-preserved : goal.steps-preserved
 steps-preserved g c = record {
-  fronting = λ told. front_unlisted c.args.profile (cells_of (view_by g.B.BlockStore.states c.args.view) c.args.body.now) c.steps.cursor c.steps.entries.items
-      c.next.new.self c.in-Id.pieces c.in_ok-pieces.field-0 c.in-Ok-None.field-0 (c.steps.invariant.fronting told) (c.in_ok-pieces.ensures.step told) c.in-Id.is c.in-Ok-None.ensures.entry c.in-Ok-None.field-0-is;
+  fronting = λ told. subst (λ (cs : List Cell). IsFronting c.args.profile (cells_of (view_by g.B.BlockStore.states c.args.view) c.args.body.now) cs c.steps.entries.items)
+      (sym (passed_by c.steps.cursor c.pass-in-Ok-None.new.self c.in_ok-pieces.field-0 c.in-Id.pieces c.len-size.result c.in-Id.is c.len-size.ensures c.in_ok-pass-in-Ok-None.ensures.moved))
+      (front_unlisted c.args.profile (cells_of (view_by g.B.BlockStore.states c.args.view) c.args.body.now) c.steps.cursor c.steps.entries.items
+      _ c.in-Id.pieces c.in_ok-pieces.field-0 c.in-Ok-None.field-0 (c.steps.invariant.fronting told) (c.in_ok-pieces.ensures.step told) c.in-Id.is c.in-Ok-None.ensures.entry c.in-Ok-None.field-0-is);
   few = c.steps.invariant.few;
 }
 
@@ -55,15 +58,17 @@ pub returns-in-End-clause-complete : goal.returns-in-End-clause-complete
 returns-in-End-clause-complete g c told = tells_front c.args.profile (cells_of (view_by g.B.BlockStore.states c.args.view) c.args.body.now) c.ended-in-End.result (returns-in-End-clause-value g c told)
 
 pub returns-in-Err-put-clause-refused : goal.returns-in-Err-put-clause-refused
-returns-in-Err-put-clause-refused g c told = let more = lists_entry c.args.profile (cells_of (view_by g.B.BlockStore.states c.args.view) c.args.body.now) c.steps.cursor c.steps.entries.items c.next.new.self
+returns-in-Err-put-clause-refused g c told = let more = lists_entry c.args.profile (cells_of (view_by g.B.BlockStore.states c.args.view) c.args.body.now) c.steps.cursor c.steps.entries.items _
     c.in-Id.pieces c.in_ok-pieces.field-0 c.in-Ok-Some.entry (c.steps.invariant.fronting told) (c.in_ok-pieces.ensures.step told) c.in-Id.is (subst (IsListedIn (bytes_of c.in-Id.pieces)) c.in-Ok-Some.field-0-is c.in-Ok-Some.ensures.entry) in
     omega (arith, more)
 
-pub steps-preserved-in-Ok : goal.steps-preserved-in-Ok
-steps-preserved-in-Ok g c = record {
-  fronting = λ told. front_listed c.args.profile (cells_of (view_by g.B.BlockStore.states c.args.view) c.args.body.now) c.steps.cursor c.steps.entries.items c.put.new.entries.items
-      c.next.new.self c.in-Id.pieces c.in_ok-pieces.field-0 c.in-Ok-Some.entry c.in-Ok-Some.field-0 (c.steps.invariant.fronting told) (c.in_ok-pieces.ensures.step told) c.in-Id.is c.in-Ok-Some.ensures.entry c.in-Ok-Some.field-0-is
-      c.in-Ok.ensures;
+pub steps-preserved-in-Continue-branch-4 : goal.steps-preserved-in-Continue-branch-4
+steps-preserved-in-Continue-branch-4 g c = record {
+  fronting = λ told. subst (λ (cs : List Cell). IsFronting c.args.profile (cells_of (view_by g.B.BlockStore.states c.args.view) c.args.body.now) cs c.put.new.entries.items)
+      (sym (passed_by c.steps.cursor c.pass.new.self c.in_ok-pieces.field-0 c.in-Id.pieces c.len-size.result c.in-Id.is c.len-size.ensures c.in_ok-pass-in-Ok.ensures.moved))
+      (front_listed c.args.profile (cells_of (view_by g.B.BlockStore.states c.args.view) c.args.body.now) c.steps.cursor c.steps.entries.items c.put.new.entries.items
+      _ c.in-Id.pieces c.in_ok-pieces.field-0 c.in-Ok-Some.entry c.in-Ok-Some.field-0 (c.steps.invariant.fronting told) (c.in_ok-pieces.ensures.step told) c.in-Id.is c.in-Ok-Some.ensures.entry c.in-Ok-Some.field-0-is
+      c.in-Ok.ensures);
   few = let e : length c.put.new.entries.items ≡ length c.steps.entries.items + 1 = ap length c.in-Ok.ensures ∙ length-append c.steps.entries.items (c.in-Ok-Some.entry ∷ []) in
       let h = c.if-len-most.false in omega (arith, e, h);
 }

@@ -1,5 +1,5 @@
 use Rattle.std.proofs.Common.{◌≤◌, ◌∙◌, arith, sym, refl}
-use Rattle.udfs_pairs.specs.AnyStored.{stored_in}
+use Rattle.udfs_index.specs.AnyStored.{stored_in}
 use Rattle.udfs_index.proofs.IndexLemmas.{told_all}
 use Rattle.udfs_tables.proofs.ImagedLemmas.{behind_first, behind_more, least_behind, nothing_behind, some_conflict, some_known}
 use Rattle.udfs_tables.proofs.imaged.IndexedImaged.past_end.Goals as goal

@@ -1,5 +1,0 @@
-use Rattle.udfs_ecma.proofs.PublicLaws.{directories_are_by_the_tables as law}
-use Rattle.udfs_ecma.proofs.laws.directories_are_by_the_tables.Goals as goal
-
-pub returns : goal.returns
-returns c = law

@@ -1,5 +1,0 @@
-use Rattle.udfs_ecma.proofs.PublicLaws.{labels_are_by_the_table as law}
-use Rattle.udfs_ecma.proofs.laws.labels_are_by_the_table.Goals as goal
-
-pub returns : goal.returns
-returns c = law

@@ -1,5 +1,0 @@
-use Rattle.udfs_ecma.proofs.PublicLaws.{tables_leave_out_no_byte as law}
-use Rattle.udfs_ecma.proofs.laws.tables_leave_out_no_byte.Goals as goal
-
-pub returns : goal.returns
-returns c = law

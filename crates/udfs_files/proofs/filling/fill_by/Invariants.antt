@@ -1,4 +1,0 @@
-use Rattle.udfs_files.proofs.filling.fill_by.Given as goal
-
-abbrev pub ghosts-do_at : goal.ghosts-do_at
-ghosts-do_at g a = record { number = g.H.Handle.number a.handle }

@@ -1,7 +1,0 @@
-pub mod Disk
-pub mod Identities
-pub mod Jobs
-pub mod Leading
-pub mod Opened
-pub mod Telling
-pub mod Told

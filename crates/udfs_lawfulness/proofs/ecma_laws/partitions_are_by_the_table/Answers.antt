@@ -1,0 +1,5 @@
+use Rattle.udfs_lawfulness.proofs.PublicLaws.{partitions_are_by_the_table as law}
+use Rattle.udfs_lawfulness.proofs.ecma_laws.partitions_are_by_the_table.Goals as goal
+
+pub returns : goal.returns
+returns c = law

@@ -1,4 +1,0 @@
-mod PlacedLemmas
-mod RecordLemmas
-mod SpreadLemmas
-mod FrontLemmas

@@ -1,4 +1,0 @@
-pub mod Placed
-pub mod Fronts
-pub mod Told
-pub mod AnyStored

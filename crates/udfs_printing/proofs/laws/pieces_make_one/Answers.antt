@@ -1,5 +1,0 @@
-use Rattle.udfs_printing.proofs.PublicLaws.{puts_none, puts_then, puts_all}
-use Rattle.udfs_printing.proofs.laws.pieces_make_one.Goals as goal
-
-pub returns : goal.returns
-returns c = record { none = puts_none; one_more = puts_then; all = puts_all }

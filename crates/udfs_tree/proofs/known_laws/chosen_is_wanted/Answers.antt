@@ -1,5 +1,0 @@
-use Rattle.udfs_tree.proofs.PublicLaws.{chosen_is_wanted as law}
-use Rattle.udfs_tree.proofs.known_laws.chosen_is_wanted.Goals as goal
-
-pub returns : goal.returns
-returns c = law
