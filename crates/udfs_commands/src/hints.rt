@@ -391,7 +391,7 @@ fn of_no_node(alloc: Global, only: &[&str], number: usize) -> Result<Option<Stri
     }
 }
 
-/// What may be wrong with a path that no node has: it is a pattern, or has a tab in place of its escape.
+/// What may be wrong with a path that no node has: it is a pattern, or has a tab in place of its escape, or other letters.
 fn why_no_path(path: &str) -> &'static str {
     if path.contains('*') || path.contains('?') {
         return ": patterns are not taken; name a folder for all that is in it";
@@ -399,7 +399,7 @@ fn why_no_path(path: &str) -> &'static str {
     if path.contains('\t') {
         return ": write a tab as it does, \\u0009";
     }
-    ""
+    ": capital and small letters differ"
 }
 
 /// What is said of a list that could not be read: its path, where there is but one, or where it can not be opened.

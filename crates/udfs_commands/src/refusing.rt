@@ -46,6 +46,19 @@ const BARE_WIDE: &str = "unexpected argument '--wide' found";
 /// What it is.
 const SAY_WIDE: &str = "  for the wide rules, add --profile wide\n";
 
+/// How clap says that it does not know a flag for what is whole alone.
+const BARE_WHOLE: &str = "unexpected argument '--whole' found";
+
+/// How to have it.
+const SAY_WHOLE: &str =
+    "  the first column of list is the standing: udfsalvage list ... | grep ^whole\n";
+
+/// How clap says that a command has no flag for what is not whole alone.
+const BARE_TORN: &str = "unexpected argument '--torn' found";
+
+/// Which one has it.
+const SAY_TORN: &str = "  list --torn prints what is not whole\n";
+
 /// How clap lists that a list of blocks is missing.
 const NO_BLOCKS: &str = "\n  --blocks <LIST>\n";
 
@@ -143,8 +156,8 @@ fn fault_text(alloc: Global, error: &Error, watched: bool) -> Result<String, All
     format!(in alloc; "{text}{more}")
 }
 
-/// What a person is told beneath clap's text of a fault of the arguments: where to find the last block, what an input is, what the output is, or how the wide
-/// rules are named.
+/// What a person is told beneath clap's text of a fault of the arguments: where to find the last block, what an input is, what the output is, how the wide
+/// rules are named, or how to have a part of a list.
 fn more_of(text: &str) -> &'static str {
     if text.contains(NO_LAST) {
         return FIND_LAST;
@@ -157,6 +170,12 @@ fn more_of(text: &str) -> &'static str {
     }
     if text.contains(BARE_WIDE) {
         return SAY_WIDE;
+    }
+    if text.contains(BARE_WHOLE) {
+        return SAY_WHOLE;
+    }
+    if text.contains(BARE_TORN) {
+        return SAY_TORN;
     }
     ""
 }

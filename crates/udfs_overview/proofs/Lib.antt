@@ -28,3 +28,4 @@ mod TornSorted
 mod UnreadNodes
 mod SummaryObjects
 mod Wider
+mod HoleTexts

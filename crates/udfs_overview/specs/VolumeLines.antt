@@ -1,6 +1,6 @@
 -- The first line of a summary: what the volume is, or why it does not open.
---     volume_line volume last     the line, of a disc with this last block
-use Rattle.std.specs.Prelude.{ℕ, ◌+◌, ◌*◌, List, [], ◌∷◌, ◌++◌, flat_map, codes, decimal}
+--     volume_line volume last     the line, of a disc with this last block; and one more if the volume takes less than half of it
+use Rattle.std.specs.Prelude.{ℕ, ◌+◌, ◌*◌, ◌/◌, nat_le, max, List, [], ◌∷◌, ◌++◌, flat_map, codes, decimal, if◌then◌else◌}
 use Rattle.udfs_osta.specs.declared.labels.Label.{Label}
 use Rattle.udfs_osta.specs.declared.labels.Label.TheVariants as label
 use Rattle.udfs_volume.specs.Answers.{Answer, found, holes, faulty}
@@ -35,9 +35,23 @@ disc_size_text last = grouped (last + 1) ++ codes " blocks, " ++ size_text ((las
 abbrev pub revision_and_kinds : Layout → List ℕ
 revision_and_kinds l = codes "UDF " ++ revision_text l.revision ++ kind_texts l.partitions
 
--- the line of a volume that opens
+-- the block after the last one of some partitions
+abbrev pub partitions_end : List Partition → ℕ
+partitions_end [] = 0
+partitions_end (p ∷ ps) = max (p.start + p.size) (partitions_end ps)
+
+-- that a volume ends before this block
+abbrev pub before_line : ℕ → List ℕ
+before_line end = codes "           the volume ends before block " ++ (grouped end ++ codes ": is the size of the disc right?\n")
+
+-- that a volume takes less than half of a disc with this last block, if it does
+unfoldable pub end_line : List Partition → ℕ → List ℕ
+end_line partitions last =
+    if nat_le (last / 2) (partitions_end partitions) then [] else before_line (partitions_end partitions)
+
+-- the line of a volume that opens, and one more if it takes less than half of the disc
 unfoldable pub open_line : Layout → ℕ → List ℕ
-open_line l last = label_text l.label ++ codes "   " ++ revision_and_kinds l ++ codes "   " ++ disc_size_text last ++ codes "\n"
+open_line l last = label_text l.label ++ codes "   " ++ revision_and_kinds l ++ codes "   " ++ disc_size_text last ++ codes "\n" ++ end_line l.partitions last
 
 -- ---- volumes that do not open
 
@@ -48,11 +62,11 @@ numbers_text (n ∷ []) = decimal n
 numbers_text (n ∷ m ∷ []) = decimal n ++ codes " and " ++ decimal m
 numbers_text (n ∷ m ∷ k ∷ ks) = decimal n ++ codes ", " ++ numbers_text (m ∷ k ∷ ks)
 
--- which blocks have to be read first
+-- which blocks have to be read first: of several copies one may do
 abbrev pub holes_text : List ℕ → List ℕ
 holes_text [] = codes "blocks are needed"
 holes_text (n ∷ []) = codes "block " ++ decimal n ++ codes " is needed"
-holes_text (n ∷ m ∷ ms) = codes "blocks " ++ numbers_text (n ∷ m ∷ ms) ++ codes " are needed"
+holes_text (n ∷ m ∷ ms) = codes "at least one of the blocks " ++ numbers_text (n ∷ m ∷ ms) ++ codes " is needed"
 
 -- the description of a volume's fault
 abbrev pub fault_words : VolumeFault → List ℕ
@@ -77,7 +91,7 @@ fault_words fault.FileSet = codes "the file set is not where it should be"
 abbrev pub closed_line : List ℕ → List ℕ
 closed_line why = codes "does not open: " ++ why ++ codes "\n"
 
--- the first line
+-- the first line, and what is said of the size of the disc
 abbrev pub volume_line : Answer Found → ℕ → List ℕ
 volume_line (found f) last = open_line f.layout last
 volume_line (holes blocks) last = closed_line (holes_text blocks)

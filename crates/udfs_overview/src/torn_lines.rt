@@ -38,7 +38,7 @@ fn push_loss_cell(text: &mut String, row: &TornRow) -> Result<(), OutOfMemory>
     push_percent(row.lost, u128::from(row.size), text)
 }
 
-/// The text of a cell. A path takes at most 31 columns.
+/// The text of a cell. A path takes at most 29 columns.
 #[tactic(auto, unfolding(crate::specs::TornLists::cell))]
 fn push_cell(
     alloc: Global,
@@ -50,7 +50,7 @@ fn push_cell(
 {
     match column {
         Column::Percent => push_loss_cell(text, row),
-        Column::Path => push_narrow(alloc, text, 14, &row.path),
+        Column::Path => push_narrow(alloc, text, 13, &row.path),
         Column::Lost => push_size(row.lost, text),
         Column::Size => push_size(u128::from(row.size), text),
     }
@@ -134,7 +134,7 @@ fn push_left(
     push_filling(alloc, text, column, rows, row)
 }
 
-/// How many bytes of a file are lost, and of how many; those of one that is disputed are not.
+/// How many bytes of a file are lost, and of how many; of one that is disputed, how many differ.
 fn push_loss(
     alloc: Global,
     text: &mut String,
@@ -146,7 +146,11 @@ fn push_loss(
     push_right(alloc, text, Column::Lost, rows, row)?;
     text.push_str(" of ")?;
     push_right(alloc, text, Column::Size, rows, row)?;
-    text.push_str(if row.disputed { "\n" } else { " lost\n" })
+    text.push_str(if row.disputed {
+        " differ\n"
+    } else {
+        " lost\n"
+    })
 }
 
 /// The line of a torn file, among the rows that are shown.

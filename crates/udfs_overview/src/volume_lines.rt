@@ -1,11 +1,11 @@
 //! The first line of a summary. Each function appends to a text; if memory runs out, a part may be appended.
 
-ghost use Rattle.std.specs.Prelude.{◌≡◌, ◌++◌, OnOk, map};
+ghost use Rattle.std.specs.Prelude.{◌≡◌, ◌+◌, ◌++◌, OnOk, map};
 ghost use Rattle.std.specs.String.{string_bytes};
 ghost use Rattle.udfs_volume.specs.LayoutParts.{partition_now, parts_now};
 ghost use Rattle.udfs_volume.specs.Parts.{map_now};
 ghost use Rattle.udfs_salvage.specs.Found.{volume_now};
-ghost use Rattle.udfs_overview.specs.VolumeLines.{closed_line, disc_size_text, fault_words, holes_text, kind_text, kind_texts, label_text, numbers_text, open_line, revision_and_kinds, volume_line};
+ghost use Rattle.udfs_overview.specs.VolumeLines.{before_line, closed_line, disc_size_text, end_line, fault_words, holes_text, kind_text, kind_texts, label_text, numbers_text, open_line, partitions_end, revision_and_kinds, volume_line};
 
 use crate::figures::{push_grouped, push_size};
 use crate::safe_names::push_safe_name;
@@ -80,7 +80,48 @@ pub fn push_disc_size(text: &mut String, last: u32) -> Result<(), OutOfMemory>
     push_size(blocks * BLOCK_BYTES, text)
 }
 
-/// The line of a volume that opens.
+/// The block after the last of so many blocks.
+fn end_of(start: u32, length: u32) -> u64
+    ensures { result ≡ start + length }
+{
+    u64::from(start) + u64::from(length)
+}
+
+/// The block after the last one of some partitions.
+fn partitions_end(partitions: &[Partition]) -> u64
+    ensures { result ≡ partitions_end (map partition_now partitions.now) }
+{
+    match partitions {
+        [] => 0,
+        [first, rest @ ..] => {
+            let end = end_of(first.start, first.length);
+            end.max(partitions_end(rest))
+        }
+    }
+}
+
+/// That a volume ends before this block.
+fn push_before(text: &mut String, end: u64) -> Result<(), OutOfMemory>
+    ensures { OnOk result (string_bytes text.new ≡ string_bytes text.old ++ before_line end) }
+{
+    text.push_str("           the volume ends before block ")?;
+    push_grouped(u128::from(end), text)?;
+    text.push_str(": is the size of the disc right?\n")
+}
+
+/// That a volume takes less than half of a disc with this last block, if it does.
+#[tactic(auto, unfolding(crate::specs::VolumeLines::end_line))]
+fn push_end(text: &mut String, partitions: &[Partition], last: u32) -> Result<(), OutOfMemory>
+    ensures { OnOk result (string_bytes text.new ≡ string_bytes text.old ++ end_line (map partition_now partitions.now) last) }
+{
+    let end = partitions_end(partitions);
+    if end >= u64::from(last / 2) {
+        return Ok(());
+    }
+    push_before(text, end)
+}
+
+/// The line of a volume that opens, and one more if it takes less than half of the disc.
 #[tactic(auto, unfolding(crate::specs::VolumeLines::open_line))]
 fn push_open(text: &mut String, parts: &VolumeParts, last: u32) -> Result<(), OutOfMemory>
     ensures { OnOk result (string_bytes text.new ≡ string_bytes text.old ++ open_line (parts_now parts.now) last) }
@@ -90,7 +131,8 @@ fn push_open(text: &mut String, parts: &VolumeParts, last: u32) -> Result<(), Ou
     push_revision(text, parts)?;
     text.push_str("   ")?;
     push_disc_size(text, last)?;
-    text.push_str("\n")
+    text.push_str("\n")?;
+    push_end(text, &parts.partitions, last)
 }
 
 /// Numbers in a row, `and` before the last.
@@ -117,9 +159,9 @@ fn push_holes(text: &mut String, blocks: &[u32]) -> Result<(), OutOfMemory>
         [] => text.push_str("blocks are needed"),
         [only] => write!(text, "block {only} is needed"),
         _ => {
-            text.push_str("blocks ")?;
+            text.push_str("at least one of the blocks ")?;
             push_numbers(text, blocks)?;
-            text.push_str(" are needed")
+            text.push_str(" is needed")
         }
     }
 }
@@ -167,7 +209,7 @@ fn push_faulty(text: &mut String, fault: VolumeFault) -> Result<(), OutOfMemory>
     text.push_str("\n")
 }
 
-/// Appends the first line: what the volume is, or why it does not open.
+/// Appends the first line: what the volume is, or why it does not open; and one more if it takes less than half of the disc.
 ///
 /// # Errors
 ///

@@ -206,7 +206,7 @@ but 33 49
 $ page --size-of a.map --out p.html disc.tab
 status 1
 error
-file-has p.html <div>does not open: blocks 33 and 49 are needed</div>\n<div>Guarantee  nothing seen contradicts the standard;</div>\n<div>           2 unknown blocks could</div>\n<div>Disc       599 known   2 not known   0 in conflict</div>\n
+file-has p.html <div>does not open: at least one of the blocks 33 and 49 is needed</div>\n<div>Guarantee  nothing seen contradicts the standard;</div>\n<div>           2 unknown blocks could</div>\n<div>Disc       599 known   2 not known   0 in conflict</div>\n
 
 = a_mapfile_that_gives_none
 # One that is not there, or is no mapfile of a pass, is refused before an input is opened; one that ends where no disc does gives a number out of range.
@@ -283,6 +283,12 @@ error-begins error: the following required arguments were not provided:\n  <IN>.
 
 $ report -v --wide --last 600 a.map
 error-begins error: unexpected argument '--wide' found\n
+
+$ list -v --whole --last 600 a.map
+error error: unexpected argument '--whole' found\n\n  tip: to pass '--whole' as a value, use '-- --whole'\n\nUsage: udfsalvage list [OPTIONS] [--last <N> | --size <BYTES>] <IN>...\n\nFor more information, try '--help'.\n  the first column of list is the standing: udfsalvage list ... | grep ^whole\n
+
+$ report -v --torn --last 600 a.map
+error error: unexpected argument '--torn' found\n\n  tip: to pass '--torn' as a value, use '-- --torn'\n\nUsage: udfsalvage report [OPTIONS] [--last <N> | --size <BYTES>] <IN>...\n\nFor more information, try '--help'.\n  list --torn prints what is not whole\n
 
 $ report -v
 error error: the following required arguments were not provided:\n  --last <N>\n  <IN>...\n\nUsage: udfsalvage report [OPTIONS] [--last <N> | --size <BYTES>] <IN>...\n\nFor more information, try '--help'.\n«WHERE»

@@ -105,7 +105,7 @@ $ extract -v --last 600 --to new --unnamed out disc.tab
 refused udfsalvage: cannot make the folder\n  out already exists, or is where another output goes, or is in a folder that does not exist; --unnamed needs a new folder\n
 
 $ extract -v --last 600 --to new --only /A --only /none disc.tab
-refused udfsalvage: --only 2 is no node\n  /none is not one of the paths that list --paths prints\n
+refused udfsalvage: --only 2 is no node\n  /none is not one of the paths that list --paths prints: capital and small letters differ\n
 
 $ extract -v --last 600 --to new --only /* disc.tab
 refused udfsalvage: --only 1 is no node\n  /* is not one of the paths that list --paths prints: patterns are not taken; name a folder for all that is in it\n
@@ -213,22 +213,22 @@ then status 1
 then error
 
 $ report -v --last 600 disc.tab
-remarked the volume does not open: blocks 33 and 49 are needed\nNothing seen contradicts the standard; 2 unknown blocks could\n
+remarked the volume does not open: at least one of the blocks 33 and 49 is needed\nNothing seen contradicts the standard; 2 unknown blocks could\n
 
 $ report --json --verbose --last 600 disc.tab
-remarked the volume does not open: blocks 33 and 49 are needed\nNothing seen contradicts the standard; 2 unknown blocks could\n
+remarked the volume does not open: at least one of the blocks 33 and 49 is needed\nNothing seen contradicts the standard; 2 unknown blocks could\n
 
 $ list -v --last 600 disc.tab
-remarked the volume does not open: blocks 33 and 49 are needed\n
+remarked the volume does not open: at least one of the blocks 33 and 49 is needed\n
 
 $ reread -v --last 600 disc.tab
-remarked the volume does not open: blocks 33 and 49 are needed\n
+remarked the volume does not open: at least one of the blocks 33 and 49 is needed\n
 
 $ reread -v --last 600 --mapfile want.map disc.tab
-remarked the volume does not open: blocks 33 and 49 are needed\n
+remarked the volume does not open: at least one of the blocks 33 and 49 is needed\n
 
 $ extract -v --last 600 --to new disc.tab
-remarked the volume does not open: blocks 33 and 49 are needed\n
+remarked the volume does not open: at least one of the blocks 33 and 49 is needed\n
 
 $ report --last 600 disc.tab
 remarked
@@ -286,11 +286,11 @@ then status 1
 
 but 256
 $ report -v --last 5000 disc.tab
-remarked the volume does not open: blocks 256, 4744 and 5000 are needed; no block after 600 is known: is --last right?\nNothing seen contradicts the standard; 3 unknown blocks could\n
+remarked the volume does not open: at least one of the blocks 256, 4744 and 5000 is needed; no block after 600 is known: is --last right?\nNothing seen contradicts the standard; 3 unknown blocks could\n
 
 but 256 344 600
 $ report -v --last 600 disc.tab
-remarked the volume does not open: blocks 256, 344 and 600 are needed\nNothing seen contradicts the standard; 3 unknown blocks could\n
+remarked the volume does not open: at least one of the blocks 256, 344 and 600 is needed\nNothing seen contradicts the standard; 3 unknown blocks could\n
 
 = sparing_copies_that_disagree
 # The second copy of the sparing table, in block 200, maps the packet elsewhere.

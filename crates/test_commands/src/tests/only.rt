@@ -143,7 +143,7 @@ directory 30 A=3
 but
 
 $ extract -v --last 600 --to out --only /B --only /E disc.tab
-refused udfsalvage: --only 2 is no node\n  /E is not one of the paths that list --paths prints\n
+refused udfsalvage: --only 2 is no node\n  /E is not one of the paths that list --paths prints: capital and small letters differ\n
 
 = only_what_is_asked_for_is_judged
 # A torn file that is not asked for lacks nothing, and neither does a torn folder with a file that is asked for.

@@ -133,7 +133,7 @@ $ reread --last 600 --only /DX/none --only /DY --only /none disc.tab
 refused udfsalvage: --only 2 is no node\n
 
 $ reread -v --last 600 --only /none disc.tab
-refused udfsalvage: --only 1 is no node\n  /none is not one of the paths that list --paths prints\n
+refused udfsalvage: --only 1 is no node\n  /none is not one of the paths that list --paths prints: capital and small letters differ\n
 
 $ reread --last 600 --only /none --mapfile m disc.tab
 refused udfsalvage: --only 1 is no node\n

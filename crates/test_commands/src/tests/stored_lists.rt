@@ -97,7 +97,7 @@ remarked no remarks on the volume: an input could not be read again\n
 inputs-fail 4152
 $ list -v --last 600 disc.tab
 done 1
-remarked the volume does not open: blocks 32 and 48 are needed\n
+remarked the volume does not open: at least one of the blocks 32 and 48 is needed\n
 
 = a_device_that_fails_in_the_middle_of_a_list_of_what_is_lost
 # The headers are read twice, 56 bytes, and then the anchor: to open the volume, again for the places of its blocks, and again for what is remarked.
@@ -147,7 +147,7 @@ remarked no remarks on the volume: an input could not be read again\n
 inputs-fail 4152
 $ report -v --last 600 disc.tab
 done 1 UDFREPORT1 last 600\nknown 1 conflict 0\nvolume holes 32 48\nreread 32 unknown\nreread 48 unknown\nend\n
-remarked the volume does not open: blocks 32 and 48 are needed\nwhether the guarantee holds is not known: an input could not be read again\n
+remarked the volume does not open: at least one of the blocks 32 and 48 is needed\nwhether the guarantee holds is not known: an input could not be read again\n
 
 = a_device_that_fails_in_the_middle_of_a_summary_or_a_page
 # The anchor is read for the report, for whether the guarantee holds, and for what is counted, before anything is printed; the page is begun before it is counted.

@@ -17,7 +17,7 @@ done 1 TEST   UDF 1.50, type 1   601 blocks, 1.2 MB\n1 file is complete, 1 damag
 
 but 256 344 600
 $ summary --last 600 disc.tab
-done 1 does not open: blocks 256, 344 and 600 are needed\nGuarantee  nothing seen contradicts the standard;\n           3 unknown blocks could\nDisc       598 known   3 not known   0 in conflict\n           3 of these are needed, in 3 places\nNext       udfsalvage reread --last 600 --group 16 --mapfile want.map disc.tab\n           ddrescue -d -r3 -b2048 -m want.map /dev/sr0 p598.img p598.map\n           udfsalvage merge --out disc.tab disc.tab --ddrescue p598.img p598.map\n
+done 1 does not open: at least one of the blocks 256, 344 and 600 is needed\nGuarantee  nothing seen contradicts the standard;\n           3 unknown blocks could\nDisc       598 known   3 not known   0 in conflict\n           3 of these are needed, in 3 places\nNext       udfsalvage reread --last 600 --group 16 --mapfile want.map disc.tab\n           ddrescue -d -r3 -b2048 -m want.map /dev/sr0 p598.img p598.map\n           udfsalvage merge --out disc.tab disc.tab --ddrescue p598.img p598.map\n
 
 = what_to_do_next
 # A block in conflict that is needed has to be forgotten first; the rules are kept in what is suggested; and a volume that the strict rules refuse for its revision is read by the wide ones.
@@ -249,6 +249,16 @@ but
 $ summary --last 600 disc.tab
 out-begins (no label)   UDF 2.01, type 1   601 blocks, 1.2 MB\n
 
+= a_disc_that_is_twice_as_large_as_its_volume
+# The partition ends with block 571: of a disc of 1,145 blocks it is at least half, and of one of 1,147 it is not.
+but
+
+$ summary --last 1144 disc.tab
+out-begins TEST   UDF 1.50, type 1   1,145 blocks, 2.3 MB\n2 files are complete\n
+
+$ summary --last 1146 disc.tab
+out-begins TEST   UDF 1.50, type 1   1,147 blocks, 2.3 MB\n           the volume ends before block 572: is the size of the disc right?\n2 files are complete\n
+
 = of_which_readings_differ
 # Two readings of block 278 differ, which holds 2,048 of 5,000 bytes: the file is disputed, and not torn. Where 277 is not known either, it is torn.
 
@@ -257,7 +267,7 @@ also 278 01
 $ summary --last 600 disc.tab
 out-has 1 file is complete,\n1 disputed: two readings differ;\n
 out-has Files      1 whole (2 B)\n           1 disputed: two readings differ, nothing is lost\nFolders
-out-has Torn       disputed  /A   2.0 kB of 5.0 kB\nNext
+out-has Torn       disputed  /A   2.0 kB of 5.0 kB differ\nNext
 
 but 277
 also 278 01
@@ -371,7 +381,7 @@ directory 1 letters=3
 
 but 278
 $ summary --last 600 disc.tab
-out-has Torn       41.0 %  /abcdefghijklm...efghijklmnopqr   2.0 kB of 5.0 kB lost\n
+out-has Torn       41.0 %  /abcdefghijkl...fghijklmnopqr   2.0 kB of 5.0 kB lost\n
 
 but 275
 $ summary --last 600 disc.tab
