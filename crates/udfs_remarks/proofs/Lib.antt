@@ -1,2 +1,3 @@
 mod Untold
 mod IndexStates
+mod WantedNodes

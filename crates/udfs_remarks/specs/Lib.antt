@@ -1,2 +1,3 @@
 pub mod NoReports
 pub mod IndexBlocks
+pub mod Wanted

@@ -9,6 +9,7 @@ pub mod no_reports;
 pub mod remarks;
 mod steady;
 mod structures;
+pub mod wanted;
 
 pub use index_blocks::IndexBlocks;
 pub use steady::SteadyStore;

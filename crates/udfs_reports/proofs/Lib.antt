@@ -6,3 +6,4 @@ mod ToldTexts
 mod LostTexts
 mod StoreListings
 mod ToldVolumes
+mod PathLemmas

@@ -27,7 +27,6 @@ use Rattle.udfs_volume.specs.declared.profiles.Profile.{Profile}
 use Rattle.udfs_witnesses.specs.Groups.{AreGrouped}
 use Rattle.udfs_rescue.specs.Writing.{domain_text}
 use Rattle.udfs_salvage.specs.Found.{Found}
-use Rattle.udfs_salvage.specs.InLine.{reread_for}
 use Rattle.udfs_salvage.specs.Reports.{Report}
 use Rattle.udfs_salvage.specs.RereadTexts.{number_lines}
 use Rattle.udfs_salvage.specs.Texts.{line}
@@ -43,20 +42,20 @@ use Rattle.udfs_common.specs.Volumes.{IsNoVolume, IsVolumeUnread, OfToldVolume}
 use Rattle.udfs_common.specs.declared.refusal.Refusal.{Refusal}
 use Rattle.udfs_common.specs.declared.refusal.Refusal.TheVariants.{Memory, Output, Spared}
 use Rattle.udfs_reports.specs.Comparing.{compared}
-use Rattle.udfs_reports.specs.Paths.{IsReportFor, IsUntoldFor, are_whole}
+use Rattle.udfs_reports.specs.Paths.{IsReportFor, IsUntoldFor, are_whole, blocks_for}
 
 -- the lines of the numbers of the blocks to read again for some paths were printed, and the result is whether all nodes at them, below them and above them are whole, and there are some
 pub record TellsNumbers (only : List (List ℕ)) (profile : Profile) (last : ℕ) (old new : Stream) (whole : Bool) (table : Table) : Type 0 where
   pub report : Report
   pub is_report : IsReportFor only profile last table report
-  pub prints : Wrote old new (number_lines (reread_for only report))
+  pub prints : Wrote old new (number_lines (blocks_for only report))
   pub says : whole ≡ are_whole only report
 
 -- a beginning of them was printed, and then the sink failed
 pub record StopsNumbers (only : List (List ℕ)) (profile : Profile) (last : ℕ) (old new : Stream) (refusal : Refusal) (table : Table) : Type 0 where
   pub report : Report
   pub is_report : IsReportFor only profile last table report
-  pub stopped : Failed old new (number_lines (reread_for only report))
+  pub stopped : Failed old new (number_lines (blocks_for only report))
   pub told : refusal ≡ Output
 
 -- nothing was printed, or a beginning
@@ -112,9 +111,9 @@ pub record IsDomain (r : RereadRequest) (last : ℕ) (table : Table) (bytes text
   pub report : Report
   pub is_report : IsReportFor (texts r.only.items) r.volume.profile last table report
   pub all : List ℕ
-  pub are_mapped : AreMapped r table last report.volume (reread_for (texts r.only.items) report) all
+  pub are_mapped : AreMapped r table last report.volume (blocks_for (texts r.only.items) report) all
   pub is : bytes ≡ domain_text all last
-  pub says : text ≡ domain_line r.group (reread_for (texts r.only.items) report) (length (compared r.witnesses table last report.volume (reread_for (texts r.only.items) report))) (length all)
+  pub says : text ≡ domain_line r.group (blocks_for (texts r.only.items) report) (length (compared r.witnesses table last report.volume (blocks_for (texts r.only.items) report))) (length all)
   pub all_is_whole : whole ≡ are_whole (texts r.only.items) report
 
 -- these bytes are the mapfile, and its line was printed

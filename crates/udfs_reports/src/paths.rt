@@ -1,43 +1,125 @@
-//! The nodes at some paths, below them and above them, of the volume of a store of blocks.
+//! The nodes that some words of `--only` stand for, below them and above them, of the volume of a store of blocks.
 
-ghost use Rattle.std.specs.Prelude.{◌≡◌, IfOk, IfErr, OnErr, OnOk};
+ghost use Rattle.std.specs.Prelude.{◌≡◌, ◌++◌, IfOk, IfErr, OnErr, OnOk, alloc_error, map, true};
+ghost use Rattle.std.specs.List.{list_any};
+ghost use Rattle.std.specs.String.{string_bytes};
 ghost use Rattle.udfs_lattice.specs.Tables.{Table};
-ghost use Rattle.udfs_salvage.specs.InLine.{AllMayBe};
+ghost use Rattle.udfs_salvage.specs.InLine.{names_nothing, nodes_for, reread_for};
 ghost use Rattle.udfs_salvage.specs.Listings.{listing_by};
 ghost use Rattle.udfs_salvage.specs.Reports.{IsOutOfRange};
 ghost use Rattle.udfs_volume.specs.Seen.{IsRising};
 ghost use Rattle.udfs_words.specs.Requests.{texts};
-ghost use Rattle.udfs_reports.specs.Paths.{IsListingFor, IsUntoldFor, MayNotBeNode};
+ghost use Rattle.udfs_remarks.specs.Wanted.{all_wanted, stands_for_nothing, wanted};
+ghost use Rattle.udfs_reports.specs.Paths.{AllStand, IsListingFor, IsUntoldFor, MayNotBeNode};
 
 use crate::list::nodes_in;
 use std::alloc::{AllocError, Global};
 use udfs_common::refusal::Refusal;
 use udfs_lattice::{BlockStore, ReadFault};
 use udfs_remarks::no_reports::refused_report;
+use udfs_remarks::wanted::stands_for;
 use udfs_salvage::in_line::{first_nowhere, keep_in_line};
 use udfs_salvage::{Listing, ReportStore, StoreError};
 use udfs_volume::Profile;
 use udfs_words::request::RereadRequest;
 
-/// Checks that each of these paths is that of a node of a listing, or may be hidden by a directory that is not whole. Fails with `NoNode` and the number of the
-/// first that is not, counted from 1; or with `Memory` where memory runs out.
+/// The texts of some paths.
+fn texts_of<'a>(alloc: Global, paths: &'a [String]) -> Result<Vec<&'a str>, AllocError>
+    ensures { IfOk result (λ words. texts words.items ≡ map string_bytes paths.now) }
+{
+    let mut words = Vec::new(alloc);
+    for path in paths {
+        words.push(path.as_str())?;
+    }
+    Ok(words)
+}
+
+/// Whether one of these paths is that of no node of a listing, above which all directories are whole.
+fn is_any_nowhere<B: BlockStore>(
+    alloc: Global,
+    paths: &[String],
+    listing: &Listing<'_, B>,
+) -> Result<bool, AllocError>
+    ensures { IfOk result (λ yes. yes ≡ list_any (names_nothing (listing_by B.states listing.now).nodes) (map string_bytes paths.now)) }
+{
+    let words = texts_of(alloc, paths)?;
+    let first = first_nowhere(alloc, &words, listing)?;
+    Ok(first.is_some())
+}
+
+/// Adds some paths to others.
+fn push_all(paths: &mut Vec<String>, found: Vec<String>) -> Result<(), AllocError>
+    ensures { OnOk result (map string_bytes paths.new.items ≡ map string_bytes paths.old.items ++ map string_bytes found.items) }
+{
+    for path in found {
+        paths.push(path)?;
+    }
+    Ok(())
+}
+
+/// Adds the paths that a word stands for in a listing, and returns whether it stands for nothing.
+fn add_paths<B: BlockStore>(
+    alloc: Global,
+    paths: &mut Vec<String>,
+    listing: &Listing<'_, B>,
+    word: &str,
+) -> Result<bool, AllocError>
+    ensures added { OnOk result (map string_bytes paths.new.items ≡ map string_bytes paths.old.items ++ wanted true (listing_by B.states listing.now).nodes word.now) }
+    ensures nothing { IfOk result (λ nothing. nothing ≡ stands_for_nothing (listing_by B.states listing.now).nodes word.now) }
+{
+    let found = stands_for(alloc, true, listing, word)?;
+    let nothing = is_any_nowhere(alloc, &found, listing)?;
+    push_all(paths, found)?;
+    Ok(nothing)
+}
+
+/// The paths that these words stand for in a listing. Fails with `NoNode` and the number of the first word that stands for nothing, counted from 1; or with
+/// `Memory` where memory runs out.
 fn judge_paths<B: BlockStore>(
     alloc: Global,
     only: &[&str],
     listing: &Listing<'_, B>,
-) -> Result<(), Refusal>
-    ensures may_be { OnOk result (AllMayBe (texts only.now) (listing_by B.states listing.now).nodes) }
+) -> Result<Vec<String>, Refusal>
+    ensures paths { IfOk result (λ paths. map string_bytes paths.items ≡ all_wanted true (listing_by B.states listing.now).nodes (texts only.now)) }
+    ensures may_be { OnOk result (AllStand (texts only.now) (listing_by B.states listing.now).nodes) }
     ensures refused { IfErr result (MayNotBeNode (texts only.now) (listing_by B.states listing.now)) }
 {
-    match first_nowhere(alloc, only, listing) {
-        Ok(None) => Ok(()),
-        Ok(Some(number)) => Err(Refusal::NoNode(number)),
-        Err(AllocError) => Err(Refusal::Memory(AllocError)),
+    let mut paths = Vec::new(alloc);
+    for (index, word) in only.iter().enumerate() {
+        match add_paths(alloc, &mut paths, listing, word) {
+            Ok(false) => {}
+            Ok(true) => return Err(Refusal::NoNode(index + 1)),
+            Err(AllocError) => return Err(Refusal::Memory(AllocError)),
+        }
+    }
+    Ok(paths)
+}
+
+/// The listing of the nodes alone that are at these paths, below them or above them.
+fn kept_at<'a, B: BlockStore>(
+    alloc: Global,
+    listing: Listing<'a, B>,
+    paths: &[String],
+) -> Result<Listing<'a, B>, Refusal>
+    ensures blocks { IfOk result (λ kept. (listing_by B.states kept).reread ≡ reread_for (map string_bytes paths.now) (listing_by B.states listing.entry)) }
+    ensures rising { IsRising (listing_by B.states listing.entry).reread → IfOk result (λ kept. IsRising (listing_by B.states kept).reread) }
+    ensures nodes { IfOk result (λ kept. (listing_by B.states kept).nodes ≡ nodes_for (map string_bytes paths.now) (listing_by B.states listing.entry)) }
+    ensures volume { IfOk result (λ kept. (listing_by B.states kept).volume ≡ (listing_by B.states listing.entry).volume) }
+    ensures of { IfOk result (λ kept. kept.table.now ≡ listing.entry.table.now) }
+    ensures refused { IfErr result (λ refusal. refusal ≡ Refusal.Memory alloc_error) }
+{
+    let words = match texts_of(alloc, paths) {
+        Ok(words) => words,
+        Err(AllocError) => return Err(Refusal::Memory(AllocError)),
+    };
+    match keep_in_line(alloc, listing, &words) {
+        Ok(kept) => Ok(kept),
+        Err(_) => Err(Refusal::Memory(AllocError)),
     }
 }
 
-/// The listing of the nodes at these paths, below them and above them, of a store's volume by the rules of a profile, where `last` is its last block. Without
-/// paths it has all nodes.
+/// The listing of the nodes that these words stand for, below them and above them, of a store's volume by the rules of a profile, where `last` is its last block.
+/// Without words it has all nodes.
 fn listed_at<'a, B: ReportStore>(
     alloc: Global,
     blocks: &'a B,
@@ -57,23 +139,23 @@ fn listed_at<'a, B: ReportStore>(
         Err(StoreError::Salvage(error)) => return Ok(Err(refused_report(error))),
         Err(StoreError::Unread) => return Err(ReadFault),
     };
-    match judge_paths(alloc, only, &whole) {
-        Ok(()) => {}
+    let paths = match judge_paths(alloc, only, &whole) {
+        Ok(paths) => paths,
         Err(refusal) => return Ok(Err(refusal)),
-    }
-    match keep_in_line(alloc, whole, only) {
+    };
+    match kept_at(alloc, whole, &paths) {
         Ok(kept) => Ok(Ok(kept)),
-        Err(error) => Ok(Err(refused_report(error))),
+        Err(refusal) => Ok(Err(refusal)),
     }
 }
 
-/// The listing of the nodes at the paths that a request asks for, below them and above them, of a store's volume, where `last` is its last block; of all nodes
-/// where it names no path.
+/// The listing of the nodes that the words of a request stand for, below them and above them, of a store's volume, where `last` is its last block; of all nodes
+/// where it has none.
 ///
 /// # Errors
 ///
 /// `ReadFault` where the bytes of a known block could not be read. In the result: why the store has no report; `NoNode` with the number, counted from 1, of the
-/// first path that is no node's, where all directories above it are whole; or `Memory` where memory runs out.
+/// first word that stands for nothing: for no node, and for nothing that a directory may hide which is not whole; or `Memory` where memory runs out.
 pub fn listed_for<'a, B: ReportStore>(
     alloc: Global,
     blocks: &'a B,

@@ -284,7 +284,7 @@ fn reread<'a>(alloc: Global, given: Given) -> Result<Command<'a>, AllocError>
         command,
         only(
             alloc,
-            "Ask only for this file or folder, by its{n}path as report prints it",
+            "Ask only for this file or folder, by its{n}path as report prints it, or a pattern",
         ),
     );
     let command = add_arg(command, mapfile);

@@ -44,6 +44,55 @@ done 1 276\n278\n
 $ reread --last 600 --only /D/A --only / disc.tab
 done 1 276\n278\n
 
+= a_pattern_stands_for_all_that_fit_it
+# `*` is any part of a name, `?` one character, and a name `**` any number of names. Only `**` passes a `/`, and letters differ by their case. The entry of the file
+# `C` is not read: for `/**/A` and `/*/*/none` it may be a folder that has the name.
+fill 274 00
+directory 1 D=20 DX=30 E=50
+directory 20 A=3
+directory 30 C=4
+directory 50
+but 276 278
+
+$ reread --last 600 --only /D* disc.tab
+done 1 276\n278\n
+
+$ reread --last 600 --only /D? disc.tab
+done 1 276\n
+
+$ reread --last 600 --only /D*/A disc.tab
+done 1 278\n
+
+$ reread --last 600 --only /*/C disc.tab
+done 1 276\n
+
+$ reread --last 600 --only /D/**/A disc.tab
+done 1 278\n
+
+$ reread --last 600 --only /**/A disc.tab
+done 1 276\n278\n
+
+$ reread --last 600 --only /D/? --only /?X/C disc.tab
+done 1 276\n278\n
+
+$ reread --last 600 --only /E* disc.tab
+done 0
+
+$ reread --last 600 --only /*/*/none disc.tab
+done 1 276\n
+
+$ reread --last 600 --only /*/none disc.tab
+refused udfsalvage: --only 1 is no node\n
+
+$ reread --last 600 --only /*C disc.tab
+refused udfsalvage: --only 1 is no node\n
+
+$ reread --last 600 --only /D --only D* disc.tab
+refused udfsalvage: --only 2 is no node\n
+
+$ reread -v --last 600 --only /d* disc.tab
+refused udfsalvage: --only 1 is no node\n  /d* is not one of the paths that list --paths prints, and as a pattern it fits none: * and ? do not pass a /, and ** is a whole name\n
+
 = a_torn_folder_above
 # The folder `D` has two blocks, 293 and 294, and the second is not known. The file `A` is found in the first, so it is whole, and the names in the second may
 # lie below `D` too. Nothing is lacking of `DX`.
@@ -68,8 +117,22 @@ done 1 294\n
 $ reread --last 600 --only /DX/A disc.tab
 done 0
 
+$ reread --last 600 --only /*/none disc.tab
+done 1 294\n
+
+$ reread --last 600 --only /DX*/none disc.tab
+refused udfsalvage: --only 1 is no node\n
+
 but 278 294
 $ reread --last 600 --only /D/A disc.tab
+done 1 278\n294\n
+
+but 278 294
+$ reread --last 600 --only /*/none disc.tab
+done 1 294\n
+
+but 278 294
+$ reread --last 600 --only /D*/A disc.tab
 done 1 278\n294\n
 
 but 278 294

@@ -1,0 +1,13 @@
+-- What the words so far stand for; each of them stands for something.
+use Rattle.std.proofs.Common.{◌≡◌, ◌<◌, ℕ, List, Some, map, slice_get, take, true, false}
+use Rattle.std.specs.String.{string_bytes}
+use Rattle.udfs_words.specs.Requests.{texts}
+use Rattle.udfs_salvage.specs.Listings.{listing_by}
+use Rattle.udfs_remarks.specs.Wanted.{all_wanted, stands_for_nothing}
+use Rattle.udfs_reports.proofs.paths.judge_paths.Given as goal
+
+abbrev pub invariant-loop-index : goal.invariant-loop-index
+invariant-loop-index g l = record {
+  paths : map string_bytes l.paths.items ≡ all_wanted true (listing_by g.B.BlockStore.states l.listing).nodes (take l.index (texts l.only));
+  stand : (k : ℕ) (word : List ℕ) → k < l.index → slice_get (texts l.only) k ≡ Some word → stands_for_nothing (listing_by g.B.BlockStore.states l.listing).nodes word ≡ false;
+}
