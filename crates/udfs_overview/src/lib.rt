@@ -55,7 +55,7 @@ pub use next_commands::{
     Margins, Pass, cleaned, push_extract, push_inputs_end, push_needed_steps, push_summary_by,
     table_path,
 };
-pub use node_columns::lost_of;
+pub use node_columns::{lost_of, push_stamp};
 pub use node_list::{ListForm, write_list_by, write_listing_by};
 pub use node_widenings::push_wider;
 pub use repeating::{

@@ -119,8 +119,12 @@ fn push_short(text: &mut String, time: &str) -> Result<(), OutOfMemory>
     }
 }
 
-/// A time that is known.
-fn push_stamp(text: &mut String, stamp: Stamp) -> Result<(), OutOfMemory>
+/// Appends a time that is known, without the fraction of its second where that is 0.
+///
+/// # Errors
+///
+/// If memory runs out. Then a part may be appended.
+pub fn push_stamp(text: &mut String, stamp: Stamp) -> Result<(), OutOfMemory>
     ensures { OnOk result (string_bytes text.new ≡ string_bytes text.old ++ short_time (stamp_text stamp)) }
 {
     let mut time = String::new(*text.allocator());

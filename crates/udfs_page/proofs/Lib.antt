@@ -2,6 +2,7 @@ mod Beginnings
 mod Closings
 mod Counts
 mod Html
+mod Insides
 mod Lines
 mod LostNodes
 mod Nesting

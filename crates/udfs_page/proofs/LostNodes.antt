@@ -22,14 +22,18 @@ use Rattle.udfs_overview.specs.LostLists.{place_of}
 use Rattle.udfs_overview.specs.Searched.{Searched, rootless_now, searched_by}
 use Rattle.udfs_overview.specs.declared.lost_found.Rootless.{Rootless}
 use Rattle.udfs_overview.proofs.LostPieces.{files_full, folder_full}
+use Rattle.udfs_page.proofs.Insides.{counts_same}
+use Rattle.udfs_page.specs.Insides.{inside_of}
 use Rattle.udfs_page.specs.LostSections.{lost_files_html, lost_from, lost_in, lost_tree_html, root_end, root_html, rooted_html}
 use Rattle.udfs_page.specs.Trees.{nodes_html}
 
 -- a lost tree has its nodes, the folder first
 pub rooted : (v : View) (two : Bool) (ns : List NodeFields) (t : LostTree) (n : NodeFields) (inside : List NodeFields) → t.nodes.items ≡ n ∷ inside
-    → root_html (has_tail v n.icb) two (place_of v ns t.folder) t.folder (full_node v n) ++ nodes_html v (map (full_node v) inside) ++ root_end (map (full_node v) inside) ≡ lost_tree_html v two ns t
+    → root_html (has_tail v n.icb) two (place_of v ns t.folder) t.folder (full_node v n) (inside_of inside) ++ nodes_html v (map (full_node v) inside) ++ root_end (map (full_node v) inside) ≡ lost_tree_html v two ns t
 unfolding lost_tree_html rooted_html
-rooted v two ns t n inside are = ap (λ l. rooted_html v two (place_of v ns t.folder) t.folder (map (full_node v) l)) (sym are)
+rooted v two ns t n inside are =
+    (λ i. root_html (has_tail v n.icb) two (place_of v ns t.folder) t.folder (full_node v n) (counts_same v inside i) ++ nodes_html v (map (full_node v) inside) ++ root_end (map (full_node v) inside))
+    ∙ ap (λ l. rooted_html v two (place_of v ns t.folder) t.folder (map (full_node v) l)) (sym are)
 
 pub unrooted : (v : View) (two : Bool) (ns : List NodeFields) (t : LostTree) → t.nodes.items ≡ [] → [] ≡ lost_tree_html v two ns t
 unfolding lost_tree_html rooted_html

@@ -38,9 +38,9 @@ style_picture =
 abbrev pub style_tree : List ℕ
 style_tree =
     markup (codes "details details,details>div{margin-left:1.4rem}details details details details details details details details>*{margin-left:0}details>div{padding-left:1rem}summary{cursor:pointer}small{color:var(--s);margin-left:.7em}\n")
-    ++ markup (codes ".t>summary>bdi,.f>summary>bdi,.t>bdi,.f>bdi{color:var(--m);font-weight:600}\n")
+    ++ markup (codes ".t>summary>bdi,.f>summary>bdi,.t>bdi,.f>bdi{color:var(--m);font-weight:600}.i>summary>bdi{color:var(--m)}\n")
     ++ markup (codes "@media print{body{max-width:none;padding:0;font-size:9pt;columns:2}h1,h2,p,ul,.s,figure,pre,table{column-span:all}h2{break-after:avoid}figure,tr,pre{break-inside:avoid}\n")
-    ++ markup (codes "figure>svg{width:11cm;print-color-adjust:exact}details::details-content{content-visibility:visible;block-size:auto}}\n")
+    ++ markup (codes "figure>svg{width:11cm;print-color-adjust:exact}details::details-content{content-visibility:visible;block-size:auto}div.w>small:last-child:after{content:', whole'}}\n")
 
 -- what begins the head, up to its title
 abbrev pub before_title : List ℕ

@@ -10,6 +10,7 @@ pub mod NextSteps
 pub mod Overviews
 pub mod TornTables
 pub mod UnreadTables
+pub mod Insides
 pub mod Trees
 pub mod LostSections
 pub mod Pages

@@ -21,9 +21,11 @@ use Rattle.udfs_overview.specs.Searched.{Searched}
 use Rattle.udfs_overview.specs.TornLists.{shown_path}
 use Rattle.udfs_overview.specs.declared.lost_tallies.LostTally.{LostTally}
 use Rattle.udfs_overview.specs.declared.verdicts.Verdict.{Verdict}
+use Rattle.udfs_page.specs.Insides.{inside_html, inside_of}
 use Rattle.udfs_page.specs.Markups.{markup, shown_name}
 use Rattle.udfs_page.specs.NextSteps.{commands_html}
-use Rattle.udfs_page.specs.Trees.{class_of, leaf_front, nodes_html, note_html}
+use Rattle.udfs_page.specs.Trees.{date_html, folder_front, leaf_front, nodes_html, note_html}
+use Rattle.udfs_page.specs.declared.insides.Inside.{Inside}
 
 -- ---- a lost tree
 
@@ -36,11 +38,11 @@ abbrev pub in_html : Option (List (List ℕ)) → List ℕ
 in_html None = []
 in_html (Some path) = place_html path
 
--- the lost folder begins, which has no name but its block, and whose body is read by a tail or not
-unfoldable pub root_html : Bool → Bool → Option (List (List ℕ)) → Icb → NodeFields → List ℕ
-root_html tail two place folder n =
-    markup (codes "<details class=") ++ markup (class_of n.standing) ++ markup (codes "><summary><bdi>") ++ lost_word two folder ++ markup (codes "/</bdi>")
-    ++ note_html tail n.standing n.kind n.size ++ in_html place ++ markup (codes "</summary>\n")
+-- the lost folder begins, which has no name but its block, whose body is read by a tail or not, and which has this inside it
+unfoldable pub root_html : Bool → Bool → Option (List (List ℕ)) → Icb → NodeFields → Inside → List ℕ
+root_html tail two place folder n held =
+    folder_front 1 n.standing held.amiss ++ markup (codes "<bdi>") ++ lost_word two folder ++ markup (codes "/</bdi>")
+    ++ note_html tail n.standing n.kind n.size ++ inside_html held ++ in_html place ++ markup (codes "</summary>\n")
 
 -- a folder in which there is nothing ends behind itself, and each other one behind what is in it
 abbrev pub root_end : List NodeFields → List ℕ
@@ -50,7 +52,7 @@ root_end (n ∷ ns) = []
 -- the nodes of a lost tree: the folder first, and then all that is in it
 unfoldable pub rooted_html : View → Bool → Option (List (List ℕ)) → Icb → List NodeFields → List ℕ
 rooted_html view two place folder [] = []
-rooted_html view two place folder (n ∷ ns) = root_html (has_tail view n.icb) two place folder n ++ nodes_html view ns ++ root_end ns
+rooted_html view two place folder (n ∷ ns) = root_html (has_tail view n.icb) two place folder n (inside_of ns) ++ nodes_html view ns ++ root_end ns
 
 -- a lost tree
 unfoldable pub lost_tree_html : View → Bool → List NodeFields → LostTree → List ℕ
@@ -62,7 +64,7 @@ lost_tree_html view two nodes t = rooted_html view two (place_of view nodes t.fo
 unfoldable pub file_html : Bool → Bool → Unnamed → List ℕ
 file_html tail two u =
     leaf_front u.standing ++ markup (codes "<bdi>") ++ lost_word two (icb_of_entry u) ++ markup (codes "</bdi>")
-    ++ note_html tail u.standing u.kind (Some u.size) ++ markup (codes "</div>\n")
+    ++ note_html tail u.standing u.kind (Some u.size) ++ date_html (Some u.stamp) ++ markup (codes "</div>\n")
 
 -- a lost file in a view
 abbrev pub lost_file_html : View → Bool → Unnamed → List ℕ

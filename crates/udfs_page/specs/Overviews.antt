@@ -53,9 +53,13 @@ abbrev pub names_missing_html : ℕ → Option (List (List ℕ)) → List ℕ
 names_missing_html torn None = []
 names_missing_html torn (Some path) = missing_html torn path
 
+-- how many directories are torn, if any
+abbrev pub torn_folders_html : ℕ → List ℕ
+torn_folders_html torn = if torn == 0 then [] else markup (codes "   ") ++ counted_html torn (codes " torn")
+
 -- how many directories there are
 abbrev pub folder_counts_html : Tally → List ℕ
-folder_counts_html t = markup (codes "Folders    ") ++ counted_html t.whole_folders (codes " whole   ") ++ counted_html t.torn_folders (codes " torn")
+folder_counts_html t = markup (codes "Folders    ") ++ counted_html t.whole_folders (codes " whole") ++ torn_folders_html t.torn_folders
 
 -- the line of the folders, if there are any; the root is one
 unfoldable pub folders_html : Tally → Option (List (List ℕ)) → List ℕ

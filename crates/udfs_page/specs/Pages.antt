@@ -9,7 +9,7 @@ use Rattle.udfs_walk.specs.NodeFields.{NodeFields}
 use Rattle.udfs_salvage.specs.Found.{Found}
 use Rattle.udfs_salvage.specs.Reports.{Report}
 use Rattle.udfs_volume.specs.declared.profiles.Profile.{Profile}
-use Rattle.udfs_overview.specs.Repeating.{GivenWords}
+use Rattle.udfs_overview.specs.Repeating.{GivenWords, inputs_words}
 use Rattle.udfs_overview.specs.Searched.{looked_in}
 use Rattle.udfs_overview.specs.SummaryFigures.{figures_of}
 use Rattle.udfs_overview.specs.TornLists.{first_rows, torn_rows}
@@ -20,7 +20,7 @@ use Rattle.udfs_overview.specs.declared.verdicts.Verdict.{Verdict}
 use Rattle.udfs_page.specs.Arcs.{arcs_of}
 use Rattle.udfs_page.specs.Heads.{head_text}
 use Rattle.udfs_page.specs.LostSections.{lost_html}
-use Rattle.udfs_page.specs.Markups.{markup}
+use Rattle.udfs_page.specs.Markups.{markup, shown_name}
 use Rattle.udfs_page.specs.Naming.{CalledWords}
 use Rattle.udfs_page.specs.NextSteps.{next_html}
 use Rattle.udfs_page.specs.Overviews.{overview_html, title_html}
@@ -40,9 +40,13 @@ files_html blocks (found f) r = tree_html (view blocks f.space) r.nodes
 files_html blocks (holes unread) r = []
 files_html blocks (faulty f) r = []
 
--- what the page says of the disc: what it is, what is known of it, as a picture with these arcs, and what to do next
+-- what was read: the inputs, as they were given
+abbrev pub inputs_html : GivenWords → List ℕ
+inputs_html g = markup (codes "<p>Read from") ++ shown_name (inputs_words g) ++ markup (codes "</p>\n")
+
+-- what the page says of the disc: what it is, what is known of it, what was read, the blocks as a picture with these arcs, and what to do next
 abbrev pub disc_html : GivenWords → CalledWords → Figures → List Mark → Report → Verdict → List ℕ
-disc_html g called f marks r answer = overview_html f r answer ++ picture_html marks (f.last + 1) ++ next_html g called f r
+disc_html g called f marks r answer = (overview_html f r answer ++ inputs_html g) ++ picture_html marks (f.last + 1) ++ next_html g called f r
 
 -- all before the tree of the nodes
 unfoldable pub front_html : GivenWords → CalledWords → Figures → List Mark → List Row → ℕ → Report → Verdict → List ℕ

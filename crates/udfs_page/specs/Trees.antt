@@ -1,23 +1,28 @@
 -- The files and folders, each inside its folder.
 --     class_of standing          how whole a node is, as the style knows it
 --     note_html tail s k size    what the page says of a node beside its name
---     node_html tail n next      a node, whose body is read by a tail or not, and what begins or ends with it
+--     node_html tail n next inside    a node, whose body is read by a tail or not, and what begins or ends with it
 --     tree_html view nodes       all nodes
-use Rattle.std.specs.Prelude.{ℕ, Bool, ◌-◌, nat_lt, List, [], ◌∷◌, ◌++◌, Option, Some, None, codes, flat_map, length, if◌then◌else◌}
+use Rattle.std.specs.Prelude.{ℕ, Bool, ◌-◌, ◌==◌, ◌&&◌, nat_lt, List, [], ◌∷◌, ◌++◌, Option, Some, None, codes, flat_map, length, if◌then◌else◌}
 use Rattle.udfs_file.specs.declared.faults.Kind.{Kind}
 use Rattle.udfs_file.specs.declared.faults.Kind.TheVariants as kind
 use Rattle.udfs_file.specs.declared.faults.NodeFault.{NodeFault}
+use Rattle.udfs_osta.specs.StampTexts.{stamp_text}
+use Rattle.udfs_osta.specs.declared.stamps.Stamp.{Stamp}
 use Rattle.udfs_space.specs.Places.{View}
 use Rattle.udfs_walk.specs.NodeBodies.{has_tail}
 use Rattle.udfs_walk.specs.NodeFields.{NodeFields}
+use Rattle.udfs_walk.specs.Unsettled.{is_whole}
 use Rattle.udfs_walk.specs.declared.standings.Standing.{Standing}
 use Rattle.udfs_walk.specs.declared.standings.Standing.TheVariants as standing
 use Rattle.udfs_salvage.specs.NodeTexts.{node_fault_number}
 use Rattle.udfs_overview.specs.Figures.{size_text}
-use Rattle.udfs_overview.specs.NodeLists.{lost_of}
+use Rattle.udfs_overview.specs.NodeLists.{lost_of, short_time}
 use Rattle.udfs_overview.specs.SafeNames.{safe_name}
 use Rattle.udfs_page.specs.Holes.{closings, ranges_html}
+use Rattle.udfs_page.specs.Insides.{inside, inside_html, inside_of}
 use Rattle.udfs_page.specs.Markups.{figure, markup, shown_name}
+use Rattle.udfs_page.specs.declared.insides.Inside.{Inside}
 
 -- ---- what the page says of a node
 
@@ -85,29 +90,45 @@ told_html tail n = shown_name (own_name n.path) ++ note_html tail n.standing n.k
 
 -- ---- what begins and ends with it
 
--- what a folder begins with: that of the root is open
-abbrev pub details_front : ℕ → List ℕ
-details_front depth = if nat_lt 0 depth then markup (codes "<details class=") else markup (codes "<details open class=")
+-- how whole a folder is, in which so many entries and folders are not whole: a whole one is marked where there are any
+abbrev pub class_in : Standing → ℕ → List ℕ
+class_in standing.Whole amiss = if amiss == 0 then codes "w" else codes "i"
+class_in (standing.Torn torn) amiss = codes "t"
+class_in standing.Loop amiss = codes "f"
+class_in (standing.Fault f) amiss = codes "f"
+
+-- a folder is shut where all of it is whole; the root never is
+abbrev pub is_shut : ℕ → Standing → ℕ → Bool
+is_shut depth s amiss = nat_lt 0 depth && is_whole s && amiss == 0
+
+-- what a folder begins with
+abbrev pub details_front : Bool → List ℕ
+details_front shut = if shut then markup (codes "<details class=") else markup (codes "<details open class=")
 
 -- a folder begins, in which there is something
-abbrev pub folder_front : ℕ → Standing → List ℕ
-folder_front depth s = details_front depth ++ markup (class_of s) ++ markup (codes "><summary>")
+abbrev pub folder_front : ℕ → Standing → ℕ → List ℕ
+folder_front depth s amiss = details_front (is_shut depth s amiss) ++ markup (class_in s amiss) ++ markup (codes "><summary>")
 
--- the node begins a folder
-abbrev pub folder_html : Bool → NodeFields → List ℕ
-folder_html tail n = folder_front (length n.path) n.standing ++ told_html tail n ++ markup (codes "</summary>\n")
+-- the node begins a folder, which has this inside it
+abbrev pub folder_html : Bool → NodeFields → Inside → List ℕ
+folder_html tail n held = folder_front (length n.path) n.standing held.amiss ++ told_html tail n ++ inside_html held ++ markup (codes "</summary>\n")
 
 -- what the line of a node begins with
 abbrev pub leaf_front : Standing → List ℕ
 leaf_front s = markup (codes "<div class=") ++ markup (class_of s) ++ markup (codes ">")
 
+-- the time of its last change, where that is known
+abbrev pub date_html : Option Stamp → List ℕ
+date_html None = []
+date_html (Some stamp) = markup (codes "<small>") ++ short_time (stamp_text stamp) ++ markup (codes "</small>")
+
 -- the line of the node, after which `ended` folders end
 abbrev pub leaf_html : Bool → NodeFields → ℕ → List ℕ
-leaf_html tail n ended = leaf_front n.standing ++ told_html tail n ++ markup (codes "</div>\n") ++ closings ended
+leaf_html tail n ended = leaf_front n.standing ++ told_html tail n ++ date_html n.stamp ++ markup (codes "</div>\n") ++ closings ended
 
--- a node, by how many names the path of the next one has
-unfoldable pub node_html : Bool → NodeFields → ℕ → List ℕ
-node_html tail n next = if nat_lt (length n.path) next then folder_html tail n else leaf_html tail n (length n.path - next)
+-- a node, by how many names the path of the next one has, and what is inside it
+unfoldable pub node_html : Bool → NodeFields → ℕ → Inside → List ℕ
+node_html tail n next held = if nat_lt (length n.path) next then folder_html tail n held else leaf_html tail n (length n.path - next)
 
 -- ---- all nodes
 
@@ -116,18 +137,18 @@ abbrev pub first_depth : List NodeFields → ℕ
 first_depth [] = 0
 first_depth (n ∷ ns) = length n.path
 
--- each node, and how many names the path of the next one has
-abbrev pub with_next : List NodeFields → List (NodeFields × ℕ)
-with_next [] = []
-with_next (n ∷ ns) = (n, first_depth ns) ∷ with_next ns
+-- each node, and those behind it
+abbrev pub with_rest : List NodeFields → List (NodeFields × List NodeFields)
+with_rest [] = []
+with_rest (n ∷ ns) = (n, ns) ∷ with_rest ns
 
--- a node in a view, with how many names the path of the next one has
-abbrev pub node_in : View → NodeFields × ℕ → List ℕ
-node_in view p = node_html (has_tail view p.0.icb) p.0 p.1
+-- a node in a view, with those behind it
+abbrev pub node_in : View → NodeFields × List NodeFields → List ℕ
+node_in view p = node_html (has_tail view p.0.icb) p.0 (first_depth p.1) (inside_of (inside (length p.0.path) p.1))
 
 -- the nodes in their order, in which those of a folder come after it
 unfoldable pub nodes_html : View → List NodeFields → List ℕ
-nodes_html view nodes = flat_map (node_in view) (with_next nodes)
+nodes_html view nodes = flat_map (node_in view) (with_rest nodes)
 
 -- all nodes
 abbrev pub tree_html : View → List NodeFields → List ℕ

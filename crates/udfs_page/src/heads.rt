@@ -89,7 +89,7 @@ fn push_style_tree(text: &mut String) -> Result<(), OutOfMemory>
     )?;
     push_markup(
         text,
-        ".t>summary>bdi,.f>summary>bdi,.t>bdi,.f>bdi{color:var(--m);font-weight:600}\n",
+        ".t>summary>bdi,.f>summary>bdi,.t>bdi,.f>bdi{color:var(--m);font-weight:600}.i>summary>bdi{color:var(--m)}\n",
     )?;
     push_markup(
         text,
@@ -97,7 +97,7 @@ fn push_style_tree(text: &mut String) -> Result<(), OutOfMemory>
     )?;
     push_markup(
         text,
-        "figure>svg{width:11cm;print-color-adjust:exact}details::details-content{content-visibility:visible;block-size:auto}}\n",
+        "figure>svg{width:11cm;print-color-adjust:exact}details::details-content{content-visibility:visible;block-size:auto}div.w>small:last-child:after{content:', whole'}}\n",
     )
 }
 

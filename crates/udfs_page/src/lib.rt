@@ -6,6 +6,7 @@ mod disc_arcs;
 mod escapes;
 mod heads;
 mod holes;
+mod insides;
 mod lost_sections;
 mod markups;
 mod naming;

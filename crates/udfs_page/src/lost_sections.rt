@@ -14,14 +14,16 @@ ghost use Rattle.udfs_lost.specs.LostFiles.{lost_files};
 ghost use Rattle.udfs_overview.specs.LostLists.{place_of};
 ghost use Rattle.udfs_overview.specs.Repeating.{given_now};
 ghost use Rattle.udfs_overview.specs.Searched.{looked_in, rootless_now};
+ghost use Rattle.udfs_page.specs.Insides.{inside_of};
 ghost use Rattle.udfs_page.specs.LostSections.{file_html, in_html, lost_command, lost_file_html, lost_files_html, lost_from, lost_front, lost_html, lost_in, lost_tree_html, place_html, root_end, root_html, some_files_html};
 ghost use Rattle.udfs_page.specs.NextSteps.{commands_html};
 ghost use Rattle.udfs_page.specs.Trees.{nodes_html};
 
+use crate::insides::{Inside, counted, push_inside};
 use crate::markups::push_markup;
 use crate::next_steps::push_commands;
 use crate::overviews::push_path;
-use crate::trees::{push_class, push_leaf_front, push_note, put_nodes};
+use crate::trees::{push_date, push_folder_front, push_leaf_front, push_note, put_nodes};
 use std::alloc::Global;
 use udfs_lattice::{BlockStore, ReadFault};
 use udfs_lost::{LostTree, lost_files_by};
@@ -108,7 +110,7 @@ fn push_in(alloc: Global, text: &mut String, place: Option<&Path>) -> Result<(),
     }
 }
 
-/// A lost folder with this standing begins.
+/// A lost folder with this standing begins, which has this inside it.
 #[tactic(auto, unfolding(crate::specs::LostSections::root_html))]
 fn push_root(
     alloc: Global,
@@ -119,16 +121,17 @@ fn push_root(
     folder: LbAddr,
     node: &Node,
     standing: &Standing,
+    held: Inside,
 ) -> Result<(), OutOfMemory>
     ensures { OnOk result (string_bytes text.new ≡ string_bytes text.old
-        ++ root_html tail two (option_map (λ path. path.now) place.entry) folder (node_with node.now standing.now)) }
+        ++ root_html tail two (option_map (λ path. path.now) place.entry) folder (node_with node.now standing.now) held) }
 {
-    push_markup(text, "<details class=")?;
-    push_class(text, standing)?;
-    push_markup(text, "><summary><bdi>")?;
+    push_folder_front(text, 1, standing, held.amiss)?;
+    push_markup(text, "<bdi>")?;
     push_lost_word(text, two, folder)?;
     push_markup(text, "/</bdi>")?;
     push_note(text, tail, standing, node.kind, node.size)?;
+    push_inside(text, held)?;
     push_in(alloc, text, place)?;
     push_markup(text, "</summary>\n")
 }
@@ -144,15 +147,16 @@ fn put_root_as<W: Sink>(
     folder: LbAddr,
     node: &Node,
     standing: &Standing,
+    held: Inside,
 ) -> Result<(), RunError>
     ensures { PassesOn (W.stream sink.old) (W.stream sink.new) (string_bytes text.old) (string_bytes text.new)
-        (root_html tail two (option_map (λ path. path.now) place.entry) folder (node_with node.now standing.now)) result }
+        (root_html tail two (option_map (λ path. path.now) place.entry) folder (node_with node.now standing.now) held) result }
 {
-    push_root(alloc, text, tail, two, place, folder, node, standing)?;
+    push_root(alloc, text, tail, two, place, folder, node, standing, held)?;
     pass_on(text, sink)
 }
 
-/// A lost folder begins, whose blocks and holes are found first, and in which of these nodes it is.
+/// A lost folder begins, which has these nodes inside it; its blocks and holes are found first, and in which of these nodes it is.
 fn put_root<B: BlockStore, W: Sink>(
     alloc: Global,
     text: &mut String,
@@ -162,9 +166,10 @@ fn put_root<B: BlockStore, W: Sink>(
     nodes: &[Node],
     folder: LbAddr,
     node: &Node,
+    inside: &[Node],
 ) -> Result<(), PrintError>
     ensures printed { B.tells → PassesOnBy (W.stream sink.old) (W.stream sink.new) (string_bytes text.old) (string_bytes text.new)
-        (root_html (has_tail (view_by B.states view.entry) node.now.icb) two (place_of (view_by B.states view.entry) nodes.now folder) folder (full_node (view_by B.states view.entry) node.now)) result }
+        (root_html (has_tail (view_by B.states view.entry) node.now.icb) two (place_of (view_by B.states view.entry) nodes.now folder) folder (full_node (view_by B.states view.entry) node.now) (inside_of inside.now)) result }
     ensures fails { IsErrOf result PrintError.Unread → B.fails }
 {
     let full = full_standing_by(alloc, view, node.icb, &node.standing)?;
@@ -173,7 +178,10 @@ fn put_root<B: BlockStore, W: Sink>(
         Ok(place) => place,
         Err(ReadFault) => return Err(PrintError::Unread),
     };
-    put_root_as(alloc, text, sink, tail, two, place, folder, node, &full)?;
+    let held = counted(inside);
+    put_root_as(
+        alloc, text, sink, tail, two, place, folder, node, &full, held,
+    )?;
     Ok(())
 }
 
@@ -200,11 +208,11 @@ fn put_rooted<B: BlockStore, W: Sink>(
     inside: &[Node],
 ) -> Result<(), PrintError>
     ensures printed { B.tells → PassesOnBy (W.stream sink.old) (W.stream sink.new) (string_bytes text.old) (string_bytes text.new)
-        (root_html (has_tail (view_by B.states view.entry) node.now.icb) two (place_of (view_by B.states view.entry) nodes.now folder) folder (full_node (view_by B.states view.entry) node.now)
+        (root_html (has_tail (view_by B.states view.entry) node.now.icb) two (place_of (view_by B.states view.entry) nodes.now folder) folder (full_node (view_by B.states view.entry) node.now) (inside_of inside.now)
         ++ nodes_html (view_by B.states view.entry) (map (full_node (view_by B.states view.entry)) inside.now) ++ root_end (map (full_node (view_by B.states view.entry)) inside.now)) result }
     ensures fails { IsErrOf result PrintError.Unread → B.fails }
 {
-    put_root(alloc, text, sink, view, two, nodes, folder, node)?;
+    put_root(alloc, text, sink, view, two, nodes, folder, node, inside)?;
     put_nodes(alloc, text, sink, view, inside)?;
     push_root_end(text, inside)?;
     Ok(())
@@ -276,6 +284,7 @@ fn push_file(
     push_lost_word(text, two, file.address())?;
     push_markup(text, "</bdi>")?;
     push_note(text, tail, standing, file.kind, Some(file.size))?;
+    push_date(text, Some(file.stamp))?;
     push_markup(text, "</div>\n")
 }
 

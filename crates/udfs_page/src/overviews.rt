@@ -17,7 +17,7 @@ ghost use Rattle.udfs_overview.specs.TornLists.{shown_path};
 ghost use Rattle.udfs_overview.specs.VolumeLines.{label_text, volume_line};
 ghost use Rattle.udfs_page.specs.Escapes.{html_lines, html_text};
 ghost use Rattle.udfs_page.specs.Markups.{shown_name};
-ghost use Rattle.udfs_page.specs.Overviews.{counted_html, folder_counts_html, folders_html, found_html, guarantee_html, missing_html, names_missing_html, next_line, open_html, opened_html, other_folders_html, overview_html, title_html, unlawful_html, volume_html};
+ghost use Rattle.udfs_page.specs.Overviews.{counted_html, folder_counts_html, folders_html, found_html, guarantee_html, missing_html, names_missing_html, next_line, open_html, opened_html, other_folders_html, overview_html, title_html, torn_folders_html, unlawful_html, volume_html};
 
 use crate::escapes::{push_html, push_lines};
 use crate::markups::{push_markup, push_shown};
@@ -148,13 +148,24 @@ fn push_names_missing(
     }
 }
 
+/// How many directories are torn, if any.
+fn push_torn_folders(text: &mut String, torn: usize) -> Result<(), OutOfMemory>
+    ensures { OnOk result (string_bytes text.new ≡ string_bytes text.old ++ torn_folders_html torn) }
+{
+    if torn == 0 {
+        return Ok(());
+    }
+    push_markup(text, "   ")?;
+    push_counted(text, torn, " torn")
+}
+
 /// How many directories there are.
 fn push_folder_counts(text: &mut String, tally: &Tally) -> Result<(), OutOfMemory>
     ensures { OnOk result (string_bytes text.new ≡ string_bytes text.old ++ folder_counts_html tally.now) }
 {
     push_markup(text, "Folders    ")?;
-    push_counted(text, tally.whole_folders, " whole   ")?;
-    push_counted(text, tally.torn_folders, " torn")
+    push_counted(text, tally.whole_folders, " whole")?;
+    push_torn_folders(text, tally.torn_folders)
 }
 
 /// The line of the folders, if there are any.

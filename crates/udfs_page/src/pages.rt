@@ -9,18 +9,19 @@ ghost use Rattle.udfs_salvage.specs.Reports.{Report};
 ghost use Rattle.udfs_salvage.specs.StorePrinting.{PassesOnBy, PrintsBy};
 ghost use Rattle.udfs_salvage.specs.Surveys.{survey_by};
 ghost use Rattle.udfs_page.specs.Heads.{head_text, page_mark};
-ghost use Rattle.udfs_overview.specs.Repeating.{GivenWords, given_now};
+ghost use Rattle.udfs_overview.specs.Repeating.{GivenWords, given_now, inputs_words};
 ghost use Rattle.udfs_overview.specs.UnreadLists.{unread_paths};
+ghost use Rattle.udfs_page.specs.Markups.{shown_name};
 ghost use Rattle.udfs_page.specs.Naming.{CalledWords, called_now};
-ghost use Rattle.udfs_page.specs.Overviews.{title_html};
-ghost use Rattle.udfs_page.specs.Pages.{disc_html, files_html, front_html, lacking_html, page_html};
+ghost use Rattle.udfs_page.specs.Overviews.{overview_html, title_html};
+ghost use Rattle.udfs_page.specs.Pages.{disc_html, files_html, front_html, inputs_html, lacking_html, page_html};
 ghost use Rattle.udfs_page.specs.UnreadTables.{unread_html};
 ghost use Rattle.udfs_overview.specs.declared.verdicts.Verdict.{Verdict};
 
 use crate::disc_arcs::{Mark, arcs};
 use crate::heads::{push_head_back, push_head_front, push_heading, push_titled};
 use crate::lost_sections::put_lost;
-use crate::markups::push_markup;
+use crate::markups::{push_markup, push_shown};
 use crate::naming::Called;
 use crate::next_steps::push_next;
 use crate::overviews::{push_overview, push_title};
@@ -31,7 +32,7 @@ use crate::unread_tables::push_unread;
 use std::alloc::Global;
 use udfs_lattice::BlockStore;
 use udfs_osta::OutOfMemory;
-use udfs_overview::{Counts, Figures, Given, TornFiles, Verdict, unread_in};
+use udfs_overview::{Counts, Figures, Given, TornFiles, Verdict, push_inputs, unread_in};
 use udfs_reading::Sink;
 use udfs_salvage::{PrintError, ReportStore, Survey, Volume, flush};
 
@@ -52,6 +53,39 @@ fn push_head(
     push_heading(text, title)
 }
 
+/// The inputs by themselves, as they were given.
+fn push_shown_inputs(alloc: Global, text: &mut String, given: &Given<'_>) -> Result<(), OutOfMemory>
+    ensures { OnOk result (string_bytes text.new ≡ string_bytes text.old ++ shown_name (inputs_words (given_now given.now))) }
+{
+    let mut words = String::new(alloc);
+    push_inputs(&mut words, given)?;
+    push_shown(text, &words)
+}
+
+/// What was read.
+fn push_read(alloc: Global, text: &mut String, given: &Given<'_>) -> Result<(), OutOfMemory>
+    ensures { OnOk result (string_bytes text.new ≡ string_bytes text.old ++ inputs_html (given_now given.now)) }
+{
+    push_markup(text, "<p>Read from")?;
+    push_shown_inputs(alloc, text, given)?;
+    push_markup(text, "</p>\n")
+}
+
+/// What the disc is, what is known of it, and what was read.
+fn push_overview_and_read<B: BlockStore>(
+    alloc: Global,
+    text: &mut String,
+    given: &Given<'_>,
+    survey: &Survey<'_, B>,
+    figures: &Figures,
+    answer: &Verdict,
+) -> Result<(), OutOfMemory>
+    ensures { OnOk result (string_bytes text.new ≡ string_bytes text.old ++ (overview_html figures.now (survey_by B.states survey.now) answer.now ++ inputs_html (given_now given.now))) }
+{
+    push_overview(alloc, text, survey, figures, answer)?;
+    push_read(alloc, text, given)
+}
+
 /// What the page says of the disc.
 fn push_about_disc<B: BlockStore>(
     alloc: Global,
@@ -66,7 +100,7 @@ fn push_about_disc<B: BlockStore>(
     requires few { length marks.now ≤ 2000 }
     ensures { OnOk result (string_bytes text.new ≡ string_bytes text.old ++ disc_html (given_now given.now) (called_now called.now) figures.now marks.now (survey_by B.states survey.now) answer.now) }
 {
-    push_overview(alloc, text, survey, figures, answer)?;
+    push_overview_and_read(alloc, text, given, survey, figures, answer)?;
     push_picture(text, marks, figures.last as u64 + 1)?;
     push_next(alloc, text, given, called, survey, figures)
 }

@@ -5,17 +5,30 @@ use std::test::Fail;
 
 static SCRIPT: &str = r#"
 = each_file_stands_inside_its_folders
-# Two directories, at the logical blocks 20 and 22, with a file each, of which the second's is not whole; and a directory in which there is nothing.
+# Two directories, at the logical blocks 20 and 22, with a file each, of which the second's is not whole; and a directory in which there is nothing. A folder is open where
+# something in it is not whole, and shut where all of it is.
 directory 1 p=20 q=22 z=24
 directory 20 x=4 s=22
 directory 22 y=3
 directory 24
-let Y <div class=t><bdi>y</bdi><small>5.0 kB, torn: 2.0 kB lost, bytes 2048&ndash;4095</small></div>\n
+let Y <div class=t><bdi>y</bdi><small>5.0 kB, torn: 2.0 kB lost, bytes 2048&ndash;4095</small><small>2001-07-04T09:30:00Z</small></div>\n
 
 but 278
 $ page --last 600 --out p.html disc.tab
 status 1
-file-ends p.html <h2>All files</h2>\n<details open class=w><summary><bdi>/</bdi><small>folder</small></summary>\n<details class=w><summary><bdi>p</bdi><small>folder</small></summary>\n<div class=w><bdi>x</bdi><small>2 B</small></div>\n<details class=w><summary><bdi>s</bdi><small>folder</small></summary>\n«Y»</details>\n</details>\n<details class=w><summary><bdi>q</bdi><small>folder</small></summary>\n«Y»</details>\n<div class=w><bdi>z</bdi><small>folder</small></div>\n</details>\n</body>\n</html>\n
+file-ends p.html <h2>All files</h2>\n<details open class=i><summary><bdi>/</bdi><small>folder</small><small>1 of 3 whole, 2 torn</small></summary>\n<details open class=i><summary><bdi>p</bdi><small>folder</small><small>1 of 2 whole, 1 torn</small></summary>\n<div class=w><bdi>x</bdi><small>2 B</small><small>2001-07-04T09:30:00Z</small></div>\n<details open class=i><summary><bdi>s</bdi><small>folder</small><small>0 of 1 whole, 1 torn</small></summary>\n«Y»</details>\n</details>\n<details open class=i><summary><bdi>q</bdi><small>folder</small><small>0 of 1 whole, 1 torn</small></summary>\n«Y»</details>\n<div class=w><bdi>z</bdi><small>folder</small><small>2001-07-04T09:30:00Z</small></div>\n</details>\n</body>\n</html>\n
+
+but
+$ page --last 600 --out p.html disc.tab
+status 0
+file-has p.html <details open class=w><summary><bdi>/</bdi><small>folder</small><small>3 of 3 whole</small></summary>\n<details class=w><summary><bdi>p</bdi><small>folder</small><small>2 of 2 whole</small></summary>\n
+file-has p.html <p>Read from<bdi> disc.tab</bdi></p>\n
+
+# The folder at 20 is torn itself, and the entry of the file in the one at 22 is not read: how many there are in it is not known.
+but 275 293
+$ page --last 600 --out p.html disc.tab
+status 1
+file-has p.html <details open class=i><summary><bdi>/</bdi><small>folder</small><small>0 of 1 whole, 1 not yet known</small></summary>\n<div class=t><bdi>p</bdi><small>folder, torn: 80 B lost, bytes 0&ndash;79</small><small>2001-07-04T09:30:00Z</small></div>\n<details open class=i><summary><bdi>q</bdi><small>folder</small><small>0 of 1 whole, 1 not yet known</small></summary>\n<div class=t><bdi>y</bdi><small>not yet known</small></div>\n</details>\n
 
 = a_tail
 # A file of 5,010 bytes with an extent of 5,000, which ends in its third block: the wide rules read it, and mark it. By the strict rules it is a fault.
@@ -24,11 +37,11 @@ but
 
 $ page --last 600 --profile wide --out p.html disc.tab
 status 0
-file-ends p.html <h2>All files</h2>\n<details open class=w><summary><bdi>/</bdi><small>folder</small></summary>\n<div class=w><bdi>A</bdi><small>5.0 kB, <abbr title='The last bytes are read behind its last extent, from the rest of the same block. If the disc was removed between two writes, they may be old.'>tail</abbr></small></div>\n<div class=w><bdi>B</bdi><small>2 B</small></div>\n</details>\n</body>\n</html>\n
+file-ends p.html <h2>All files</h2>\n<details open class=w><summary><bdi>/</bdi><small>folder</small><small>2 of 2 whole</small></summary>\n<div class=w><bdi>A</bdi><small>5.0 kB, <abbr title='The last bytes are read behind its last extent, from the rest of the same block. If the disc was removed between two writes, they may be old.'>tail</abbr></small><small>2001-07-04T09:30:00Z</small></div>\n<div class=w><bdi>B</bdi><small>2 B</small><small>2001-07-04T09:30:00Z</small></div>\n</details>\n</body>\n</html>\n
 
 $ page --last 600 --out p.html disc.tab
 status 1
-file-has p.html <div class=f><bdi>A</bdi><small>5.0 kB, fault 9</small></div>\n
+file-has p.html <div class=f><bdi>A</bdi><small>5.0 kB, fault 9</small><small>2001-07-04T09:30:00Z</small></div>\n
 
 = no_name_means_anything_to_a_browser
 # A name that would begin an element and turn the direction of text, and a label that would end the title.
@@ -57,30 +70,31 @@ write 282 48 \x01
 write 275 48 \x01
 write 276 48 \x01
 let FRONT <h2>Lost folders and files</h2>\n<p>No name that was read leads to these, so each is called by its block; what is inside a folder keeps its name. Some may be left over from what was deleted, and be old. This writes what is whole of them as well:</p>\n<pre>udfsalvage extract --last 600 --lost lost --to files disc.tab\n</pre>\n<p>The command <code>list --lost</code> also shows names that were found behind an unread block of a folder: evidence, not proof.</p>\n
-let ROOT <summary><bdi>lost:10/</bdi><small>folder</small><small>in <bdi>/</bdi></small></summary>\n
-let A <div class=w><bdi>A</bdi><small>5.0 kB</small></div>\n
-let B <div class=w><bdi>&lt;b&gt;&amp;&quot;&#39;\\u202E</bdi><small>2 B</small></div>\n
+let ROOT <summary><bdi>lost:10/</bdi><small>folder</small>
+let IN <small>in <bdi>/</bdi></small></summary>\n
+let A <div class=w><bdi>A</bdi><small>5.0 kB</small><small>2001-07-04T09:30:00Z</small></div>\n
+let B <div class=w><bdi>&lt;b&gt;&amp;&quot;&#39;\\u202E</bdi><small>2 B</small><small>2001-07-04T09:30:00Z</small></div>\n
 let END </details>\n</body>\n</html>\n
 
 but 274
 $ page --last 600 --out p.html disc.tab
 status 1
-file-ends p.html «FRONT»<details class=w>«ROOT»«A»«B»«END»
+file-ends p.html «FRONT»<details class=w>«ROOT»<small>2 of 2 whole</small>«IN»«A»«B»«END»
 
 but 274 278
 $ page --last 600 --out p.html disc.tab
 status 1
-file-ends p.html «FRONT»<details class=w>«ROOT»<div class=t><bdi>A</bdi><small>5.0 kB, torn: 2.0 kB lost, bytes 2048&ndash;4095</small></div>\n«B»«END»
+file-ends p.html «FRONT»<details open class=i>«ROOT»<small>1 of 2 whole, 1 torn</small>«IN»<div class=t><bdi>A</bdi><small>5.0 kB, torn: 2.0 kB lost, bytes 2048&ndash;4095</small><small>2001-07-04T09:30:00Z</small></div>\n«B»«END»
 
 but 274 283
 $ page --last 600 --out p.html disc.tab
 status 1
-file-ends p.html </summary>\n</details>\n<details class=w><summary>Files without a folder</summary>\n<div class=w><bdi>lost:3</bdi><small>5.0 kB</small></div>\n<div class=w><bdi>lost:4</bdi><small>2 B</small></div>\n«END»
+file-ends p.html </summary>\n</details>\n<details class=w><summary>Files without a folder</summary>\n<div class=w><bdi>lost:3</bdi><small>5.0 kB</small><small>2001-07-04T09:30:00Z</small></div>\n<div class=w><bdi>lost:4</bdi><small>2 B</small><small>2001-07-04T09:30:00Z</small></div>\n«END»
 
 but 272
 $ page --last 600 --out p.html disc.tab
 status 1
-file-ends p.html «FRONT»<details class=w><summary><bdi>lost:1/</bdi><small>folder</small></summary>\n<details class=w><summary><bdi>D</bdi><small>folder</small></summary>\n«A»«B»</details>\n«END»
+file-ends p.html «FRONT»<details class=w><summary><bdi>lost:1/</bdi><small>folder</small><small>2 of 2 whole</small></summary>\n<details class=w><summary><bdi>D</bdi><small>folder</small><small>2 of 2 whole</small></summary>\n«A»«B»</details>\n«END»
 
 but
 $ page --last 600 --out p.html disc.tab
@@ -101,7 +115,7 @@ file-has p.html <div>Guarantee  does not hold: a folder is inside itself: <bdi>/
 file-has p.html <h2>Not yet looked at</h2>\n<p>Each is a file or a whole folder, of unknown size.</p>\n<ul>\n<li><bdi>/r</bdi>\n</ul>\n
 file-has p.html <div>Folders    1 whole   2 torn: names may be missing in <bdi>/p</bdi> and 1 more</div>\n
 file-has p.html <div class=t><bdi>r</bdi><small>not yet known</small></div>\n
-file-has p.html <div class=f><bdi>t</bdi><small>folder, a loop: it is inside itself</small></div>\n
+file-has p.html <div class=f><bdi>t</bdi><small>folder, a loop: it is inside itself</small><small>2001-07-04T09:30:00Z</small></div>\n
 file-has p.html <div class=f><bdi>u</bdi><small>not yet known, fault 1</small></div>\n
 
 = no_more_than_twenty_torn_files_in_the_table

@@ -8,7 +8,7 @@ static WHAT_A_PAGE_HAS: &str = r"
 = the_page_of_a_torn_disc
 # There is one arc of a block that is lacking, and what it means, and 600 of the others, and what they mean.
 let MARK <!DOCTYPE html>\n<!-- a page of udfsalvage -->\n<html lang=en>\n
-let END <div class=w><bdi>B</bdi><small>2 B</small></div>\n</details>\n</body>\n</html>\n
+let END <div class=w><bdi>B</bdi><small>2 B</small><small>2001-07-04T09:30:00Z</small></div>\n</details>\n</body>\n</html>\n
 but 278
 then done 1
 then file-begins p.html «MARK»
@@ -20,7 +20,7 @@ then file-has p.html <title>blocks 278 to 278: needed</title></path>
 then file-has p.html <title>blocks 277 to 277: known</title></path>\n
 then file-has p.html --group 16 --mapfile want.map disc.tab\nddrescue -d -r3 -b2048 -m want.map /dev/sr0 p600.img p600.map\nudfsalvage merge --out disc.tab disc.tab --ddrescue p600.img p600.map\n</pre>\n
 then file-has p.html <tr><td><bdi>/A</bdi><td>41.0 %<td>2.0 kB<td>5.0 kB\n
-then file-has p.html <details open class=w><summary><bdi>/</bdi><small>folder</small></summary>\n<div class=t><bdi>A</bdi><small>5.0 kB, torn: 2.0 kB lost, bytes 2048&ndash;4095</small></div>\n
+then file-has p.html <details open class=i><summary><bdi>/</bdi><small>folder</small><small>1 of 2 whole, 1 torn</small></summary>\n<div class=t><bdi>A</bdi><small>5.0 kB, torn: 2.0 kB lost, bytes 2048&ndash;4095</small><small>2001-07-04T09:30:00Z</small></div>\n
 then file-has p.html «END»
 then file-counts p.html 2 <path class=m\x20
 then file-counts p.html 601 <path class=k\x20
@@ -46,7 +46,8 @@ but
 $ page --last 600 --out p.html disc.tab
 silent
 file-has p.html <p>All is whole.</p>\n
-file-has p.html <div class=w><bdi>A</bdi><small>5.0 kB</small></div>\n
+file-has p.html <div class=w><bdi>A</bdi><small>5.0 kB</small><small>2001-07-04T09:30:00Z</small></div>\n
+file-has p.html <div>Folders    1 whole</div>\n
 file-lacks p.html <table>
 
 = the_page_of_a_disc_that_does_not_open
@@ -93,7 +94,7 @@ static WHERE_A_PAGE_GOES: &str = r"
 = a_page_on_standard_output
 # `-` is standard output, and so is its own path.
 let MARK <!DOCTYPE html>\n<!-- a page of udfsalvage -->\n<html lang=en>\n
-let END <div class=w><bdi>B</bdi><small>2 B</small></div>\n</details>\n</body>\n</html>\n
+let END <div class=w><bdi>B</bdi><small>2 B</small><small>2001-07-04T09:30:00Z</small></div>\n</details>\n</body>\n</html>\n
 but 278
 folder /dev
 then status 1

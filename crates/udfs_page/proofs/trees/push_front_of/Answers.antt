@@ -1,6 +1,0 @@
-use Rattle.udfs_page.proofs.Texts.{three}
-use Rattle.udfs_page.proofs.trees.push_front_of.Goals as goal
-
-pub returns : goal.returns
-returns c =
-    three c.push_markup.result _ _ _ _ _ _ _ c.in_ok-push_begin.ensures c.in_ok-push_class.ensures c.push_markup.ensures
