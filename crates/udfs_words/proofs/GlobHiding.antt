@@ -1,5 +1,5 @@
 -- What is above something that fits.
-use Rattle.std.proofs.Common.{◌≡◌, ◌<◌, ◌≤◌, ◌⊎◌, ◌∙◌, ap, arith, inl, inr, length, refl, sym, ℕ, zero, suc, Bool, true, false, List, [], ◌∷◌, ◌++◌, map, take}
+use Rattle.std.proofs.Common.{◌≡◌, ◌+◌, ◌<◌, ◌≤◌, ◌⊎◌, ◌∙◌, ap, arith, inl, inr, length, refl, sym, ℕ, zero, suc, Bool, true, false, List, [], ◌∷◌, ◌++◌, map, take}
 use Rattle.std.specs.Prelude.{◌&&◌, ◌||◌}
 use Rattle.std.specs.List.{list_any, range_with_len}
 use Rattle.std.specs.Str.{chars}
@@ -25,7 +25,7 @@ front_fits (One takes ∷ steps) (x ∷ xs) ys h =
     let parts = both_hold (takes x) (fits steps (xs ++ ys)) h in
     let front = front_fits steps xs ys parts.1 in
     (suc front.0, (let least = front.1 in omega (arith, least)), ap (λ b. b && fits (take front.0 steps) xs) parts.0 ∙ front.2)
-front_fits (Any ∷ steps) xs ys h = inner xs h
+front_fits {A = A} (Any ∷ steps) xs ys h = inner xs h
   where
     longer : (x : A) (xs : List A) (k : ℕ) → k ≤ suc (length steps) → fits (take k (Any ∷ steps)) xs ≡ true → (j : ℕ) × (j ≤ suc (length steps)) × (fits (take j (Any ∷ steps)) (x ∷ xs) ≡ true)
     longer x [] zero least f = (1, omega arith, refl)
