@@ -9,4 +9,3 @@ mod GlobReaching
 pub mod GlobCounting
 mod GlobFronts
 mod GlobBelow
-mod GlobHiding
