@@ -146,11 +146,7 @@ fn push_loss(
     push_right(alloc, text, Column::Lost, rows, row)?;
     text.push_str(" of ")?;
     push_right(alloc, text, Column::Size, rows, row)?;
-    text.push_str(if row.disputed {
-        " differ\n"
-    } else {
-        " lost\n"
-    })
+    text.push_str(if row.disputed { " differ\n" } else { " lost\n" })
 }
 
 /// The line of a torn file, among the rows that are shown.

@@ -16,8 +16,8 @@ use Rattle.udfs_remarks.specs.Wanted.{is_meant, meant, meant_at, or_itself, want
 same_at : (blocks : Blocks) (volume : Answer Found) (hides : Bool) (word : List ℕ) (n : NodeFields) → meant_at hides word (full_in blocks volume n) ≡ meant_at hides word n
 same_at blocks volume hides word n =
     ap (λ whole. if is_meant word n then path_name n.path ∷ []
-        else if hides && (is_glob word && (not whole && (may_list n.kind && may_fit_below word (names_text n.path)))) then (path_name n.path ++ codes "/") ∷ []
-        else []) (same_whole_in blocks volume n.icb n.standing)
+    else if hides && (is_glob word && (not whole && (may_list n.kind && may_fit_below word (names_text n.path)))) then (path_name n.path ++ codes "/") ∷ []
+    else []) (same_whole_in blocks volume n.icb n.standing)
 
 -- at all
 same_meant : (blocks : Blocks) (volume : Answer Found) (hides : Bool) (word : List ℕ) (nodes : List NodeFields) → meant hides (map (full_in blocks volume) nodes) word ≡ meant hides nodes word

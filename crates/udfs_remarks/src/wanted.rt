@@ -133,12 +133,7 @@ fn or_itself(alloc: Global, word: &str, paths: Vec<String>) -> Result<Vec<String
 }
 
 /// The paths that a word stands for among some nodes.
-fn wanted(
-    alloc: Global,
-    hides: bool,
-    nodes: &[Node],
-    word: &str,
-) -> Result<Vec<String>, AllocError>
+fn wanted(alloc: Global, hides: bool, nodes: &[Node], word: &str) -> Result<Vec<String>, AllocError>
     ensures { IfOk result (λ paths. map string_bytes paths.items ≡ wanted hides nodes.now word.now) }
 {
     if is_node(alloc, nodes, word)? {

@@ -10,4 +10,4 @@ returns g c =
     let nodes = (listing_by g.B.BlockStore.states c.args.listing.now).nodes in
     let words = map string_bytes c.args.paths.now in
     c.is_some.ensures ∙ is_some_nowhere words nodes c.in_ok-first.first
-        (subst (λ (ws : List (List ℕ)). IsFirstOf ws nodes c.in_ok-first.first) c.in_ok-words.ensures c.in_ok-first.ensures)
+    (subst (λ (ws : List (List ℕ)). IsFirstOf ws nodes c.in_ok-first.first) c.in_ok-words.ensures c.in_ok-first.ensures)

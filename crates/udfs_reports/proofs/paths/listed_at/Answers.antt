@@ -24,7 +24,7 @@ returns-in-Ok-kept_at-clause-listing g c told t holds =
     let report = listing_by g.B.BlockStore.states c.in-Ok.whole in
     let headline = c.in-Ok.ensures.headline told t holds in
     let stand : map string_bytes c.deref.result.now ≡ all_wanted true report.nodes (texts c.args.only.now) =
-        ap (map string_bytes) c.deref.ensures.value ∙ c.in-Ok-judge_paths.ensures.paths in
+    ap (map string_bytes) c.deref.ensures.value ∙ c.in-Ok-judge_paths.ensures.paths in
     record {
       report = report;
       is_report = record {
