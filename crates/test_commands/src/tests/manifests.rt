@@ -202,7 +202,7 @@ then survives m text «OF_B»  old\n
 then survives out/A text «2048*a»«2048*b»«904*c»
 then survives out/B text Hi
 
-calls-fail 8 11
+calls-fail 8 23
 $ extract --last 600 --to out --manifest m disc.tab
 error udfsalvage: cannot write output\n
 has m text «OF_B»  old\n
