@@ -116,7 +116,7 @@ remarked no remarks on the volume: an input could not be read again\n
 inputs-fail 6200
 $ list --lost -v --last 600 disc.tab
 done 1
-remarked the volume does not open: blocks 32 and 48 are needed\n
+remarked the volume does not open: at least one of the blocks 32 and 48 is needed\n
 
 = a_device_that_fails_while_a_lost_folder_is_walked
 # The headers of the table, which are read twice, have 488 bytes, and the volume is opened by more than six blocks.
@@ -165,7 +165,8 @@ refused udfsalvage: input 1: fault 8 Io at record 0\n
 files 1
 
 = a_device_that_fails_in_the_middle_of_an_extraction
-# The anchor is read to open the volume, and again for what is remarked. Nothing is made of a volume that does not open.
+# The anchor is read to open the volume, again for the places of its blocks, and again for what is remarked: where only that fails, all is printed, and then the input
+# is named. Nothing is made of a volume that does not open.
 at 256
 then no-folder out
 then files 1
@@ -176,6 +177,12 @@ $ extract --last 600 --to out disc.tab
 refused udfsalvage: input 1: fault 8 Io at record 0\n
 
 inputs-fail 4152
+$ extract --last 600 --to out disc.tab
+status 2
+out volume holes 32 48\n
+error udfsalvage: input 1: fault 8 Io at record 0\n
+
+inputs-fail 6200
 $ extract --last 600 --to out disc.tab
 done 1 volume holes 32 48\n
 
