@@ -2,7 +2,7 @@ mod Beginnings
 mod Closings
 mod Counts
 mod Html
-mod Insides
+mod InsideLemmas
 mod Lines
 mod LostNodes
 mod Nesting

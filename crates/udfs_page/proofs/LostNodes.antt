@@ -22,7 +22,7 @@ use Rattle.udfs_overview.specs.LostLists.{place_of}
 use Rattle.udfs_overview.specs.Searched.{Searched, rootless_now, searched_by}
 use Rattle.udfs_overview.specs.declared.lost_found.Rootless.{Rootless}
 use Rattle.udfs_overview.proofs.LostPieces.{files_full, folder_full}
-use Rattle.udfs_page.proofs.Insides.{counts_same}
+use Rattle.udfs_page.proofs.InsideLemmas.{counts_same}
 use Rattle.udfs_page.specs.Insides.{inside_of}
 use Rattle.udfs_page.specs.LostSections.{lost_files_html, lost_from, lost_in, lost_tree_html, root_end, root_html, rooted_html}
 use Rattle.udfs_page.specs.Trees.{nodes_html}

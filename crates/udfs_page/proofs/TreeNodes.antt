@@ -8,7 +8,7 @@ use Rattle.udfs_walk.specs.Bare.{full_node}
 use Rattle.udfs_walk.specs.NodeBodies.{has_tail}
 use Rattle.udfs_walk.specs.NodeFields.{NodeFields}
 use Rattle.udfs_overview.specs.SafeNames.{safe_name}
-use Rattle.udfs_page.proofs.Insides.{inside_same}
+use Rattle.udfs_page.proofs.InsideLemmas.{inside_same}
 use Rattle.udfs_page.specs.Trees.{first_depth, node_html, node_in, nodes_html, own_name, with_rest}
 
 -- each node is there with those behind it
