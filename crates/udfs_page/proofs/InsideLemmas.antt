@@ -1,6 +1,6 @@
 -- What is counted of the nodes inside a folder is the same whether they have their blocks and holes or not.
-use Rattle.std.proofs.Common.{◌≡◌, ◌∙◌, refl, sym, ap, ℕ, Bool, true, false, List, [], ◌∷◌, cond, map}
-use Rattle.std.specs.Prelude.{if◌then◌else◌}
+use Rattle.std.proofs.Common.{◌≡◌, ◌∙◌, ◌+◌, refl, sym, ap, ℕ, Bool, true, false, List, [], ◌∷◌, cond, map}
+use Rattle.std.specs.Prelude.{fold, if◌then◌else◌}
 use Rattle.udfs_file.specs.declared.faults.Kind.{Kind}
 use Rattle.udfs_space.specs.Places.{View}
 use Rattle.udfs_walk.specs.Bare.{full_node, lists_at, with_lists}
@@ -8,7 +8,6 @@ use Rattle.udfs_walk.specs.NodeFields.{NodeFields}
 use Rattle.udfs_walk.specs.TornFields.{TornFields}
 use Rattle.udfs_walk.specs.declared.standings.Standing.{Standing}
 use Rattle.udfs_walk.specs.declared.standings.Standing.TheVariants.{Whole, Torn, Loop, Fault}
-use Rattle.udfs_overview.proofs.Counting.{sum_same}
 use Rattle.udfs_page.specs.Insides.{count_part, inside, inside_of, is_deeper, is_part}
 use Rattle.udfs_page.specs.declared.insides.Part.{Part}
 use Rattle.udfs_page.specs.declared.insides.Part.TheVariants as part
@@ -23,6 +22,12 @@ part_same part.Unread lists (Torn torn) k = refl
 part_same part.Amiss lists (Torn torn) k = refl
 part_same p lists Loop k = refl
 part_same p lists (Fault f) k = refl
+
+-- a sum over changed elements, each of which counts as before
+sum_same : (w : NodeFields → ℕ) (g : NodeFields → NodeFields) → ((n : NodeFields) → w (g n) ≡ w n) → (a : ℕ) (ns : List NodeFields)
+    → fold (λ b n. b + w n) a (map g ns) ≡ fold (λ b n. b + w n) a ns
+sum_same w g same a [] = refl
+sum_same w g same a (n ∷ ns) = ap (λ x. fold (λ b n. b + w n) (a + x) (map g ns)) (same n) ∙ sum_same w g same (a + w n) ns
 
 count_same : (v : View) (p : Part) (ns : List NodeFields) → count_part p (map (full_node v) ns) ≡ count_part p ns
 count_same v p ns = sum_same (λ n. cond (is_part p n.standing n.kind) 1 0) (full_node v) (λ n. ap (λ b. cond b 1 0) (part_same p (lists_at v n.icb) n.standing n.kind)) 0 ns
