@@ -39,6 +39,3 @@ returns-in-Ok-kept_at-clause-listing g c told t holds =
 
 pub returns-in-Ok-kept_at-clause-rising : goal.returns-in-Ok-kept_at-clause-rising
 returns-in-Ok-kept_at-clause-rising g c told = c.in-Ok-kept_at.ensures.rising (c.in-Ok.ensures.rising told)
-
-pub returns-in-Err-kept_at-clause-refused : goal.returns-in-Err-kept_at-clause-refused
-returns-in-Err-kept_at-clause-refused g c told t holds = inl (inl c.in-Err-kept_at.ensures.refused)
