@@ -1,5 +1,5 @@
 -- Words of `--only`, and what they stand for.
-use Rattle.std.proofs.Common.{◌≡◌, ◌≤◌, refl, sym, ◌∙◌, ap, arith, length, ℕ, zero, suc, Bool, true, false, List, [], ◌∷◌, ◌++◌, Option, Some, None, take}
+use Rattle.std.proofs.Common.{◌≡◌, ◌+◌, ◌≤◌, refl, sym, ◌∙◌, ap, arith, length, ℕ, zero, suc, Bool, true, false, List, [], ◌∷◌, ◌++◌, Option, Some, None, take}
 use Rattle.std.specs.Prelude.{◌||◌, flat_map, is_some, slice_get}
 use Rattle.std.specs.List.{list_any}
 use Rattle.udfs_walk.specs.NodeFields.{NodeFields}
@@ -26,7 +26,7 @@ is_some_nowhere words nodes None all = sym (none_any (names_nothing nodes) words
 is_some_nowhere words nodes (Some number) found = sym (any_at (names_nothing nodes) words found.index found.word found.stands found.nothing)
 
 -- what one more word stands for
-pub one_more : (f : List ℕ → List (List ℕ)) (words : List (List ℕ)) (k : ℕ) (w : List ℕ) → slice_get words k ≡ Some w → flat_map f (take (suc k) words) ≡ flat_map f (take k words) ++ f w
+one_more : (f : List ℕ → List (List ℕ)) (words : List (List ℕ)) (k : ℕ) (w : List ℕ) → slice_get words k ≡ Some w → flat_map f (take (suc k) words) ≡ flat_map f (take k words) ++ f w
 one_more f [] k w at = let bad : None ≡ Some w = at in absurd (let z : ⊥ = cc in z)
 one_more f (v ∷ words) zero w at = let same : v ≡ w = cc in ap (λ (u : List ℕ). f u ++ []) same ∙ append_nothing (f w)
   where
@@ -38,6 +38,9 @@ one_more f (v ∷ words) (suc k) w at = ap (λ (more : List (List ℕ)). f v ++ 
     joined : (xs ys zs : List (List ℕ)) → xs ++ (ys ++ zs) ≡ (xs ++ ys) ++ zs
     joined [] ys zs = refl
     joined (x ∷ xs) ys zs = ap (λ more. x ∷ more) (joined xs ys zs)
+
+pub one_more_at : (f : List ℕ → List (List ℕ)) (words : List (List ℕ)) (k : ℕ) (w : List ℕ) → slice_get words k ≡ Some w → flat_map f (take (k + 1) words) ≡ flat_map f (take k words) ++ f w
+one_more_at f words k w at = ap (λ (n : ℕ). flat_map f (take n words)) (let next : k + 1 ≡ suc k = omega arith in next) ∙ one_more f words k w at
 
 -- as many as there are, or more, are all
 pub all_of : (words : List (List ℕ)) (n : ℕ) → length words ≤ n → take n words ≡ words

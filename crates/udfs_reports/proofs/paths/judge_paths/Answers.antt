@@ -1,4 +1,4 @@
-use Rattle.std.proofs.Common.{rules, ◌<◌, length, ◌≡◌, ◌++◌, ◌+◌, ◌∙◌, sym, ap, subst, arith, Bor, ℕ, List, Some, inr, map, slice_get, suc, take, true, ⊎_elim, refl}
+use Rattle.std.proofs.Common.{rules, ◌<◌, length, ◌≡◌, ◌++◌, ◌+◌, ◌∙◌, sym, ap, subst, arith, Bor, ℕ, List, Some, inr, map, slice_get, take, true, ⊎_elim, refl}
 use Rattle.std.specs.Prelude.{flat_map}
 use Rattle.std.specs.String.{string_bytes}
 use Rattle.std.proofs.lemmas.Bool.{cases_lt}
@@ -8,7 +8,7 @@ use Rattle.udfs_salvage.specs.Listings.{listing_by}
 use Rattle.udfs_salvage.proofs.ChoosingLemmas.{word_at, word_there}
 use Rattle.udfs_salvage.proofs.InLineLists.{got_below}
 use Rattle.udfs_remarks.specs.Wanted.{all_wanted, stands_for_nothing, wanted}
-use Rattle.udfs_reports.proofs.PathLemmas.{all_of, one_more}
+use Rattle.udfs_reports.proofs.PathLemmas.{all_of, one_more_at}
 use Rattle.udfs_reports.proofs.paths.judge_paths.Goals as goal
 
 pub loop-index-preserved : goal.loop-index-preserved
@@ -19,8 +19,7 @@ loop-index-preserved g c =
       paths = c.in-Ok-false.ensures.added
           ∙ ap (λ (before : List (List ℕ)). before ++ wanted true nodes _) c.loop-index.invariant.paths
           ∙ ap (λ (w : List ℕ). all_wanted true nodes (take c.loop-index.index (texts c.args.only.now)) ++ wanted true nodes w) there.2
-          ∙ sym (one_more (wanted true nodes) (texts c.args.only.now) c.loop-index.index there.0 there.1)
-          ∙ ap (λ (n : ℕ). all_wanted true nodes (take n (texts c.args.only.now))) (let next : suc c.loop-index.index ≡ c.loop-index.index + 1 = omega arith in next);
+          ∙ sym (one_more_at (wanted true nodes) (texts c.args.only.now) c.loop-index.index there.0 there.1);
       stand = λ k word below at. ⊎_elim (λ less. c.loop-index.invariant.stand k word less at)
           (λ most.
           let is : k ≡ c.loop-index.index = omega (arith, below, most) in
