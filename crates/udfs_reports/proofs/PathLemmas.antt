@@ -39,8 +39,12 @@ one_more f (v ∷ words) (suc k) w at = ap (λ (more : List (List ℕ)). f v ++ 
     joined [] ys zs = refl
     joined (x ∷ xs) ys zs = ap (λ more. x ∷ more) (joined xs ys zs)
 
-pub one_more_at : (f : List ℕ → List (List ℕ)) (words : List (List ℕ)) (k : ℕ) (w : List ℕ) → slice_get words k ≡ Some w → flat_map f (take (k + 1) words) ≡ flat_map f (take k words) ++ f w
-one_more_at f words k w at = ap (λ (n : ℕ). flat_map f (take n words)) (let next : k + 1 ≡ suc k = omega arith in next) ∙ one_more f words k w at
+-- with it come the paths that it stands for
+pub added_paths : (f : List ℕ → List (List ℕ)) (words : List (List ℕ)) (k : ℕ) (w v : List ℕ) (new old : List (List ℕ)) → new ≡ old ++ f v → old ≡ flat_map f (take k words)
+    → slice_get words k ≡ Some w → v ≡ w → new ≡ flat_map f (take (k + 1) words)
+added_paths f words k w v new old added before at same =
+    added ∙ ap (λ (paths : List (List ℕ)). paths ++ f v) before ∙ ap (λ (u : List ℕ). flat_map f (take k words) ++ f u) same ∙ sym (one_more f words k w at)
+    ∙ ap (λ (n : ℕ). flat_map f (take n words)) (let next : suc k ≡ k + 1 = omega arith in next)
 
 -- as many as there are, or more, are all
 pub all_of : (words : List (List ℕ)) (n : ℕ) → length words ≤ n → take n words ≡ words

@@ -8,7 +8,7 @@ use Rattle.udfs_salvage.specs.Listings.{listing_by}
 use Rattle.udfs_salvage.proofs.ChoosingLemmas.{word_at, word_there}
 use Rattle.udfs_salvage.proofs.InLineLists.{got_below}
 use Rattle.udfs_remarks.specs.Wanted.{all_wanted, stands_for_nothing, wanted}
-use Rattle.udfs_reports.proofs.PathLemmas.{all_of, one_more_at}
+use Rattle.udfs_reports.proofs.PathLemmas.{added_paths, all_of}
 use Rattle.udfs_reports.proofs.paths.judge_paths.Goals as goal
 
 pub loop-index-preserved : goal.loop-index-preserved
@@ -16,10 +16,7 @@ loop-index-preserved g c =
     let nodes = (listing_by g.B.BlockStore.states c.args.listing.now).nodes in
     let there = word_there c.args.only.now c.loop-index.index _ (search rules) in
     record {
-      paths = c.in-Ok-false.ensures.added
-          ∙ ap (λ (before : List (List ℕ)). before ++ wanted true nodes _) c.loop-index.invariant.paths
-          ∙ ap (λ (w : List ℕ). all_wanted true nodes (take c.loop-index.index (texts c.args.only.now)) ++ wanted true nodes w) there.2
-          ∙ sym (one_more_at (wanted true nodes) (texts c.args.only.now) c.loop-index.index there.0 there.1);
+      paths = added_paths (wanted true nodes) (texts c.args.only.now) c.loop-index.index there.0 _ _ _ c.in-Ok-false.ensures.added c.loop-index.invariant.paths there.1 there.2;
       stand = λ k word below at. ⊎_elim (λ less. c.loop-index.invariant.stand k word less at)
           (λ most.
           let is : k ≡ c.loop-index.index = omega (arith, below, most) in
