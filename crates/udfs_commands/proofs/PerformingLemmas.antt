@@ -19,12 +19,12 @@ both (Ok a) P Q p q = (p, q)
 both (Err e) P Q p q = tt
 
 -- a mapfile whose line was printed is the mapfile
-pub some_map : {F I M S W : Type 0} (reach : Reach F I M S W) (old : F) (r : RereadRequest) (before after : Stream) (bytes : List ℕ) → ((whole : Bool) × IsMap reach old r before after whole bytes) → IsSomeMap reach old r bytes
+pub some_map : {F I S W : Type 0} (reach : Reach F I S W) (old : F) (r : RereadRequest) (before after : Stream) (bytes : List ℕ) → ((whole : Bool) × IsMap reach old r before after whole bytes) → IsSomeMap reach old r bytes
 some_map reach old r before after bytes is =
     record { last = is.1.last; ends = is.1.ends; told = λ tells. let join = (is.1.told tells).1 in let map = join.2 in ((is.1.told tells).0, (join.0, join.1, (map.0, is.0, map.1))) }
 
 -- so what is left is told of the mapfile alone
-pub map_left : {F I M S W : Type 0} (reach : Reach F I M S W) (old new : F) (asked : Request) (r : RereadRequest) (path : List ℕ) (before after : Stream) → asked ≡ Reread r → Spares reach (λ bytes. (whole : Bool) × IsMap reach old r before after whole bytes) path old new →
+pub map_left : {F I S W : Type 0} (reach : Reach F I S W) (old new : F) (asked : Request) (r : RereadRequest) (path : List ℕ) (before after : Stream) → asked ≡ Reread r → Spares reach (λ bytes. (whole : Bool) × IsMap reach old r before after whole bytes) path old new →
     Spares reach (IsSomeMap reach old r) path old new
 map_left reach old new asked r path before after is spares = spares_wider _ _ (some_map reach old r before after) spares
 
@@ -43,7 +43,7 @@ all_done (Ok done) P Q p q = (refl, p, q)
 all_done (Err e) P Q p q = tt
 
 -- and where it was not, nothing has changed or a call failed
-pub all_failed : {A F I M S W : Type 0} {reach : Reach F I M S W} {out : List ℕ} {old new : F} (outcome : Result A Refusal) (Is : List ℕ → Type 0) → Puts reach Is out old new outcome → OnErr (said_of outcome) ((new ≡ old) ⊎ PutFails reach out old)
+pub all_failed : {A F I S W : Type 0} {reach : Reach F I S W} {out : List ℕ} {old new : F} (outcome : Result A Refusal) (Is : List ℕ → Type 0) → Puts reach Is out old new outcome → OnErr (said_of outcome) ((new ≡ old) ⊎ PutFails reach out old)
 all_failed (Ok done) Is puts = tt
 all_failed (Err refusal) Is puts = may_fail Is puts
 

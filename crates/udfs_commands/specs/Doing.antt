@@ -35,7 +35,7 @@ abbrev pub said_of : {A E : Type 0} → Result A E → Result Bool E
 said_of (Ok done) = Ok true
 said_of (Err e) = Err e
 
-module _ {F I M S W : Type 0} (reach : Reach F I M S W) (old : F) where
+module _ {F I S W : Type 0} (reach : Reach F I S W) (old : F) where
   -- what was done, and whether nothing is lacking
   abbrev pub Does : {O : Type 0} → (O → Stream) → Request → F → O → O → Bool → Type 0
   Does stream (request.Merge r) new before after whole = (whole ≡ true) × IsPut reach (IsMerged reach old r) r.out.now old new × IsOutFree reach old r.inputs r.force r.out.now

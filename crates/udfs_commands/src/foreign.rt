@@ -4,7 +4,7 @@ use std::alloc::{AllocError, Global};
 use std::fmt;
 use udfs_common::files::Files;
 use udfs_host_fs::{Aim, Kind};
-use udfs_rescue::Image;
+use udfs_index::Stored;
 
 /// The size of a sector of a disc, in bytes.
 const SECTOR: u64 = 2048;
@@ -66,7 +66,7 @@ fn by_front(front: [u8; 12]) -> Option<Foreign> {
 }
 
 /// Whether an image has a volume of ISO 9660, and no descriptor of UDF beside it.
-fn is_plain_iso<I: Image>(image: &mut I) -> bool {
+fn is_plain_iso<S: Stored>(image: &S) -> bool {
     let mut found = false;
     for sector in DESCRIPTORS.0..DESCRIPTORS.1 {
         let mut front = [0u8; 6];
@@ -85,7 +85,7 @@ fn is_plain_iso<I: Image>(image: &mut I) -> bool {
 }
 
 /// What an image is that is no input; nothing where its bytes do not say so.
-fn foreign_image<I: Image>(image: &mut I) -> Option<Foreign> {
+fn foreign_image<S: Stored>(image: &S) -> Option<Foreign> {
     let mut front = [0u8; 12];
     match image.read_at(0, &mut front) {
         Ok(12) => {}
@@ -109,7 +109,7 @@ pub fn foreign_at<F: Files>(
         _ => return Ok(None),
     }
     match files.open_image(path) {
-        Ok(mut image) => Ok(foreign_image(&mut image)),
+        Ok(image) => Ok(foreign_image(&image)),
         Err(_) => Ok(None),
     }
 }

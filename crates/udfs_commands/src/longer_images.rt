@@ -6,8 +6,9 @@ use std::fmt::Write;
 use udfs_common::files::Files;
 use udfs_common::shown::Shown;
 use udfs_host_fs::{Aim, Kind};
+use udfs_index::Stored;
 use udfs_overview::push_size;
-use udfs_rescue::{Image, Mapfile};
+use udfs_rescue::Mapfile;
 use udfs_words::input_path::InputPath;
 use udfs_words::request::Request;
 
@@ -21,7 +22,7 @@ pub fn is_file<F: Files>(alloc: Global, path: &str, files: &F) -> Result<bool, A
 
 /// How many bytes an image has.
 fn size_of_image<F: Files>(path: &str, files: &F) -> Option<u64> {
-    let Ok(mut image) = files.open_image(path) else {
+    let Ok(image) = files.open_image(path) else {
         return None;
     };
     match image.size() {

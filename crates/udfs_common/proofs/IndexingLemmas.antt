@@ -6,7 +6,7 @@ use Rattle.udfs_index.proofs.IndexLemmas.{told_all}
 use Rattle.udfs_index.proofs.StoreLemmas.{took_states}
 use Rattle.udfs_index.specs.Copying.{AreAllTold}
 use Rattle.udfs_index.specs.Index.{Took, contents_of}
-use Rattle.udfs_index.specs.Placed.{TakesInput}
+use Rattle.udfs_index.specs.Placed.{IsCut, TakesInput}
 use Rattle.udfs_index.specs.Stores.{states_of}
 use Rattle.udfs_index.specs.declared.packet.Packet.{Packet}
 use Rattle.udfs_lattice.specs.Records.{join_all}
@@ -22,7 +22,7 @@ use Rattle.udfs_common.specs.Taking.{Takes}
 use Rattle.udfs_common.specs.declared.refusal.Refusal.{Refusal}
 use Rattle.udfs_common.specs.declared.refusal.Refusal.TheVariants.{OtherDisc}
 use Rattle.udfs_common.proofs.CountingLemmas.{comes_into_conflict, few_are_one, has_table}
-use Rattle.udfs_common.specs.Indexing.{Indexed, IsNamed, IsOtherOf, OfTold}
+use Rattle.udfs_common.specs.Indexing.{Indexed, IsNamedAt, IsOtherOf, OfTold}
 use Rattle.udfs_common.specs.Refused.{OneFails}
 use Rattle.udfs_words.specs.declared.input_path.InputPath.{InputPath}
 
@@ -134,9 +134,9 @@ pub judged_one : {R : Type 0} (content : R → Option (List ℕ)) (sources : Lis
 judged_one content sources n one ts own Holds told at are has judged = judged told ts own (tell_all content (take n sources) ts told are) (tells_at content sources n one own told at has)
 
 pub other_judged : {R : Type 0} (content : R → Option (List ℕ)) (paths : List InputPath) (sources : List R) (n : ℕ) (one : R) (ts : List Table) (own : Table) (r : Refusal) → slice_get sources n ≡ Some one → pair_at paths n ≡ true → TablesAre content (take n sources) ts → IfSome (content one) (λ bytes. HasTable bytes own) →
-    IsNamed r → OfTold content sources n (λ before own. IsOtherBy before own (n + 1) r) → IsOtherOf content paths sources r
+    IsNamedAt n r → OfTold content sources n (λ before own. IsOtherBy before own (n + 1) r) → IsOtherOf content paths sources r
 other_judged {R} content paths sources n one ts own r at pair are has named judged = record {
-  named = named;
+  named = (n, pair, named);
   other = λ told. record {
     place = n;
     within = get_within sources n one at;
@@ -149,9 +149,9 @@ other_judged {R} content paths sources n one ts own r at pair are has named judg
 }
 
 -- ---- an input that was not taken
-pub fails_at : {R : Type 0} (content : R → Option (List ℕ)) (sources : List R) (n : ℕ) (one it : R) (ts : List Table) (error : ReadingError) → slice_get sources n ≡ Some one → it ≡ one → TablesAre content (take n sources) ts → GivesFault inputs (content it) (Err error) → RefusesFaulty inputs (content it) (Err error) →
+pub fails_at : {R : Type 0} (content : R → Option (List ℕ)) (sources : List R) (n : ℕ) (one it : R) (ts : List Table) (error : ReadingError) → slice_get sources n ≡ Some one → it ≡ one → TablesAre content (take n sources) ts → GivesFault inputs (content it) (Err error) → RefusesFaulty inputs (content it) (Err error) → IsCut (content it) error →
     OneFails content sources (record { input = n + 1; error = error })
-fails_at {R} content sources n one it ts error at same are fault faulty = record {
+fails_at {R} content sources n one it ts error at same are fault faulty cut = record {
   earlier = take n sources;
   one = one;
   later = drop (n + 1) sources;
@@ -161,6 +161,7 @@ fails_at {R} content sources n one it ts error at same are fault faulty = record
   have_tables = are;
   fault = subst (λ (r : R). GivesFault inputs (content r) (Err error)) same fault;
   faulty = subst (λ (r : R). RefusesFaulty inputs (content r) (Err error)) same faulty;
+  cut = subst (λ (r : R). IsCut (content r) error) same cut;
 }
 
 -- ---- an input that was

@@ -1,10 +1,13 @@
--- One more path has its source.
-use Rattle.std.proofs.Common.{◌≡◌, ◌<◌, ◌⊎◌, arith, slice_index_or, ℕ, zero, suc, List, [], ◌∷◌, ◌++◌, Option, Some, length, slice_get, ap, inl, inr, refl, subst}
-use Rattle.udfs_common.specs.Blaming.{AreJudged, AreJudgedFor, IsJudged, IsJudgedFor}
-use Rattle.udfs_common.specs.Keeping.{Opens}
-use Rattle.udfs_common.specs.Sources.{IsPathOpened}
-use Rattle.udfs_common.specs.declared.sources.AnySource.{AnySource}
+-- One more path has its input, and inputs that are brought into memory still come of their paths.
+use Rattle.std.proofs.Common.{◌≡◌, ◌≢◌, ◌<◌, ◌⊎◌, ◌∙◌, arith, slice_index_or, slice_set, ℕ, zero, suc, List, [], ◌∷◌, ◌++◌, Option, None, Some, IfSome, length, slice_get, ap, inl, inr, refl, subst, sym, ⊎_elim}
+use Rattle.std.specs.Io.KnownBytes.{Keeps}
+use Rattle.udfs_common.specs.Blaming.{AreJudgedFor, IsJudgedFor}
+use Rattle.udfs_common.specs.Keeping.{AreFetched, Opens}
+use Rattle.udfs_common.specs.Sources.{HasItsPath, IsOpenedPair, IsPathOpened}
+use Rattle.udfs_rescue.specs.Blocks.{reading_of}
+use Rattle.udfs_rescue.specs.Opening.{IsReadingOf}
 use Rattle.udfs_rescue.specs.declared.opening.PairFault.{PairFault}
+use Rattle.udfs_words.specs.declared.input_path.InputPath.TheVariants.{File, Pair}
 use Rattle.udfs_words.specs.declared.input_path.InputPath.{InputPath}
 
 last_more : {R : Type 0} (y : R) (ys : List R) (x : R) (k : ℕ) (s : R) → (slice_get ys k ≡ Some s) ⊎ ((k ≡ length ys) × (x ≡ s)) → (slice_get (y ∷ ys) (suc k) ≡ Some s) ⊎ ((suc k ≡ length (y ∷ ys)) × (x ≡ s))
@@ -36,10 +39,6 @@ pub opens_more : {R : Type 0} (found : List ℕ → Option (Option (List ℕ))) 
     Opens found left paths sources → IsPathOpened found path (left source) → slice_get paths (length sources) ≡ Some path → Opens found left paths (sources ++ source ∷ [])
 opens_more found left paths sources path source old is at = each_more (λ p s. IsPathOpened found p (left s)) paths sources path source old is at
 
-pub judged_more : {R I : Type 0} (found : List ℕ → Option (Option (List ℕ))) (paths : List InputPath) (sources : List (AnySource R I)) (path : InputPath) (source : AnySource R I) →
-    AreJudged found paths sources → IsJudged found path source → slice_get paths (length sources) ≡ Some path → AreJudged found paths (sources ++ source ∷ [])
-judged_more found paths sources path source old is at = each_more (λ p s. IsJudged found p s) paths sources path source old is at
-
 pub judged_for_more : {R : Type 0} (found : List ℕ → Option (Option (List ℕ))) (reason : R → Option PairFault) (paths : List InputPath) (sources : List R) (path : InputPath) (source : R) →
     AreJudgedFor found reason paths sources → IsJudgedFor found path (reason source) → slice_get paths (length sources) ≡ Some path → AreJudgedFor found reason paths (sources ++ source ∷ [])
 judged_for_more found reason paths sources path source old is at = each_more (λ p s. IsJudgedFor found p (reason s)) paths sources path source old is at
@@ -48,3 +47,83 @@ pub at_place : {A : Type 0} (xs : List A) (i : ℕ) (d : A) → i < length xs �
 at_place [] i d lt = absurd (omega (arith, lt))
 at_place (x ∷ xs) zero d lt = refl
 at_place (x ∷ xs) (suc i) d lt = at_place xs i d (omega (arith, lt))
+
+-- ---- known bytes stay
+
+pub kept_same : (x y : Option (List ℕ)) → y ≡ x → Keeps x y
+kept_same None y e = tt
+kept_same (Some xs) y e = subst (Keeps (Some xs)) (sym e) refl
+
+kept_on : (x y z : Option (List ℕ)) → Keeps x y → Keeps y z → Keeps x z
+kept_on None y z a b = tt
+kept_on (Some xs) None z a b = absurd a
+kept_on (Some xs) (Some ys) None a b = absurd b
+kept_on (Some xs) (Some ys) (Some zs) a b = b ∙ a
+
+held_kept : (all : List ℕ) (b : Option (List ℕ)) → Keeps (Some all) b → b ≡ Some all
+held_kept all None k = absurd k
+held_kept all (Some bs) k = ap Some k
+
+file_kept : (found : Option (Option (List ℕ))) (a b : Option (List ℕ)) → found ≢ Some None → IfSome found (λ held. a ≡ held) → Keeps a b → IfSome found (λ held. b ≡ held)
+file_kept None a b there has k = tt
+file_kept (Some None) a b there has k = absurd (there refl)
+file_kept (Some (Some all)) a b there has k = held_kept all b (subst (λ (o : Option (List ℕ)). Keeps o b) has k)
+
+reading_kept : (image map a b : Option (List ℕ)) → IsReadingOf image map a → Keeps a b → IsReadingOf image map b
+reading_kept None map a b r k = record { ranges = r.ranges; known = r.known; inside = r.inside; bytes = tt }
+reading_kept (Some all) map a b r k = record { ranges = r.ranges; known = r.known; inside = r.inside; bytes = held_kept (reading_of all r.ranges) b (subst (λ (o : Option (List ℕ)). Keeps o b) r.bytes k) }
+
+pair_kept : (found : List ℕ → Option (Option (List ℕ))) (image map : List ℕ) (a b : Option (List ℕ)) → IsOpenedPair found image map a → Keeps a b → IsOpenedPair found image map b
+pair_kept found image map a b o k = record {
+  image_has = o.image_has;
+  map_has = o.map_has;
+  image_found = o.image_found;
+  map_found = o.map_found;
+  reads = ⊎_elim (λ r. inl (reading_kept o.image_has o.map_has a b r k)) (λ none. inr (held_kept [] b (subst (λ (x : Option (List ℕ)). Keeps x b) none k))) o.reads;
+}
+
+path_kept : (found : List ℕ → Option (Option (List ℕ))) (path : InputPath) (a b : Option (List ℕ)) → IsPathOpened found path a → Keeps a b → IsPathOpened found path b
+path_kept found (File p) a b o k = record { has = file_kept (found p.now) a b o.there o.has k; there = o.there }
+path_kept found (Pair image map) a b o k = record { has = pair_kept found image.now map.now a b o.has k; there = o.there }
+
+-- ---- inputs that are brought into memory
+
+pub fetched_none : {R E : Type 0} (content : R → Option (List ℕ)) (reason : R → E) (xs : List R) → AreFetched content reason xs xs
+fetched_none content reason [] = tt
+fetched_none content reason (x ∷ xs) = ((kept_same (content x) (content x) refl, refl), fetched_none content reason xs)
+
+-- one more of them
+pub fetched_more : {R E : Type 0} (content : R → Option (List ℕ)) (reason : R → E) (olds mid : List R) (n : ℕ) (was now : R) → AreFetched content reason olds mid → slice_get mid n ≡ Some was → Keeps (content was) (content now) → reason now ≡ reason was → AreFetched content reason olds (slice_set mid n now)
+fetched_more content reason [] [] n was now are at k same = absurd (let b : ⊥ = cc in b)
+fetched_more content reason [] (y ∷ ys) n was now are at k same = absurd are
+fetched_more content reason (x ∷ xs) [] n was now are at k same = absurd are
+fetched_more {R} content reason (x ∷ xs) (y ∷ ys) zero was now are at k same =
+    let e : was ≡ y = cc in
+    ((kept_on (content x) (content y) (content now) are.0.0 (subst (λ (w : R). Keeps (content w) (content now)) e k), same ∙ ap reason e ∙ are.0.1), are.1)
+fetched_more content reason (x ∷ xs) (y ∷ ys) (suc n) was now are at k same = (are.0, fetched_more content reason xs ys n was now are.1 at k same)
+
+pub fetched_many : {R E : Type 0} (content : R → Option (List ℕ)) (reason : R → E) (olds news : List R) → AreFetched content reason olds news → length news ≡ length olds
+fetched_many content reason [] [] are = refl
+fetched_many content reason [] (y ∷ ys) are = absurd are
+fetched_many content reason (x ∷ xs) [] are = absurd are
+fetched_many content reason (x ∷ xs) (y ∷ ys) are = ap suc (fetched_many content reason xs ys are.1)
+
+same_some : {R : Type 0} (x y : R) → Some x ≡ Some y → x ≡ y
+same_some x y e = let same : x ≡ y = cc in same
+
+fetched_at : {R E : Type 0} (content : R → Option (List ℕ)) (reason : R → E) (olds news : List R) (k : ℕ) (y : R) → AreFetched content reason olds news → slice_get news k ≡ Some y → (x : R) × (slice_get olds k ≡ Some x) × Keeps (content x) (content y) × (reason y ≡ reason x)
+fetched_at content reason [] [] k y are at = absurd (let b : ⊥ = cc in b)
+fetched_at content reason [] (z ∷ zs) k y are at = absurd are
+fetched_at content reason (x ∷ xs) [] k y are at = absurd are
+fetched_at {R} content reason (x ∷ xs) (z ∷ zs) zero y are at = (x, refl, subst (λ (w : R). Keeps (content x) (content w)) (same_some z y at) are.0.0, ap reason (sym (same_some z y at)) ∙ are.0.1)
+fetched_at content reason (x ∷ xs) (z ∷ zs) (suc k) y are at = fetched_at content reason xs zs k y are.1 at
+
+pub opens_fetched : {R E : Type 0} (content : R → Option (List ℕ)) (reason : R → E) (found : List ℕ → Option (Option (List ℕ))) (paths : List InputPath) (olds news : List R) → AreFetched content reason olds news → Opens found content paths olds → Opens found content paths news
+opens_fetched content reason found paths olds news are opened k path y p at =
+    let a = fetched_at content reason olds news k y are at in
+    path_kept found path (content a.0) (content y) (opened k path a.0 p a.1) a.2
+
+pub judged_fetched : {R : Type 0} (content : R → Option (List ℕ)) (reason : R → Option PairFault) (found : List ℕ → Option (Option (List ℕ))) (paths : List InputPath) (olds news : List R) → AreFetched content reason olds news → AreJudgedFor found reason paths olds → AreJudgedFor found reason paths news
+judged_fetched content reason found paths olds news are judged k path y p at =
+    let a = fetched_at content reason olds news k y are at in
+    subst (IsJudgedFor found path) (sym a.3) (judged k path a.0 p a.1)

@@ -4,7 +4,6 @@ pub mod PlacingLemmas
 pub mod JobLemmas
 pub mod PutsLemmas
 pub mod TakingLemmas
-pub mod VolumeLemmas
 pub mod CountingLemmas
 pub mod NamingLemmas
 pub mod StoredLemmas

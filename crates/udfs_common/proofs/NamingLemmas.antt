@@ -4,7 +4,7 @@ use Rattle.udfs_common.specs.Blaming.{IsShut}
 use Rattle.udfs_common.specs.Refusing.{IsUnput, NamesNoOther}
 use Rattle.udfs_common.specs.declared.refusal.Refusal.{Refusal}
 use Rattle.udfs_common.specs.declared.refusal.Refusal.TheVariants.{Input, Memory, Open, OtherDisc, Output, Reread, Spared, Unkept}
-use Rattle.udfs_common.specs.Indexing.{IsNamed}
+use Rattle.udfs_common.specs.Indexing.{IsNamedAt}
 use Rattle.udfs_common.specs.Refused.{IsRereadOf, IsUncompared}
 use Rattle.udfs_words.specs.declared.input_path.InputPath.{InputPath}
 
@@ -59,7 +59,7 @@ pub reread_early : (count : ℕ) (r : Refusal) → IsRereadOf count r → r ≢ 
 reread_early count r reread e = let bad : Reread (reread.0 + 1) reread.1 ≡ Unkept = sym reread.3 ∙ e in cc
 
 -- of one that was judged
-pub judged_early : (count : ℕ) (r : Refusal) (More : Type 0) → (r ≡ Memory alloc_error) ⊎ IsUncompared count r ⊎ (IsNamed r × More) → r ≢ Unkept
-judged_early count r More (inl memory) = memory_early r memory
-judged_early count r More (inr (inl unread)) = λ e. let bad : Input (unread.0 + 1) _ ≡ Unkept = sym unread.3 ∙ e in cc
-judged_early count r More (inr (inr other)) = λ e. let bad : OtherDisc other.0.0 other.0.1 other.0.2 ≡ Unkept = sym other.0.3 ∙ e in cc
+pub judged_early : (count place : ℕ) (r : Refusal) (More : Type 0) → (r ≡ Memory alloc_error) ⊎ IsUncompared count r ⊎ (IsNamedAt place r × More) → r ≢ Unkept
+judged_early count place r More (inl memory) = memory_early r memory
+judged_early count place r More (inr (inl unread)) = λ e. let bad : Input (unread.0 + 1) _ ≡ Unkept = sym unread.3 ∙ e in cc
+judged_early count place r More (inr (inr other)) = λ e. let bad : OtherDisc (place + 1) other.0.0 other.0.1 ≡ Unkept = sym other.0.3 ∙ e in cc

@@ -8,7 +8,7 @@ use Rattle.udfs_words.specs.Asking.{EndsMap, IsLastOfSize, MapsEndAt}
 use Rattle.udfs_words.specs.declared.input_path.InputPath.{InputPath}
 use Rattle.udfs_words.specs.declared.request.LastSource.{LastSource}
 use Rattle.udfs_words.specs.declared.request.LastSource.TheVariants.{Block, OfMap, OfMaps}
-use Rattle.udfs_common.specs.Blaming.{InputsRefused}
+use Rattle.udfs_common.specs.Refused.{InputsRefused}
 use Rattle.udfs_common.specs.Reach.{Reach, found_at}
 use Rattle.udfs_common.specs.declared.refusal.Refusal.{Refusal}
 use Rattle.udfs_common.specs.declared.refusal.Refusal.TheVariants.{Memory, NoLast, NoSize}
@@ -34,7 +34,7 @@ IsEnd found (OfMap map) inputs last = EndsWithMap found map.now last
 IsEnd found OfMaps inputs last = EndsWithMaps found inputs last
 
 -- a mapfile was given that does not say it; or none was given, and the inputs do not say it, or are to blame
-abbrev pub HasNoLast : {F I M S W : Type 0} → Reach F I M S W → F → LastSource → List InputPath → Refusal → Type 0
+abbrev pub HasNoLast : {F I S W : Type 0} → Reach F I S W → F → LastSource → List InputPath → Refusal → Type 0
 HasNoLast reach at (Block n) inputs refusal = ⊥
 HasNoLast reach at (OfMap map) inputs refusal = (refusal ≡ NoSize) ⊎ (refusal ≡ Memory alloc_error)
-HasNoLast reach at OfMaps inputs refusal = (refusal ≡ NoLast) ⊎ InputsRefused (found_at reach at) (reach.files.shut at) reach.remaining reach.faults inputs refusal
+HasNoLast reach at OfMaps inputs refusal = (refusal ≡ NoLast) ⊎ InputsRefused reach.stored_told (found_at reach at) (reach.files.shut at) inputs refusal

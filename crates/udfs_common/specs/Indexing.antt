@@ -1,10 +1,11 @@
 -- Inputs that are read at positions: what was taken of them, and why a table file of them was not written.
-use Rattle.std.specs.Prelude.{◌≡◌, ℕ, Bool, false, List, [], ◌∷◌, Option, Some, slice_get, take, drop}
+use Rattle.std.specs.Prelude.{◌≡◌, ◌+◌, ℕ, Bool, true, false, List, [], ◌∷◌, Option, Some, slice_get, take, drop}
+use Rattle.udfs_index.specs.Comparing.{is_other_disc}
 use Rattle.udfs_index.specs.Copying.{AreAllTold}
 use Rattle.udfs_lattice.specs.Records.{join_all}
 use Rattle.udfs_lattice.specs.Tables.{Table}
 use Rattle.udfs_reading.specs.Several.{AllTell, TablesAre}
-use Rattle.udfs_common.specs.OtherDiscs.{EachIsOne}
+use Rattle.udfs_common.specs.OtherDiscs.{EachIsOne, pair_at}
 use Rattle.udfs_common.specs.Taking.{IsOtherSource, Takes}
 use Rattle.udfs_words.specs.declared.input_path.InputPath.{InputPath}
 use Rattle.udfs_index.specs.declared.fault.CopyFault.{CopyFault}
@@ -25,9 +26,13 @@ TakesAt {R} content sources place Old New = (one : R) → slice_get sources plac
 abbrev pub OfTold : {R : Type 0} → (R → Option (List ℕ)) → List R → ℕ → (Table → Table → Type 0) → Type 0
 OfTold content sources place Holds = AreAllTold content → (tables : List Table) (own : Table) → AllTell content (take place sources) tables → AllTell content (take 1 (drop place sources)) (own ∷ []) → Holds (join_all tables) own
 
--- an image among the inputs, counted from 1, is named as one of another disc
-abbrev pub IsNamed : Refusal → Type 0
-IsNamed r = (input blocks of : ℕ) × (r ≡ refusal.OtherDisc input blocks of)
+-- the input at this place is named, counted from 1, as one of another disc: it disagrees in so many blocks of those that it shares with those before it
+abbrev pub IsNamedAt : ℕ → Refusal → Type 0
+IsNamedAt place r = (blocks of : ℕ) × (is_other_disc blocks of ≡ true) × (r ≡ refusal.OtherDisc (place + 1) blocks of)
+
+-- an image among the inputs is
+abbrev pub IsNamed : List InputPath → Refusal → Type 0
+IsNamed paths r = (place : ℕ) × (pair_at paths place ≡ true) × IsNamedAt place r
 
 -- all inputs were taken; where it is known what they hold, no image is of another disc, but by force
 pub record Indexed {R : Type 0} (content : R → Option (List ℕ)) (paths : List InputPath) (sources : List R) (force : Bool) (New : Table → Type 0) : Type 0 where
@@ -38,5 +43,5 @@ pub record Indexed {R : Type 0} (content : R → Option (List ℕ)) (paths : Lis
 
 -- one of these inputs, an image, is of another disc, where it is known what they hold
 pub record IsOtherOf {R : Type 0} (content : R → Option (List ℕ)) (paths : List InputPath) (sources : List R) (r : Refusal) : Type 0 where
-  pub named : IsNamed r
+  pub named : IsNamed paths r
   pub other : AreAllTold content → IsOtherSource content paths sources r

@@ -1,11 +1,13 @@
 -- What a file that is written keeps.
---     Opens          each source has what its path leads to
+--     Opens          each input has what its path leads to
+--     Joined         what the paths lead to has these tables
+--     AreFetched     the inputs are what they were, and some are in memory now
 --     OfPaths        the inputs are those of the paths, and this holds of their join
 --     IsPut          a file holds these bytes, and each crash leaves them; or they went to what is no file
 --     FailedOut      what a call that failed leaves of an output
 --     RefusedOut     what an error leaves: nothing has changed, or what `FailedOut` says
-use Rattle.std.specs.Prelude.{◌≡◌, ◌≢◌, ◌⊎◌, ℕ, List, Option, Some, length, slice_get}
-use Rattle.std.specs.Io.KnownBytes.{Appends}
+use Rattle.std.specs.Prelude.{◌≡◌, ◌≢◌, ◌⊎◌, ℕ, List, [], ◌∷◌, Option, Some, length, slice_get}
+use Rattle.std.specs.Io.KnownBytes.{Appends, Keeps}
 use Rattle.udfs_host_fs.specs.Disk.{Disk, IsOwn}
 use Rattle.udfs_lattice.specs.Tables.{Table}
 use Rattle.udfs_lattice.specs.Records.{join_all}
@@ -14,20 +16,31 @@ use Rattle.udfs_common.specs.Sources.{IsPathOpened}
 use Rattle.udfs_words.specs.declared.input_path.InputPath.{InputPath}
 use Rattle.udfs_reading.specs.Device.{Stream}
 
--- the source at each place has what the path at that place leads to, where that is known
+-- the input at each place has what the path at that place leads to, where that is known
 abbrev pub Opens : {R : Type 0} → (List ℕ → Option (Option (List ℕ))) → (R → Option (List ℕ)) → List InputPath → List R → Type 0
 Opens {R} found remaining paths sources = (k : ℕ) (path : InputPath) (source : R) → slice_get paths k ≡ Some path → slice_get sources k ≡ Some source → IsPathOpened found path (remaining source)
 
--- the sources of these paths have the tables
-pub record Joined {R : Type 0} (found : List ℕ → Option (Option (List ℕ))) (remaining : R → Option (List ℕ)) (paths : List InputPath) (tables : List Table) : Type 0 where
-  pub sources : List R
-  pub each : length sources ≡ length paths
-  pub opened : Opens found remaining paths sources
-  pub are : TablesAre remaining sources tables
+-- these bytes
+abbrev pub these : Option (List ℕ) → Option (List ℕ)
+these held = held
+
+-- what the paths lead to, where that is known, has the tables
+pub record Joined (found : List ℕ → Option (Option (List ℕ))) (paths : List InputPath) (tables : List Table) : Type 0 where
+  pub contents : List (Option (List ℕ))
+  pub each : length contents ≡ length paths
+  pub opened : Opens found these paths contents
+  pub are : TablesAre these contents tables
 
 -- this holds of the join of what the paths hold
-abbrev pub OfPaths : {R : Type 0} → (List ℕ → Option (Option (List ℕ))) → (R → Option (List ℕ)) → List InputPath → (Table → Type 0) → Type 0
-OfPaths found remaining paths Holds = (tables : List Table) × Joined found remaining paths tables × Holds (join_all tables)
+abbrev pub OfPaths : (List ℕ → Option (Option (List ℕ))) → List InputPath → (Table → Type 0) → Type 0
+OfPaths found paths Holds = (tables : List Table) × Joined found paths tables × Holds (join_all tables)
+
+-- each input has the bytes that it had, where these are known, and the same reason why it has no reading
+abbrev pub AreFetched : {R E : Type 0} → (R → Option (List ℕ)) → (R → E) → List R → List R → Type 0
+AreFetched content reason [] [] = Unit {0}
+AreFetched content reason [] (y ∷ ys) = ⊥
+AreFetched content reason (x ∷ xs) [] = ⊥
+AreFetched content reason (x ∷ xs) (y ∷ ys) = (Keeps (content x) (content y) × (reason y ≡ reason x)) × AreFetched content reason xs ys
 
 -- the path holds the bytes, and each crash leaves them
 pub record IsKept (holds : List ℕ → Option (Option (List ℕ))) (may_leave : Disk → Type 0) (path bytes : List ℕ) : Type 0 where

@@ -3,8 +3,8 @@
 --     is_compared paths place force         the input at this place is compared with those before it
 --     IsOneDisc before own                  what was read may be of the disc of what was read before
 --     IsOtherBy before own input refusal    it is not, and in how many blocks the two disagree
---     AreOneDisc found remaining paths      no image among the inputs is of another disc than the inputs before it
---     IsOtherDisc found remaining paths refusal     one is, and it is named, counted from 1
+--     AreOneDisc found paths                no image among the inputs is of another disc than the inputs before it
+--     IsOtherDisc found paths refusal       one is, and it is named, counted from 1
 use Rattle.std.specs.Prelude.{◌≡◌, ◌+◌, ℕ, Bool, true, false, List, [], ◌∷◌, ◌++◌, ◌&&◌, Option, None, Some, not, nat_lt, take, slice_get}
 use Rattle.udfs_lattice.specs.Records.{join_all}
 use Rattle.udfs_lattice.specs.Tables.{Table}
@@ -43,16 +43,16 @@ abbrev pub EachIsOne : List InputPath → List Table → Type 0
 EachIsOne paths tables = (place : ℕ) (own : Table) → pair_at paths place ≡ true → slice_get tables place ≡ Some own → IsOneDisc (join_all (take place tables)) own
 
 -- the inputs have tables among which there is none of another disc
-pub record AreOneDisc {R : Type 0} (found : List ℕ → Option (Option (List ℕ))) (remaining : R → Option (List ℕ)) (paths : List InputPath) : Type 0 where
+pub record AreOneDisc (found : List ℕ → Option (Option (List ℕ))) (paths : List InputPath) : Type 0 where
   pub tables : List Table
-  pub joined : Joined found remaining paths tables
+  pub joined : Joined found paths tables
   pub each : EachIsOne paths tables
 
 -- the inputs up to an image have tables, by which it is of another disc
-pub record IsOtherDisc {R : Type 0} (found : List ℕ → Option (Option (List ℕ))) (remaining : R → Option (List ℕ)) (paths : List InputPath) (refusal : Refusal) : Type 0 where
+pub record IsOtherDisc (found : List ℕ → Option (Option (List ℕ))) (paths : List InputPath) (refusal : Refusal) : Type 0 where
   pub place : ℕ
   pub pair : pair_at paths place ≡ true
   pub tables : List Table
   pub own : Table
-  pub joined : Joined found remaining (take (place + 1) paths) (tables ++ own ∷ [])
+  pub joined : Joined found (take (place + 1) paths) (tables ++ own ∷ [])
   pub other : IsOtherBy (join_all tables) own (place + 1) refusal

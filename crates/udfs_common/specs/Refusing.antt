@@ -7,8 +7,6 @@ use Rattle.udfs_rescue.specs.declared.opening.PairFault.{PairFault}
 use Rattle.udfs_rescue.specs.declared.opening.PairFault.TheVariants as pair
 use Rattle.udfs_common.specs.declared.refusal.Refusal.{Refusal}
 use Rattle.udfs_common.specs.declared.refusal.Refusal.TheVariants.{Input, Mapfile, ImageEnds, OtherDisc, Output, Unkept, Memory}
-use Rattle.udfs_common.specs.declared.sources.AnySource.{AnySource}
-use Rattle.udfs_common.specs.declared.sources.AnySource.TheVariants.{File, Paired, Refused}
 
 -- by the fault: out of memory is reported as such, and any other with the input and the record
 abbrev refusal_by : InputError → ReadingFault → Refusal
@@ -25,13 +23,6 @@ refused_pair input (pair.Line fault) = Mapfile input fault
 refused_pair input (pair.Reading error) = refusal_of (record { input = input; error = error })
 refused_pair input (pair.EndsBefore block) = ImageEnds input block
 refused_pair input pair.OutOfMemory = Memory alloc_error
-
--- by the source that could not be read
-abbrev pub refusal_for : {R I : Type 0} → Option (AnySource R I) → InputError → Refusal
-refusal_for (Some (Refused fault count)) error = refused_pair error.input fault
-refusal_for (Some (File source)) error = refusal_of error
-refusal_for (Some (Paired source)) error = refusal_of error
-refusal_for None error = refusal_of error
 
 -- no image is named as one of another disc
 abbrev pub NamesNoOther : Refusal → Type 0

@@ -1,25 +1,9 @@
--- Inputs of both kinds as sources, and the paths that they come from.
---     left_in file pair source      the bytes that a source has left
---     IsPathOpened found left path x    the source has what its path leads to
+-- What an input has, by the path that it comes from.
+--     IsPathOpened found path left      it has what its path leads to
 use Rattle.std.specs.Prelude.{◌≡◌, ◌≢◌, ◌⊎◌, ℕ, List, [], Option, Some, None, IfSome}
-use Rattle.udfs_rescue.specs.declared.pair.Pair.{Pair}
 use Rattle.udfs_rescue.specs.Opening.{IsReadingOf}
-use Rattle.udfs_common.specs.declared.sources.AnySource.{AnySource}
-use Rattle.udfs_common.specs.declared.sources.AnySource.TheVariants.{File, Paired, Refused}
 use Rattle.udfs_words.specs.declared.input_path.InputPath.{InputPath}
 use Rattle.udfs_words.specs.declared.input_path.InputPath.TheVariants as path
-
--- by the source's kind; no bytes of a pair that has no reading
-abbrev pub left_in : {R I : Type 0} → (R → Option (List ℕ)) → (Pair I → Option (List ℕ)) → AnySource R I → Option (List ℕ)
-left_in file pair (File source) = file source
-left_in file pair (Paired source) = pair source
-left_in file pair (Refused fault count) = Some []
-
--- the fault count of a source, by its kind; a pair that has no reading brings its own count
-abbrev pub faults_in : {R I : Type 0} → (R → ℕ) → (Pair I → ℕ) → AnySource R I → ℕ
-faults_in file pair (File source) = file source
-faults_in file pair (Paired source) = pair source
-faults_in file pair (Refused fault count) = count
 
 -- the reading of the blocks of an image that its mapfile makes known, where both files are known; or no bytes, as of a pair that has no reading
 pub record IsOpenedPair (found : List ℕ → Option (Option (List ℕ))) (image map : List ℕ) (left : Option (List ℕ)) : Type 0 where

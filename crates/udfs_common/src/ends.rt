@@ -1,21 +1,20 @@
 //! Where a disc ends: by the arguments, or by the mapfiles of all inputs.
 
 ghost use Rattle.std.specs.Prelude.{◌≡◌, ◌≢◌, ◌⊎◌, ◌%◌, true, [], IfOk, IfErr, IfSome, alloc_error};
-ghost use Rattle.udfs_common.specs.Blaming.{InputsRefused};
+ghost use Rattle.udfs_index.specs.Copying.{AreAllTold};
 ghost use Rattle.udfs_common.specs.Ends.{EndsWithMap, HasNoLast, IsEnd};
 ghost use Rattle.udfs_common.specs.Reach.{found_at};
+ghost use Rattle.udfs_common.specs.Refused.{InputsRefused};
 ghost use Rattle.udfs_common.specs.Refusing.{NamesNoOther};
-ghost use Rattle.udfs_common.specs.declared.sources.AnySource.{AnySource};
 ghost use Rattle.udfs_words.specs.Asking.{EndsAt, EndsMap, MapsEndAt};
 
 use crate::files::Files;
-use crate::inputs::joined;
 use crate::known::Known;
 use crate::refusal::Refusal;
-use crate::sources::AnySource;
+use crate::unwritten::fault_of;
 use std::alloc::{AllocError, Global};
 use udfs_host_fs::{Aim, Kind};
-use udfs_reading::Source;
+use udfs_index::Stored;
 use udfs_rescue::{MapError, Mapfile};
 use udfs_words::input_path::InputPath;
 use udfs_words::last::{is_whole, last_of_size};
@@ -99,18 +98,17 @@ fn size_by_maps<F: Files>(
 
 /// Why no last block is known: where there are images alone, what is wrong with them, and else that it has to be given.
 fn no_end<F: Files>(alloc: Global, inputs: &[InputPath<'_>], force: bool, files: &F) -> Refusal
-    ensures told { (result ≢ Refusal.Output) × (result ≢ Refusal.Unkept) × (result ≢ Refusal.Spared) }
     // By force none is named as one of another disc.
     ensures forced { force ≡ true → NamesNoOther result }
-    ensures blamed { (result ≡ Refusal.NoLast) ⊎ InputsRefused (λ path. F.holds files.now (F.real files.now path)) (F.shut files.now) (⟦<AnySource<F::Input, F::Image> as Source>⟧.remaining) (⟦<AnySource<F::Input, F::Image> as Source>⟧.faults) inputs.now result }
+    ensures blamed { (result ≡ Refusal.NoLast) ⊎ InputsRefused (AreAllTold F.Stored.content) (λ path. F.holds files.now (F.real files.now path)) (F.shut files.now) inputs.now result }
 {
     if let [InputPath::File(_), ..] = inputs {
         return Refusal::NoLast;
     }
-    if let Err(refusal) = joined(alloc, inputs, force, files) {
-        return refusal;
+    match fault_of(alloc, inputs, force, files) {
+        Some(refusal) => refusal,
+        None => Refusal::NoLast,
     }
-    Refusal::NoLast
 }
 
 /// The last block of a disc whose size is where this mapfile ends.

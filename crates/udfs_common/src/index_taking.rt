@@ -1,8 +1,8 @@
 //! What takes inputs that are read at positions, and why one was not taken.
 
-ghost use Rattle.std.specs.Prelude.{◌≡◌, ◌≢◌, ◌⊎◌, ◌-◌, ◌<◌, ◌≤◌, ℕ, List, Option, Err, IfOk, IfErr, OnOk, length, map, slice_get};
+ghost use Rattle.std.specs.Prelude.{◌≡◌, ◌≢◌, ◌⊎◌, ◌-◌, ◌≤◌, ℕ, List, Option, Err, IfOk, IfErr, OnOk, length, map, slice_get};
 ghost use Rattle.udfs_index.specs.Copying.{AreAllTold};
-ghost use Rattle.udfs_index.specs.Placed.{TakesInput};
+ghost use Rattle.udfs_index.specs.Placed.{IsCut, TakesInput};
 ghost use Rattle.udfs_lattice.specs.Tables.{Table, IsTable, conflict_count};
 ghost use Rattle.udfs_reading.specs.Answers.{GivesFault, RefusesFaulty};
 ghost use Rattle.udfs_reading.specs.Inputs.{inputs};
@@ -10,7 +10,7 @@ ghost use Rattle.udfs_common.specs.Refused.{IsRereadOf, IsUncompared, refused_in
 ghost use Rattle.udfs_common.specs.Refusing.{NamesNoOther, refusal_with};
 
 use crate::refusal::Refusal;
-use crate::sources::refused_pair;
+use crate::refused_pairs::refused_pair;
 use std::alloc::{AllocError, Global};
 use udfs_index::{AnyStored, Cursor, Index, Stored, Unread, record_at, take_stored};
 use udfs_reading::{InputError, ReadingError, ReadingFault, Source, Taker};
@@ -26,7 +26,8 @@ pub trait IndexTaker<'a, S: Stored + 'a>: Taker<Cursor<'a, S>> {
     fn take_input(&mut self, stored: &'a S) -> Result<(), ReadingError>
         ensures table { OnOk result (TakesInput (S.content stored.now) (Self.took self.old) (Self.took self.new)) }
         ensures fault { IfErr result (λ e. GivesFault inputs (S.content stored.now) (Err e)) }
-        ensures faulty { IfErr result (λ e. RefusesFaulty inputs (S.content stored.now) (Err e)) };
+        ensures faulty { IfErr result (λ e. RefusesFaulty inputs (S.content stored.now) (Err e)) }
+        ensures cut { IfErr result (IsCut (S.content stored.now)) };
 
     /// What could not be looked into, where that is why something was not taken.
     fn unread(&self) -> Option<Unread>;
@@ -60,7 +61,7 @@ fn record_of<S: Stored>(stored: &[S], unread: Unread) -> u32 {
 
 /// What is said of bytes of one of these inputs that could not be read again, or of one that has changed.
 pub fn reread_of<S: Stored>(stored: &[S], unread: Unread) -> Refusal
-    ensures { 0 < length stored.now → IsRereadOf (length stored.now) result }
+    ensures { IsRereadOf (length stored.now) result }
 {
     let number = record_of(stored, unread);
     let place = unread.input.min(stored.len().saturating_sub(1));

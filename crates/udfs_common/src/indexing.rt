@@ -9,12 +9,11 @@ ghost use Rattle.udfs_common.specs.Refused.{IsUnindexed, StoredRefused};
 ghost use Rattle.udfs_common.specs.Refusing.{NamesNoOther};
 
 use crate::index_taking::{IndexTaker, refusal_of};
-use crate::judging::judge;
+use crate::judging::{is_compared, judge};
 use crate::refusal::Refusal;
-use crate::taking::is_compared;
-use std::alloc::Global;
-use udfs_index::{AnyStored, Stored};
-use udfs_reading::InputError;
+use std::alloc::{AllocError, Global};
+use udfs_index::{AnyStored, Cursor, Index, Stored};
+use udfs_reading::{InputError, Taker};
 use udfs_words::input_path::InputPath;
 
 /// Takes the blocks of the input at this place.
@@ -96,4 +95,29 @@ pub fn index_all<'a, S: Stored + 'a, T: IndexTaker<'a, AnyStored<S>>>(
         }
     }
     Ok(())
+}
+
+/// The join of the inputs' tables, as an index of where its bytes are. Of a table file of version 2 only the headers of its packets are read, and the blocks that
+/// an input before it knows too. An image of another disc than the inputs before it is refused, unless `force` is set.
+///
+/// # Errors
+///
+/// Those of [`index_all`].
+pub fn index_of<'a, S: Stored>(
+    alloc: Global,
+    stored: &'a [AnyStored<S>],
+    paths: &[InputPath<'_>],
+    force: bool,
+) -> Result<Index<'a, AnyStored<S>>, Refusal>
+    ensures table { IfOk result (λ index. Indexed ⟦<AnyStored<S> as Stored>⟧.content paths.now stored.now force (⟦<Index<'a, AnyStored<S>> as Taker<Cursor<'a, AnyStored<S>>>>⟧.took index)) }
+    ensures why { IfErr result (IsUnindexed ⟦<AnyStored<S> as Stored>⟧.content paths.now stored.now force) }
+{
+    let mut index = match Index::new(alloc) {
+        Ok(index) => index,
+        Err(AllocError) => return Err(Refusal::Memory(AllocError)),
+    };
+    match index_all(alloc, stored, paths, force, &mut index) {
+        Ok(()) => Ok(index),
+        Err(refusal) => Err(refusal),
+    }
 }

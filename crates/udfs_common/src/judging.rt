@@ -7,8 +7,8 @@ ghost use Rattle.udfs_lattice.specs.Records.{join_all};
 ghost use Rattle.udfs_lattice.specs.Tables.{Table, IsTable, state_of};
 ghost use Rattle.udfs_reading.specs.Several.{AllTell};
 ghost use Rattle.udfs_reading.specs.declared.error.ReadingFault.TheVariants.{Io};
-ghost use Rattle.udfs_common.specs.OtherDiscs.{IsOneDisc, IsOtherBy};
-ghost use Rattle.udfs_common.specs.Indexing.{IsNamed, OfTold};
+ghost use Rattle.udfs_common.specs.OtherDiscs.{IsOneDisc, IsOtherBy, is_compared, pair_at};
+ghost use Rattle.udfs_common.specs.Indexing.{IsNamedAt, OfTold};
 ghost use Rattle.udfs_common.specs.Refused.{IsUncompared};
 
 use crate::index_taking::cursors;
@@ -17,6 +17,21 @@ use std::alloc::{AllocError, Global};
 use udfs_index::{Comparison, Cursor, Index, Stored};
 use udfs_lattice::{BlockStore, Fact, ReadFault};
 use udfs_reading::{ReadingError, ReadingFault, Taker, take_inputs};
+use udfs_words::input_path::InputPath;
+
+/// Whether the input at this place is an image with its mapfile.
+fn is_pair_at(paths: &[InputPath<'_>], place: usize) -> bool
+    ensures { result ≡ pair_at paths.now place }
+{
+    matches!(paths.get(place), Some(InputPath::Pair(_, _)))
+}
+
+/// Whether the input at this place is compared with those before it: an image that is not the first input, unless `force` is set.
+pub fn is_compared(paths: &[InputPath<'_>], place: usize, force: bool) -> bool
+    ensures { result ≡ is_compared paths.now place force }
+{
+    !force && place > 0 && is_pair_at(paths, place)
+}
 
 /// Of a block: whether both stores know it, and whether by other bytes. Its bytes are read only where both do.
 fn compare_block<A: BlockStore, B: BlockStore>(
@@ -109,7 +124,7 @@ pub fn judge<S: Stored>(alloc: Global, stored: &[S], place: usize) -> Result<(),
     requires { place < length stored.now }
     ensures one { OnOk result (OfTold S.content stored.now place IsOneDisc) }
     ensures why { IfErr result (λ refusal. (refusal ≡ Refusal.Memory alloc_error) ⊎ IsUncompared (length stored.now) refusal ⊎
-        (IsNamed refusal × OfTold S.content stored.now place (λ before own. IsOtherBy before own (place + 1) refusal))) }
+        (IsNamedAt place refusal × OfTold S.content stored.now place (λ before own. IsOtherBy before own (place + 1) refusal))) }
 {
     let before = match index_of(alloc, &stored[..place]) {
         Ok(before) => before,

@@ -1,6 +1,6 @@
-//! What was read of the disc of a volume, where all inputs can be read at positions: an index of where its bytes are, and no block is held.
+//! What was read of the disc of a volume: an index of where its bytes are. Of inputs that are regular files no block is held.
 
-ghost use Rattle.std.specs.Prelude.{◌≡◌, IfOk, IfErr, IfSome};
+ghost use Rattle.std.specs.Prelude.{◌≡◌, ◌⊎◌, IfOk, IfErr};
 ghost use Rattle.udfs_lattice.specs.Tables.{IsTable, Table};
 ghost use Rattle.udfs_common.specs.Blaming.{stored_reason};
 ghost use Rattle.udfs_common.specs.Indexing.{Indexed};
@@ -9,11 +9,12 @@ ghost use Rattle.udfs_common.specs.Volumes.{IsNoVolume, IsStoredDisc, IsVolumeUn
 use crate::ends::last_block;
 use crate::files::Files;
 use crate::index_taking::reread_of;
-use crate::indexing::index_all;
+use crate::indexing::index_of;
 use crate::known::Known;
 use crate::refusal::Refusal;
 use crate::stored_inputs::open_all_stored;
-use std::alloc::{AllocError, Global};
+use crate::unwritten::unwritten;
+use std::alloc::Global;
 use udfs_index::{AnyStored, Cursor, Index, Stored, Unread};
 use udfs_reading::Taker;
 use udfs_words::request::VolumeSource;
@@ -21,14 +22,13 @@ use udfs_words::request::VolumeSource;
 /// The inputs of a volume, which are read at positions as often as it is wanted.
 #[derive(Drop)]
 pub struct StoredDisc<S: Stored> {
-    /// The inputs, in their order. There is at least one.
+    /// The inputs, in their order.
     pub stored: Vec<AnyStored<S>>,
     /// The number of the last block of the disc.
     pub last: u32,
 }
 
-/// Opens the inputs of a volume to be read at positions, if each of them is a regular file by its own path, or an image and a mapfile that are. It returns
-/// `None` where one is a pipe or a device, or there is none: [`joined_volume`](crate::volumes::joined_volume) reads them then. Where the disc ends is found first.
+/// Opens the inputs of a volume, as [`open_all_stored`] does. Where the disc ends is found first.
 ///
 /// # Errors
 ///
@@ -37,8 +37,8 @@ pub fn stored_volume<F: Files>(
     alloc: Global,
     volume: &VolumeSource<'_>,
     files: &F,
-) -> Result<Option<StoredDisc<F::Stored>>, Refusal>
-    ensures stored { IfOk result (λ found. IfSome found (λ disc. IsStoredDisc ⟦<F as Known>⟧.reach files.now volume.now ⟦<AnyStored<F::Stored> as Stored>⟧.content stored_reason disc.stored.items disc.last)) }
+) -> Result<StoredDisc<F::Stored>, Refusal>
+    ensures stored { IfOk result (λ disc. IsStoredDisc ⟦<F as Known>⟧.reach files.now volume.now ⟦<AnyStored<F::Stored> as Stored>⟧.content stored_reason disc.stored.items disc.last) }
     ensures refused { IfErr result (IsNoVolume ⟦<F as Known>⟧.reach files.now volume.now) }
 {
     let paths = volume.inputs.paths.as_slice();
@@ -46,22 +46,18 @@ pub fn stored_volume<F: Files>(
         Ok(last) => last,
         Err(refusal) => return Err(refusal),
     };
-    if paths.is_empty() {
-        return Ok(None);
-    }
     match open_all_stored(alloc, paths, files) {
-        Ok(Some(stored)) => Ok(Some(StoredDisc { stored, last })),
-        Ok(None) => Ok(None),
+        Ok(stored) => Ok(StoredDisc { stored, last }),
         Err(refusal) => Err(refusal),
     }
 }
 
-/// Takes the inputs of a volume, as [`index_all`] does, and returns the index of where the bytes of their join are. Of a table file of version 2 only the headers
+/// Takes the inputs of a volume, as [`index_of`] does, and returns the index of where the bytes of their join are. Of a table file of version 2 only the headers
 /// of its packets are read, and the blocks that an input before it knows too.
 ///
 /// # Errors
 ///
-/// As those of [`index_all`].
+/// Those of [`index_of`].
 pub fn indexed_volume<'a, F: Files>(
     alloc: Global,
     volume: &VolumeSource<'_>,
@@ -76,19 +72,9 @@ pub fn indexed_volume<'a, F: Files>(
     ensures refused { IfErr result (IsVolumeUnread ⟦<F as Known>⟧.reach files.now volume.now) }
 {
     let _ = files;
-    let mut index = match Index::new(alloc) {
-        Ok(index) => index,
-        Err(AllocError) => return Err(Refusal::Memory(AllocError)),
-    };
     let paths = volume.inputs.paths.as_slice();
-    match index_all(
-        alloc,
-        disc.stored.as_slice(),
-        paths,
-        volume.force,
-        &mut index,
-    ) {
-        Ok(()) => Ok(index),
+    match index_of(alloc, disc.stored.as_slice(), paths, volume.force) {
+        Ok(index) => Ok(index),
         Err(refusal) => Err(refusal),
     }
 }
@@ -106,4 +92,12 @@ pub fn unread_volume<F: Files>(
     let _ = volume;
     let _ = files;
     reread_of(disc.stored.as_slice(), unread)
+}
+
+/// What is said of an output that could not be looked at: the inputs of the volume are judged before it.
+pub fn unwritten_volume<F: Files>(alloc: Global, volume: &VolumeSource<'_>, files: &F) -> Refusal
+    ensures { (result ≡ Refusal.Output) ⊎ IsNoVolume ⟦<F as Known>⟧.reach files.now volume.now result }
+{
+    let paths = volume.inputs.paths.as_slice();
+    unwritten(alloc, paths, volume.force, files)
 }

@@ -37,7 +37,7 @@ unfound deleted trees blocks report told TooManyPaths Kept Quiet More Others kep
 unfound deleted trees blocks report told OutOfMemory Kept Quiet More Others kept quiet place_is why = inl (kept, quiet, inl refl)
 unfound deleted trees blocks report told Unread Kept Quiet More Others kept quiet place_is why = inl (kept, quiet)
 
-module _ {F I M S W O : Type 0} (reach : Reach F I M S W) (stream : O → Stream) (r : ExtractRequest) (place : Option (List ℕ)) where
+module _ {F I S W O : Type 0} (reach : Reach F I S W) (stream : O → Stream) (r : ExtractRequest) (place : Option (List ℕ)) where
   abbrev Refuses : F → F → O → O → ℕ → Blocks → Report → Refusal → Type 0
   Refuses old new before after last blocks report = ListedRefused reach stream r place old new before after last blocks report
 

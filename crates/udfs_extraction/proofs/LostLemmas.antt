@@ -15,7 +15,7 @@ use Rattle.udfs_reading.specs.Device.{Stream}
 abbrev Held : Type 0
 Held = List ℕ → Option (Option (List ℕ))
 
-module _ {F I M S W : Type 0} (known : Ghosts F I M S W) where
+module _ {F I S W : Type 0} (known : Ghosts F I S W) where
   abbrev Lost : List ℕ → F → F → Type 0
   Lost folder old new = SparesLost known folder old new
 
@@ -133,6 +133,6 @@ puts_lost P two us old new heard good is put = record {
 }
 
 -- nothing was begun, whether lost files are asked for or not
-pub nothing_added : {F I M S W : Type 0} (known : Ghosts F I M S W) (lost : Option (Bor (List ℕ))) (files : F) → MatchOption lost (files ≡ files) (λ folder. SparesLost known folder.now files files)
+pub nothing_added : {F I S W : Type 0} (known : Ghosts F I S W) (lost : Option (Bor (List ℕ))) (files : F) → MatchOption lost (files ≡ files) (λ folder. SparesLost known folder.now files files)
 nothing_added known None files = refl
 nothing_added known (Some folder) files = nothing_lost known folder.now files

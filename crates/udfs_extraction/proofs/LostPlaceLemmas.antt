@@ -49,7 +49,7 @@ if_ok P Q (Ok x) follows h = follows x h
 if_ok P Q (Err e) follows h = tt
 
 -- the lost folders are made, or not asked for
-abbrev TreesMade : {F I M S W O : Type 0} → Ghosts F I M S W → (W → Stream) → (O → Stream) → ExtractRequest → F → F → O → O → Blocks → Report → Bool → Type 0
+abbrev TreesMade : {F I S W O : Type 0} → Ghosts F I S W → (W → Stream) → (O → Stream) → ExtractRequest → F → F → O → O → Blocks → Report → Bool → Type 0
 TreesMade files output stream r three new between after blocks report good = MatchOption r.trees ((new ≡ three) × (after ≡ between) × (good ≡ true))
     (λ folder. ((trees : List LostTree) × (names : List FoundAt) × AreFoundOf r.deleted blocks report trees names ×
     PutsTrees (IsTreePut files output new blocks report.volume r.short_names folder.now names) (tree_lines blocks report.volume r.short_names) trees (stream between) (stream after) good) × SparesLost files folder.now three new)
@@ -72,13 +72,13 @@ module _ (Tells : Type 0) (blocks of : Blocks) (report told : Report) (same : Te
   moved_unfound deleted (Some folder) Unread h known = tt
 
   -- what is put of it is put of what it stands in for
-  pub moved_made : {F I M S W O : Type 0} (files : Ghosts F I M S W) (output : W → Stream) (stream : O → Stream) (r : ExtractRequest) (three new : F) (between after : O) (result : Result Bool Stop)
+  pub moved_made : {F I S W O : Type 0} (files : Ghosts F I S W) (output : W → Stream) (stream : O → Stream) (r : ExtractRequest) (three new : F) (between after : O) (result : Result Bool Stop)
       → IfOk result (λ good. Tells → TreesMade files output stream r three new between after blocks report good) → IfOk result (λ good. Tells → TreesMade files output stream r three new between after of told good)
   moved_made files output stream r three new between after (Ok good) h = λ known. subst (λ (bs : Blocks). TreesMade files output stream r three new between after bs told good) (same known) (subst (λ (m : Report). TreesMade files output stream r three new between after blocks m good) (is known) (h known))
   moved_made files output stream r three new between after (Err stop) h = tt
 
   -- and until it stopped
-  pub moved_stop : {F I M S W : Type 0} (files : Ghosts F I M S W) (output : W → Stream) (deleted short : Bool) (new : F) (between after : Stream) (trees : Option (Bor (List ℕ))) (result : Result Bool Stop)
+  pub moved_stop : {F I S W : Type 0} (files : Ghosts F I S W) (output : W → Stream) (deleted short : Bool) (new : F) (between after : Stream) (trees : Option (Bor (List ℕ))) (result : Result Bool Stop)
       → IfErr result (λ stop. Tells → MatchOption trees ⊥ (λ folder. IfStopped (TreesStop files output deleted short folder.now new between after blocks report) (TreesCut files output deleted short folder.now new between after blocks report) stop))
       → IfErr result (λ stop. Tells → MatchOption trees ⊥ (λ folder. IfStopped (TreesStop files output deleted short folder.now new between after of told) (TreesCut files output deleted short folder.now new between after of told) stop))
   moved_stop files output deleted short new between after trees (Ok good) h = tt

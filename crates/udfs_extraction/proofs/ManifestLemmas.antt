@@ -132,7 +132,7 @@ puts_with only lined P Is nodes old new good fates heard nothing_failed whole te
 
 -- ---- the manifest is put
 
-module _ {F I M S W : Type 0} (reach : Reach F I M S W) (r : ExtractRequest) (blocks : Blocks) (report : Report) (old one two : F) (before after : Stream) (good : Bool) where
+module _ {F I S W : Type 0} (reach : Reach F I S W) (r : ExtractRequest) (blocks : Blocks) (report : Report) (old one two : F) (before after : Stream) (good : Bool) where
   abbrev WasNoted : Bool → Option (List ℕ) → Type 0
   WasNoted digest text = PutsNoted (texts r.only.items) r.short_names (IsNodePut reach r one blocks)
       (λ told fates t. digest ≡ true → reach.files.tells → IsManifest (reach.files.holds one) r.folder.now r.short_names told fates t) old one report before after good text
@@ -157,7 +157,7 @@ module _ {F I M S W : Type 0} (reach : Reach F I M S W) (r : ExtractRequest) (bl
   without_text (Some there) (Some t) none put = absurd (let no : ⊥ = cc in no)
 
 -- the nodes and their manifest
-pub listed : {F I M S W : Type 0} (reach : Reach F I M S W) (r : ExtractRequest) (blocks : Blocks) (report : Report) (old one two : F) (before after : Stream) (good : Bool) (place text : Option (List ℕ)) (digest : Bool) → digest ≡ is_some place
+pub listed : {F I S W : Type 0} (reach : Reach F I S W) (r : ExtractRequest) (blocks : Blocks) (report : Report) (old one two : F) (before after : Stream) (good : Bool) (place text : Option (List ℕ)) (digest : Bool) → digest ≡ is_some place
     → WasNoted reach r blocks report old one two before after good digest text → ByManifest (two ≡ one) place text (λ there t. reach.files.tells → IsPutLast reach.files there one two t)
     → ((q : List ℕ) → IsElsewhere (texts r.only.items) (fill_of r.fill) r.short_names report r.folder.now q → reach.files.holds one q ≡ reach.files.holds old q) → MakesNodes reach r place old one two before after blocks report good
 listed reach r blocks report old one two before after good place text digest is puts put elsewhere = record { puts = by report.volume puts; elsewhere = elsewhere }
@@ -172,7 +172,7 @@ listed reach r blocks report old one two before after good place text digest is 
     by (faulty fault) n = (n.0, without_text reach r blocks report old one two before after good place text n.1 put)
 
 -- what may be at its place is a manifest of the files
-pub spares_listed : {F I M S W : Type 0} (reach : Reach F I M S W) (r : ExtractRequest) (blocks : Blocks) (report : Report) (old one two : F) (before after : Stream) (good : Bool) (place text : Option (List ℕ)) (digest : Bool) → digest ≡ is_some place
+pub spares_listed : {F I S W : Type 0} (reach : Reach F I S W) (r : ExtractRequest) (blocks : Blocks) (report : Report) (old one two : F) (before after : Stream) (good : Bool) (place text : Option (List ℕ)) (digest : Bool) → digest ≡ is_some place
     → (reach.files.tells → WasNoted reach r blocks report old one two before after good digest text) → ByManifest (two ≡ one) place text (λ there t. reach.files.tells → MayPut reach.files there one two t)
     → SparesNodes reach.files r.folder.now old one → SparesListed reach r place old two
 spares_listed reach r blocks report old one two before after good place text digest is puts may nodes = record { one = one; nodes = nodes; last = by place text is puts may }
@@ -186,7 +186,7 @@ spares_listed reach r blocks report old one two before after good place text dig
         inr (record { report = report; fates = of.0; text = t; is_manifest = of.1 is told; may = may told })
 
 -- nothing was begun of a manifest, if one is asked for
-pub spares_unlisted : {F I M S W : Type 0} (reach : Reach F I M S W) (r : ExtractRequest) (place : Option (List ℕ)) (old one : F) → SparesNodes reach.files r.folder.now old one → SparesListed reach r place old one
+pub spares_unlisted : {F I S W : Type 0} (reach : Reach F I S W) (r : ExtractRequest) (place : Option (List ℕ)) (old one : F) → SparesNodes reach.files r.folder.now old one → SparesListed reach r place old one
 spares_unlisted reach r place old one nodes = record { one = one; nodes = nodes; last = by place }
   where
     by : (p : Option (List ℕ)) → MatchOption p (one ≡ one) (λ there. reach.files.tells → (one ≡ one) ⊎ MayPutLast reach.files r.short_names r.folder.now there one one)
@@ -194,7 +194,7 @@ spares_unlisted reach r place old one nodes = record { one = one; nodes = nodes;
     by (Some there) = λ told. inl refl
 
 -- the nodes were put, and their manifest was not
-pub unlisted : {F I M S W : Type 0} (reach : Reach F I M S W) (r : ExtractRequest) (blocks : Blocks) (report : Report) (old one two : F) (before after : Stream) (good : Bool) (place text : Option (List ℕ)) (digest : Bool) (refusal : Refusal)
+pub unlisted : {F I S W : Type 0} (reach : Reach F I S W) (r : ExtractRequest) (blocks : Blocks) (report : Report) (old one two : F) (before after : Stream) (good : Bool) (place text : Option (List ℕ)) (digest : Bool) (refusal : Refusal)
     → WasNoted reach r blocks report old one two before after good digest text
     → MatchOption place ⊥ (λ there. IsUnput (Fails reach.files.faults ⊎ SinkFails reach.output) refusal × (refusal ≢ Unkept → reach.files.holds two there ≡ reach.files.holds one there))
     → MatchOption place ⊥ (λ there. Unlisted reach r there old two before after blocks report refusal)

@@ -218,7 +218,7 @@ unwritten_lines place folder before after P never k (n ∷ ns) (fate ∷ fates) 
 
 -- ---- what is spared
 
-module _ {F I M S W : Type 0} (files : Ghosts F I M S W) (only : List (List ℕ)) (fill : Fill) (short : Bool) (report : Report) (folder : List ℕ) where
+module _ {F I S W : Type 0} (files : Ghosts F I S W) (only : List (List ℕ)) (fill : Fill) (short : Bool) (report : Report) (folder : List ℕ) where
   abbrev Spared : F → F → Type 0
   Spared before after = SparesRun files only fill short report folder before after
 
@@ -327,7 +327,7 @@ put_others holds before after put same others q out = elim (cases_Written put.do
 
 -- ---- what is told stays so where only files that are not told as written are removed
 
-module _ {F I M S W : Type 0} (files : Ghosts F I M S W) (output : W → Stream) (only : List (List ℕ)) (blocks : Blocks) (report : Report) (fill : Fill) (short : Bool) (folder : List ℕ) where
+module _ {F I S W : Type 0} (files : Ghosts F I S W) (output : W → Stream) (only : List (List ℕ)) (blocks : Blocks) (report : Report) (fill : Fill) (short : Bool) (folder : List ℕ) where
   abbrev DoneAt : F → ℕ → NodeFields → Fate → Type 0
   DoneAt at = IsDone only (IsPutAt files output at blocks report fill short folder)
 
@@ -365,7 +365,7 @@ noted_of wanted tells holds path named before after digest end noted written = n
 
 -- ---- one more node of a run
 
-module _ {F I M S W : Type 0} (files : Ghosts F I M S W) (output : W → Stream) (only : List (List ℕ)) (blocks : Blocks) (report : Report) (fill : Fill) (short digest : Bool) (folder : List ℕ) where
+module _ {F I S W : Type 0} (files : Ghosts F I S W) (output : W → Stream) (only : List (List ℕ)) (blocks : Blocks) (report : Report) (fill : Fill) (short digest : Bool) (folder : List ℕ) where
   pub are_held_still : (before after : F) (first : ℕ) (puts : List Put) → (files.tells → Stay (files.holds before) (files.holds after))
       → AreHeld files output before only blocks report fill short digest folder first puts → AreHeld files output after only blocks report fill short digest folder first puts
   are_held_still before after first puts stay held k n put at there = held_still files only fill short report folder output blocks digest before after (first + k) n put stay (held k n put at there)
@@ -429,7 +429,7 @@ if_both true two rest = refl
 if_both false two rest = refl
 
 -- a file is written, and then its name is brought to the disk, or it is removed
-pub named_spares : {F I M S W : Type 0} (files : Ghosts F I M S W) (folder path : List ℕ) (before mid after : F) (fate : Fate) → IsIn folder path → (files.tells → Stay (files.holds before) (files.holds mid)) → ((q : List ℕ) → q ≢ path → files.holds mid q ≡ files.holds before q)
+pub named_spares : {F I S W : Type 0} (files : Ghosts F I S W) (folder path : List ℕ) (before mid after : F) (fate : Fate) → IsIn folder path → (files.tells → Stay (files.holds before) (files.holds mid)) → ((q : List ℕ) → q ≢ path → files.holds mid q ≡ files.holds before q)
     → (files.tells → Goes files.moment files.may_leave files.left_since before mid (Spares folder (files.holds before))) → (fate ≡ Written → files.tells → files.holds before path ≡ Some None) → (fate ≢ Written → after ≡ mid)
     → ((q : List ℕ) → q ≢ path → files.holds after q ≡ files.holds mid q) → Goes files.moment files.may_leave files.left_since mid after (SameBut path) → SparesNodes files folder before after
 named_spares files folder path before mid after fate is_in stays one crash fresh unwritten two goes = elim (cases_Written fate) [

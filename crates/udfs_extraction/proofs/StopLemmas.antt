@@ -40,7 +40,7 @@ stopped_is P C s t is h = subst (IfStopped P C) (sym is) h
 
 -- ---- of the nodes
 
-pub unlisted_by : {F I M S W : Type 0} (reach : Reach F I M S W) (r : ExtractRequest) (place : Option (List ℕ)) (old new : F) (before after : Stream) (blocks : Blocks) (report : Report) (stop : Stop) → SparesNodes reach.files r.folder.now old new
+pub unlisted_by : {F I S W : Type 0} (reach : Reach F I S W) (r : ExtractRequest) (place : Option (List ℕ)) (old new : F) (before after : Stream) (blocks : Blocks) (report : Report) (stop : Stop) → SparesNodes reach.files r.folder.now old new
     → IfStopped (NodesStop reach.files reach.output (texts r.only.items) r.folder.now (fill_of r.fill) r.short_names old new before after blocks report) (NodesCut reach.files reach.output (texts r.only.items) r.folder.now (fill_of r.fill) r.short_names new before after blocks report) stop
     → IfStopped (ListStops reach r place old new before after blocks report) (NodesCut reach.files reach.output (texts r.only.items) r.folder.now (fill_of r.fill) r.short_names new before after blocks report) stop
 unlisted_by reach r place old new before after blocks report (Refused refusal) spares why = inl (why, spares)

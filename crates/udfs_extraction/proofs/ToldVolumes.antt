@@ -5,14 +5,10 @@ use Rattle.udfs_lattice.specs.Records.{join_all}
 use Rattle.udfs_lattice.specs.Tables.{IsTable, Table}
 use Rattle.udfs_words.specs.declared.request.VolumeSource.{VolumeSource}
 use Rattle.udfs_common.specs.Reach.{Reach}
-use Rattle.udfs_common.specs.Volumes.{OfToldVolume, OfVolume}
-
--- what holds of it in any case
-pub told_of : {F I M S W : Type 0} {reach : Reach F I M S W} {at : F} {volume : VolumeSource} {Holds : ℕ → Table → Type 0} → OfVolume reach at volume Holds → OfToldVolume reach at volume Holds
-told_of v = record { last = v.last; ends = v.ends; told = λ tells. (v.one_disc, v.join) }
+use Rattle.udfs_common.specs.Volumes.{OfToldVolume}
 
 -- what holds of each table that may have been taken holds of the volume's
-pub of_taken : {F I M S W : Type 0} {reach : Reach F I M S W} {at : F} {volume : VolumeSource} (n : ℕ) (Told : Type 0) (Took : Table → Type 0) (Gives : ℕ → Table → Type 0) → (reach.stored_told → Told) →
+pub of_taken : {F I S W : Type 0} {reach : Reach F I S W} {at : F} {volume : VolumeSource} (n : ℕ) (Told : Type 0) (Took : Table → Type 0) (Gives : ℕ → Table → Type 0) → (reach.stored_told → Told) →
     OfToldVolume reach at volume (λ last table. (last ≡ n) × IsTable table × Took table) → (Told → (t : Table) → IsTable t → Took t → Gives n t) → OfToldVolume reach at volume Gives
 of_taken n Told Took Gives told v holds = record {
   last = v.last;

@@ -58,7 +58,7 @@ in_tree folder number q is = (
   is.1 ∙ append_assoc (folder ++ codes "/") number (names_text is.0),
 )
 
-module _ {F I M S W : Type 0} (known : Ghosts F I M S W) where
+module _ {F I S W : Type 0} (known : Ghosts F I S W) where
   -- what is spared by one that is made in the folder of a tree
   pub spares_tree : (folder number path : List ℕ) (old new : F) → path ≡ folder ++ codes "/" ++ number → SparesNodes known path old new → SparesLost known folder old new
   spares_tree folder number path old new is spares = record {
@@ -95,7 +95,7 @@ module _ {F I M S W : Type 0} (known : Ghosts F I M S W) where
     failed = put.failed;
   }
 
-module _ {F I M S W : Type 0} (known : Ghosts F I M S W) (output : W → Stream) where
+module _ {F I S W : Type 0} (known : Ghosts F I S W) (output : W → Stream) where
   -- and so do trees
   pub trees_still : (blocks : Blocks) (volume : Answer Found) (short : Bool) (folder : List ℕ) (names : List FoundAt) (mid new : F) → ((t : ℕ) (c : Disk) → t ≤ known.moment mid → known.may_leave mid c → known.left_since mid t c) → SparesLost known folder mid new
       → (tree : LostTree) (done : TreePut) → IsTreePut known output mid blocks volume short folder names tree done → IsTreePut known output new blocks volume short folder names tree done
@@ -168,7 +168,7 @@ trees_cut P Q lined trees old mid new all k tree heard put Unread still count at
     record { heard = s.heard; puts = s.puts; each = s.each; lines = s.lines }
 
 -- the same of the trees that are found
-pub stopped_in : {F I M S W : Type 0} (files : Ghosts F I M S W) (output : W → Stream) (deleted short : Bool) (folder : List ℕ) (new : F) (between after : Stream) (blocks : Blocks) (report : Report) (trees : List LostTree) (names : List FoundAt) (stop : Stop) → AreFoundOf deleted blocks report trees names
+pub stopped_in : {F I S W : Type 0} (files : Ghosts F I S W) (output : W → Stream) (deleted short : Bool) (folder : List ℕ) (new : F) (between after : Stream) (blocks : Blocks) (report : Report) (trees : List LostTree) (names : List FoundAt) (stop : Stop) → AreFoundOf deleted blocks report trees names
     → IfStopped (StopsAt (IsTreePut files output new blocks report.volume short folder names) (tree_lines blocks report.volume short) trees between after) (CutAt (IsTreePut files output new blocks report.volume short folder names) (tree_lines blocks report.volume short) trees between after) stop
     → IfStopped (TreesStop files output deleted short folder new between after blocks report) (TreesCut files output deleted short folder new between after blocks report) stop
 stopped_in files output deleted short folder new between after blocks report trees names (Refused refusal) are why = (trees, names, are, inr why)

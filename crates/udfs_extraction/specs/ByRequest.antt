@@ -60,7 +60,7 @@ others r = bare r.folder.now ∷ some_path r.manifest
 abbrev pub more_others : ExtractRequest → List (List ℕ)
 more_others r = others r ++ some_folder r.lost
 
-module _ {F I M S W : Type 0} (reach : Reach F I M S W) (old : F) (r : ExtractRequest) where
+module _ {F I S W : Type 0} (reach : Reach F I S W) (old : F) (r : ExtractRequest) where
   -- where its path leads, if a manifest is asked for
   abbrev pub IsPlace : Option (List ℕ) → Type 0
   IsPlace place = MatchOption r.manifest (place ≡ None) (λ path. (there : List ℕ) × (place ≡ Some there) × (reach.files.tells → there ≡ reach.files.real old path.now))
@@ -83,7 +83,7 @@ module _ {F I M S W : Type 0} (reach : Reach F I M S W) (old : F) (r : ExtractRe
 
 -- ---- what is made
 
-module _ {F I M S W : Type 0} (reach : Reach F I M S W) where
+module _ {F I S W : Type 0} (reach : Reach F I S W) where
   -- what the fate of a node says of its file at some moment
   abbrev pub IsNodePut : ExtractRequest → F → Blocks → Report → ℕ → NodeFields → Fate → Type 0
   IsNodePut r at blocks report = IsPutAt reach.files reach.output at blocks report (fill_of r.fill) r.short_names r.folder.now
@@ -95,27 +95,27 @@ module _ {F I M S W : Type 0} (reach : Reach F I M S W) where
 
 -- At moment `one` the nodes that are asked for are made and reported, and any other is passed over; then their manifest is put. Of a volume that does not open there is none of this. No path
 -- has changed by then but those of nodes that are asked for and of which a file is to be written
-pub record MakesNodes {F I M S W : Type 0} (reach : Reach F I M S W) (r : ExtractRequest) (place : Option (List ℕ)) (old one two : F) (before after : Stream) (blocks : Blocks) (report : Report) (good : Bool) : Type 0 where
+pub record MakesNodes {F I S W : Type 0} (reach : Reach F I S W) (r : ExtractRequest) (place : Option (List ℕ)) (old one two : F) (before after : Stream) (blocks : Blocks) (report : Report) (good : Bool) : Type 0 where
   pub puts : PutsBy report.volume
       (PutsListed (texts r.only.items) (node_line [] r.short_names report) (IsNodePut reach r one blocks report) (PutsManifest reach r place one two report) report.nodes before after good)
       (PutsNone old one report.volume before after good × (two ≡ one))
   pub elsewhere : (q : List ℕ) → IsElsewhere (texts r.only.items) (fill_of r.fill) r.short_names report r.folder.now q → reach.files.holds one q ≡ reach.files.holds old q
 
 -- the lost files are made and reported, and nothing outside of their folder changes; or they are not asked for
-abbrev pub MakesLost : {F I M S W O : Type 0} → Reach F I M S W → (O → Stream) → Option (Bor (List ℕ)) → F → F → O → O → Blocks → Report → Bool → Type 0
+abbrev pub MakesLost : {F I S W O : Type 0} → Reach F I S W → (O → Stream) → Option (Bor (List ℕ)) → F → F → O → O → Blocks → Report → Bool → Type 0
 MakesLost reach stream lost two new between after blocks report good = MatchOption lost ((new ≡ two) × (after ≡ between) × (good ≡ true))
     (λ folder. PutsLost (IsLostPutAt reach.files reach.output new blocks report folder.now (has_two report.volume))
     (has_two report.volume) report.unnamed (stream between) (stream after) good × SparesLost reach.files folder.now two new)
 
 -- the lost folders are made and reported with what is in them, and then lost files, each by its number or by a name that is found for it, and nothing outside of their folder changes; or they are not asked for
-abbrev pub MakesTrees : {F I M S W O : Type 0} → Reach F I M S W → (O → Stream) → ExtractRequest → F → F → O → O → Blocks → Report → Bool → Type 0
+abbrev pub MakesTrees : {F I S W O : Type 0} → Reach F I S W → (O → Stream) → ExtractRequest → F → F → O → O → Blocks → Report → Bool → Type 0
 MakesTrees reach stream r three new between after blocks report good = MatchOption r.trees ((new ≡ three) × (after ≡ between) × (good ≡ true))
     (λ folder. ((trees : List LostTree) × (names : List FoundAt) × AreFoundOf r.deleted blocks report trees names ×
     PutsTrees (IsTreePut reach.files reach.output new blocks report.volume r.short_names folder.now names) (tree_lines blocks report.volume r.short_names) trees (stream between) (stream after) good) ×
     SparesLost reach.files folder.now three new)
 
 -- the nodes and their manifest, then the lost files, and then the lost folders, of which a volume that does not open may have some too; it is good where all are
-pub record Makes {F I M S W O : Type 0} (reach : Reach F I M S W) (stream : O → Stream) (r : ExtractRequest) (place : Option (List ℕ)) (old new : F) (before after : O) (last : ℕ) (blocks : Blocks) (report : Report) (good : Bool) : Type 0 where
+pub record Makes {F I S W O : Type 0} (reach : Reach F I S W) (stream : O → Stream) (r : ExtractRequest) (place : Option (List ℕ)) (old new : F) (before after : O) (last : ℕ) (blocks : Blocks) (report : Report) (good : Bool) : Type 0 where
   pub one : F
   pub two : F
   pub three : F
@@ -135,7 +135,7 @@ pub record IsGoodWithTimes (times good all : Bool) : Type 0 where
   pub never_more : all ≡ true → good ≡ true
 
 -- the report of the volume was made, at places where nothing is that is to stay
-pub record IsExtracted {F I M S W O : Type 0} (reach : Reach F I M S W) (stream : O → Stream) (r : ExtractRequest) (old new : F) (before after : O) (all : Bool) : Type 0 where
+pub record IsExtracted {F I S W O : Type 0} (reach : Reach F I S W) (stream : O → Stream) (r : ExtractRequest) (old new : F) (before after : O) (all : Bool) : Type 0 where
   pub free : HaveFreePlaces reach old r
   pub place : Option (List ℕ)
   pub is_place : IsPlace reach old r place

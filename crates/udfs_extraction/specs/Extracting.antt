@@ -122,7 +122,7 @@ abbrev pub Stay : (List ℕ → Option (Option (List ℕ))) → (List ℕ → Op
 Stay old new = (q bytes : List ℕ) → old q ≡ Some (Some bytes) → new q ≡ Some (Some bytes)
 
 -- no file that was there changes, nor anything outside of the folder, and no crash at any moment changes them
-pub record SparesNodes {F I M S W : Type 0} (files : Ghosts F I M S W) (folder : List ℕ) (before after : F) : Type 0 where
+pub record SparesNodes {F I S W : Type 0} (files : Ghosts F I S W) (folder : List ℕ) (before after : F) : Type 0 where
   pub stays : files.tells → Stay (files.holds before) (files.holds after)
   pub outside : (q : List ℕ) → (¬ IsIn folder q) → files.holds after q ≡ files.holds before q
   pub crash : files.tells → Goes files.moment files.may_leave files.left_since before after (Spares folder (files.holds before))
@@ -146,7 +146,7 @@ abbrev pub IsPut : (tells fails : Type 0) → Blocks → Report → Fill → Boo
 IsPut tells fails blocks report fill short folder holds moment left_since = IsPutBy tells fails blocks report fill short folder (IsSafe holds moment left_since)
 
 -- the same at some moment
-abbrev pub IsPutAt : {F I M S W : Type 0} → Ghosts F I M S W → (W → Stream) → F → Blocks → Report → Fill → Bool → List ℕ → ℕ → NodeFields → Fate → Type 0
+abbrev pub IsPutAt : {F I S W : Type 0} → Ghosts F I S W → (W → Stream) → F → Blocks → Report → Fill → Bool → List ℕ → ℕ → NodeFields → Fate → Type 0
 IsPutAt files output at blocks report fill short folder = IsPut files.tells (Fails files.faults ⊎ SinkFails output) blocks report fill short folder (files.holds at) (files.moment at) (files.left_since at)
 
 -- this holds of each node, of which the first has this index, and its fate, as far as there are fates

@@ -10,5 +10,5 @@ use Rattle.udfs_extraction.specs.Stopping.{IfStopped}
 use Rattle.udfs_extraction.specs.declared.stopping.Stop.{Stop}
 
 -- why not all was made of a volume whose nodes were listed: what is told, or that a block could not be read again
-pub record ListedStops {F I M S W O : Type 0} (reach : Reach F I M S W) (stream : O → Stream) (r : ExtractRequest) (place : Option (List ℕ)) (old new : F) (before after : O) (last : ℕ) (blocks : Blocks) (report : Report) (stop : Stop) : Type 0 where
+pub record ListedStops {F I S W O : Type 0} (reach : Reach F I S W) (stream : O → Stream) (r : ExtractRequest) (place : Option (List ℕ)) (old new : F) (before after : O) (last : ℕ) (blocks : Blocks) (report : Report) (stop : Stop) : Type 0 where
   pub why : IfStopped (ListedRefused reach stream r place old new before after last blocks report) (ListedCut reach stream r place old new before after last blocks report) stop

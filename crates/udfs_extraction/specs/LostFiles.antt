@@ -64,7 +64,7 @@ pub record SparesUnder (folder : List ℕ) (held : List ℕ → Option (Option (
   pub there : (q bytes : List ℕ) → held q ≡ Some (Some bytes) → c q ≡ d q
 
 -- no file that was there changes, nor anything outside of the folder, and no crash at any moment changes them
-pub record SparesLost {F I M S W : Type 0} (files : Ghosts F I M S W) (folder : List ℕ) (before after : F) : Type 0 where
+pub record SparesLost {F I S W : Type 0} (files : Ghosts F I S W) (folder : List ℕ) (before after : F) : Type 0 where
   pub stays : files.tells → Stay (files.holds before) (files.holds after)
   pub outside : (q : List ℕ) → (¬ IsUnder folder q) → files.holds after q ≡ files.holds before q
   pub crash : files.tells → Goes files.moment files.may_leave files.left_since before after (SparesUnder folder (files.holds before))
@@ -83,7 +83,7 @@ pub record IsLostPut (tells fails : Type 0) (blocks : Blocks) (report : Report) 
   pub failed : is_good fate ≡ false → (profile : Profile) (last : ℕ) → IsReportBy profile blocks last report → fails
 
 -- the same at some moment
-abbrev pub IsLostPutAt : {F I M S W : Type 0} → Ghosts F I M S W → (W → Stream) → F → Blocks → Report → List ℕ → Bool → Unnamed → Fate → Type 0
+abbrev pub IsLostPutAt : {F I S W : Type 0} → Ghosts F I S W → (W → Stream) → F → Blocks → Report → List ℕ → Bool → Unnamed → Fate → Type 0
 IsLostPutAt files output at blocks report folder two = IsLostPut files.tells (Fails files.faults ⊎ SinkFails output) blocks report folder two (files.holds at) (files.moment at) (files.left_since at)
 
 -- this holds of each entry and its fate, as far as there are fates
@@ -103,6 +103,6 @@ pub record PutsLost (P : Unnamed → Fate → Type 0) (two : Bool) (us : List Un
 -- ---- its place
 
 -- nothing is where the folder's path leads, and these paths lead elsewhere
-pub record IsNewFolder {F I M S W : Type 0} (known : Ghosts F I M S W) (at : F) (others : List (List ℕ)) (folder : List ℕ) : Type 0 where
+pub record IsNewFolder {F I S W : Type 0} (known : Ghosts F I S W) (at : F) (others : List (List ℕ)) (folder : List ℕ) : Type 0 where
   pub absent : known.holds at (known.real at folder) ≡ Some None
   pub apart : NoneLeads known at folder others

@@ -128,7 +128,7 @@ trees_lines lined (tree ∷ trees) (put ∷ more) = lined tree put ++ trees_line
 -- ---- what is put
 
 -- a tree is put at its number, or at one of these names for it; and what the fates of its nodes say of their files at some moment, as far as there are fates
-abbrev pub IsTreePut : {F I M S W : Type 0} → Ghosts F I M S W → (W → Stream) → F → Blocks → Answer Found → Bool → List ℕ → List FoundAt → LostTree → TreePut → Type 0
+abbrev pub IsTreePut : {F I S W : Type 0} → Ghosts F I S W → (W → Stream) → F → Blocks → Answer Found → Bool → List ℕ → List FoundAt → LostTree → TreePut → Type 0
 IsTreePut files output at blocks volume short folder names tree put = IsSeat names tree.folder put.seat ×
     Each (IsPutAt files output at blocks (tree_report blocks volume tree) Refuse short (seat_path folder (has_two volume) tree.folder put.seat)) 0 (tree_report blocks volume tree).nodes put.fates
 

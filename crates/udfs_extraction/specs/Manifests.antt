@@ -92,19 +92,19 @@ PutsNoted only short P Is before after report old new good manifest = PutsBy rep
 -- ---- the manifest is put
 
 -- a text is at its place, each crash leaves it, and one in between leaves it or what was there; no other path changes, but those of new files that are to go in its place
-pub record IsPutLast {F I M S W : Type 0} (files : Ghosts F I M S W) (place : List ℕ) (mid after : F) (text : List ℕ) : Type 0 where
+pub record IsPutLast {F I S W : Type 0} (files : Ghosts F I S W) (place : List ℕ) (mid after : F) (text : List ℕ) : Type 0 where
   pub kept : IsKept (files.holds after) (files.may_leave after) place text
   pub crash : Goes files.moment files.may_leave files.left_since mid after (Replaced place text)
   pub elsewhere : (q : List ℕ) → q ≢ place → (¬ IsOwn place q) → files.holds after q ≡ files.holds mid q
 
 -- a text is at its place, or what was there; a crash at any moment leaves one of them; no other path changes, but those of new files that are to go in its place
-pub record MayPut {F I M S W : Type 0} (files : Ghosts F I M S W) (place : List ℕ) (mid after : F) (text : List ℕ) : Type 0 where
+pub record MayPut {F I S W : Type 0} (files : Ghosts F I S W) (place : List ℕ) (mid after : F) (text : List ℕ) : Type 0 where
   pub stands : (files.holds after place ≡ files.holds mid place) ⊎ (files.holds after place ≡ Some (Some text))
   pub crash : Goes files.moment files.may_leave files.left_since mid after (Replaced place text)
   pub elsewhere : (q : List ℕ) → q ≢ place → (¬ IsOwn place q) → files.holds after q ≡ files.holds mid q
 
 -- the same of a manifest of files as they are
-pub record MayPutLast {F I M S W : Type 0} (files : Ghosts F I M S W) (short : Bool) (folder place : List ℕ) (mid after : F) : Type 0 where
+pub record MayPutLast {F I S W : Type 0} (files : Ghosts F I S W) (short : Bool) (folder place : List ℕ) (mid after : F) : Type 0 where
   pub report : Report
   pub fates : List Fate
   pub text : List ℕ
@@ -127,7 +127,7 @@ abbrev pub IsBeside : List ℕ → List ℕ → Type 0
 IsBeside folder place = (q : List ℕ) → IsIn folder q → (q ≢ place) × (¬ IsOwn place q)
 
 -- `files` are the inputs that are files, and `parts` the images and mapfiles among the inputs; it is beside the folder by its path as it is given, and by where that leads
-pub record IsFreeManifest {F I M S W : Type 0} (known : Ghosts F I M S W) (at : F) (files parts : List (List ℕ)) (folder out : List ℕ) : Type 0 where
+pub record IsFreeManifest {F I S W : Type 0} (known : Ghosts F I S W) (at : F) (files parts : List (List ℕ)) (folder out : List ℕ) : Type 0 where
   pub no_input : NoneLeads known at out files
   pub apart : NoneLeads known at out parts
   pub beside : IsBeside folder (known.real at out)
@@ -143,6 +143,6 @@ abbrev pub IsNoManifest : Option (Option (List ℕ)) → Type 0
 IsNoManifest held = (held ≢ Some None) × ((bytes : List ℕ) → held ≡ Some (Some bytes) → begins_as_sums bytes ≡ false)
 
 -- an input leads there, or it is near the folder, or near where the folder's path leads, or what is no file may be there, or a file that does not begin as a manifest is
-abbrev pub IsSparedManifest : {F I M S W : Type 0} → Ghosts F I M S W → F → List (List ℕ) → List (List ℕ) → List ℕ → List ℕ → Type 0
+abbrev pub IsSparedManifest : {F I S W : Type 0} → Ghosts F I S W → F → List (List ℕ) → List (List ℕ) → List ℕ → List ℕ → Type 0
 IsSparedManifest known at files parts folder out = SomeLeads known at out parts ⊎ SomeLeads known at out files ⊎ IsNear folder (known.real at out) (known.real at out ++ codes ".unfinished") ⊎
     IsNear (known.real at (bare folder)) (known.real at out) (known.real at out ++ codes ".unfinished") ⊎ known.in_place at out ⊎ IsNoManifest (known.holds at (known.real at out))

@@ -97,7 +97,7 @@ StopsLost Failed P two us old new refusal = ((new ≡ old) × (refusal ≡ LostF
 
 -- ---- of files at some moment
 
-module _ {F I M S W : Type 0} (files : Ghosts F I M S W) (output : W → Stream) where
+module _ {F I S W : Type 0} (files : Ghosts F I S W) (output : W → Stream) where
   -- what is said of the lost files, in their own folder
   abbrev pub LostStops : List ℕ → F → Stream → Stream → Blocks → Report → Refusal → Type 0
   LostStops lost new between after blocks report refusal =
@@ -132,7 +132,7 @@ module _ {F I M S W : Type 0} (files : Ghosts F I M S W) (output : W → Stream)
 -- ---- by the request
 
 -- at some moment all was put and reported, but then the manifest was not put, and what was at its place is there; or it is not kept for sure
-pub record Unlisted {F I M S W : Type 0} (reach : Reach F I M S W) (r : ExtractRequest) (there : List ℕ) (old new : F) (before after : Stream) (blocks : Blocks) (report : Report) (refusal : Refusal) : Type 0 where
+pub record Unlisted {F I S W : Type 0} (reach : Reach F I S W) (r : ExtractRequest) (there : List ℕ) (old new : F) (before after : Stream) (blocks : Blocks) (report : Report) (refusal : Refusal) : Type 0 where
   pub one : F
   pub good : Bool
   pub puts : PutsOf (texts r.only.items) r.short_names (IsNodePut reach r one blocks) old one report before after good
@@ -140,12 +140,12 @@ pub record Unlisted {F I M S W : Type 0} (reach : Reach F I M S W) (r : ExtractR
   pub stays : refusal ≢ Unkept → reach.files.holds new there ≡ reach.files.holds one there
 
 -- extracting the nodes ended with this error, and nothing outside of their folder changed; or putting their manifest did
-abbrev pub ListStops : {F I M S W : Type 0} → Reach F I M S W → ExtractRequest → Option (List ℕ) → F → F → Stream → Stream → Blocks → Report → Refusal → Type 0
+abbrev pub ListStops : {F I S W : Type 0} → Reach F I S W → ExtractRequest → Option (List ℕ) → F → F → Stream → Stream → Blocks → Report → Refusal → Type 0
 ListStops reach r place old new before after blocks report refusal = (NodesStop reach.files reach.output (texts r.only.items) r.folder.now (fill_of r.fill) r.short_names old new before after blocks report refusal × SparesNodes reach.files r.folder.now old new) ⊎
     MatchOption place ⊥ (λ there. Unlisted reach r there old new before after blocks report refusal)
 
 -- at some moment the nodes were put and reported, and their manifest put, and then putting the lost files ended with this error
-pub record StopsAdding {F I M S W O : Type 0} (reach : Reach F I M S W) (stream : O → Stream) (r : ExtractRequest) (place : Option (List ℕ)) (folder : List ℕ) (old new : F) (before after : O) (blocks : Blocks) (report : Report) (refusal : Refusal) : Type 0 where
+pub record StopsAdding {F I S W O : Type 0} (reach : Reach F I S W) (stream : O → Stream) (r : ExtractRequest) (place : Option (List ℕ)) (folder : List ℕ) (old new : F) (before after : O) (blocks : Blocks) (report : Report) (refusal : Refusal) : Type 0 where
   pub one : F
   pub two : F
   pub between : O
@@ -154,7 +154,7 @@ pub record StopsAdding {F I M S W O : Type 0} (reach : Reach F I M S W) (stream 
   pub lost : LostStops reach.files reach.output folder new (stream between) (stream after) blocks report refusal
 
 -- at some moment all of that was put and reported, and then putting the lost folders ended with this error
-pub record StopsBeyond {F I M S W O : Type 0} (reach : Reach F I M S W) (stream : O → Stream) (r : ExtractRequest) (place : Option (List ℕ)) (folder : List ℕ) (old new : F) (before after : O) (last : ℕ) (blocks : Blocks) (report : Report) (refusal : Refusal) : Type 0 where
+pub record StopsBeyond {F I S W O : Type 0} (reach : Reach F I S W) (stream : O → Stream) (r : ExtractRequest) (place : Option (List ℕ)) (folder : List ℕ) (old new : F) (before after : O) (last : ℕ) (blocks : Blocks) (report : Report) (refusal : Refusal) : Type 0 where
   pub one : F
   pub two : F
   pub three : F
@@ -167,7 +167,7 @@ pub record StopsBeyond {F I M S W O : Type 0} (reach : Reach F I M S W) (stream 
   pub trees : TreesStop reach.files reach.output r.deleted r.short_names folder new (stream beyond) (stream after) blocks (lost_report r.volume.profile blocks last report) refusal
 
 -- the nodes, their manifest, the lost files, or the lost folders were not put and reported, or only in part
-abbrev pub MakingStops : {F I M S W O : Type 0} → Reach F I M S W → (O → Stream) → ExtractRequest → Option (List ℕ) → F → F → O → O → ℕ → Blocks → Report → Refusal → Type 0
+abbrev pub MakingStops : {F I S W O : Type 0} → Reach F I S W → (O → Stream) → ExtractRequest → Option (List ℕ) → F → F → O → O → ℕ → Blocks → Report → Refusal → Type 0
 MakingStops reach stream r place old new before after last blocks report refusal = ListStops reach r place old new (stream before) (stream after) blocks report refusal ⊎
     MatchOption r.lost ⊥ (λ folder. StopsAdding reach stream r place folder.now old new before after blocks report refusal) ⊎
     MatchOption r.trees ⊥ (λ folder. StopsBeyond reach stream r place folder.now old new before after last blocks report refusal)
@@ -190,12 +190,12 @@ pub record IsUnsearched (deleted : Bool) (blocks : Blocks) (report : Report) (re
   pub told : refusal ≡ lost_refusal_of error
 
 -- by the rules of the volume
-abbrev pub MakingRefused : {F I M S W O : Type 0} → Reach F I M S W → (O → Stream) → ExtractRequest → Option (List ℕ) → F → F → O → O → ℕ → Table → Refusal → Type 0
+abbrev pub MakingRefused : {F I S W O : Type 0} → Reach F I S W → (O → Stream) → ExtractRequest → Option (List ℕ) → F → F → O → O → ℕ → Table → Refusal → Type 0
 MakingRefused reach stream r place old new before after last table refusal = ((new ≡ old) × (after ≡ before) × IsUntold r.volume.profile last refusal table) ⊎
     ((report : Report) × IsReportBy r.volume.profile (state_of table) last report ×
     (((new ≡ old) × (after ≡ before) × MatchOption r.trees ⊥ (λ folder. IsUnsearched r.deleted (state_of table) (lost_report r.volume.profile (state_of table) last report) refusal)) ⊎ MakingStops reach stream r place old new before after last (state_of table) report refusal))
 
-module _ {F I M S W : Type 0} (reach : Reach F I M S W) (old : F) (r : ExtractRequest) where
+module _ {F I S W : Type 0} (reach : Reach F I S W) (old : F) (r : ExtractRequest) where
   -- the manifest's place was spared, or what is there could not be seen, or the folder's path leads nowhere
   abbrev pub IsPlaceRefused : Refusal → Type 0
   IsPlaceRefused refusal = MatchOption r.manifest ⊥ (λ path.
@@ -208,7 +208,7 @@ module _ {F I M S W : Type 0} (reach : Reach F I M S W) (old : F) (r : ExtractRe
   IsUnbegun refusal = (refusal ≡ Memory alloc_error) ⊎ IsPlaceRefused refusal ⊎ MatchOption r.lost ⊥ (λ path. refusal ≡ LostSpared) ⊎ MatchOption r.trees ⊥ (λ path. refusal ≡ LostSpared) ⊎ IsNoVolume reach old r.volume refusal ⊎ IsVolumeUnread reach old r.volume refusal
 
 -- A block could not be read again: the nodes and their manifest were put and reported, and then lost files were, up to some one.
-pub record CutAdding {F I M S W O : Type 0} (reach : Reach F I M S W) (stream : O → Stream) (r : ExtractRequest) (place : Option (List ℕ)) (folder : List ℕ) (old new : F) (before after : O) (blocks : Blocks) (report : Report) : Type 0 where
+pub record CutAdding {F I S W O : Type 0} (reach : Reach F I S W) (stream : O → Stream) (r : ExtractRequest) (place : Option (List ℕ)) (folder : List ℕ) (old new : F) (before after : O) (blocks : Blocks) (report : Report) : Type 0 where
   pub one : F
   pub two : F
   pub between : O
@@ -217,7 +217,7 @@ pub record CutAdding {F I M S W O : Type 0} (reach : Reach F I M S W) (stream : 
   pub lost : LostCut reach.files reach.output folder new (stream between) (stream after) blocks report
 
 -- or all of that was, and then lost folders were, up to some node
-pub record CutBeyond {F I M S W O : Type 0} (reach : Reach F I M S W) (stream : O → Stream) (r : ExtractRequest) (place : Option (List ℕ)) (folder : List ℕ) (old new : F) (before after : O) (last : ℕ) (blocks : Blocks) (report : Report) : Type 0 where
+pub record CutBeyond {F I S W O : Type 0} (reach : Reach F I S W) (stream : O → Stream) (r : ExtractRequest) (place : Option (List ℕ)) (folder : List ℕ) (old new : F) (before after : O) (last : ℕ) (blocks : Blocks) (report : Report) : Type 0 where
   pub one : F
   pub two : F
   pub three : F
@@ -230,33 +230,33 @@ pub record CutBeyond {F I M S W O : Type 0} (reach : Reach F I M S W) (stream : 
   pub trees : TreesCut reach.files reach.output r.deleted r.short_names folder new (stream beyond) (stream after) blocks (lost_report r.volume.profile blocks last report)
 
 -- A block of a report's volume could not be read again. Nothing was made or reported then; or nodes were, up to some one, and nothing outside of their folder changed; or what is lost was, as far.
-abbrev pub ListedCut : {F I M S W O : Type 0} → Reach F I M S W → (O → Stream) → ExtractRequest → Option (List ℕ) → F → F → O → O → ℕ → Blocks → Report → Type 0
+abbrev pub ListedCut : {F I S W O : Type 0} → Reach F I S W → (O → Stream) → ExtractRequest → Option (List ℕ) → F → F → O → O → ℕ → Blocks → Report → Type 0
 ListedCut reach stream r place old new before after last blocks report = ((new ≡ old) × (after ≡ before)) ⊎
     (NodesCut reach.files reach.output (texts r.only.items) r.folder.now (fill_of r.fill) r.short_names new (stream before) (stream after) blocks report × SparesNodes reach.files r.folder.now old new) ⊎
     MatchOption r.lost ⊥ (λ folder. CutAdding reach stream r place folder.now old new before after blocks report) ⊎
     MatchOption r.trees ⊥ (λ folder. CutBeyond reach stream r place folder.now old new before after last blocks report)
 
 -- nothing was made or reported of a report's volume: memory ran out, or what is lost was not found; or not all was
-abbrev pub ListedRefused : {F I M S W O : Type 0} → Reach F I M S W → (O → Stream) → ExtractRequest → Option (List ℕ) → F → F → O → O → ℕ → Blocks → Report → Refusal → Type 0
+abbrev pub ListedRefused : {F I S W O : Type 0} → Reach F I S W → (O → Stream) → ExtractRequest → Option (List ℕ) → F → F → O → O → ℕ → Blocks → Report → Refusal → Type 0
 ListedRefused reach stream r place old new before after last blocks report refusal =
     ((new ≡ old) × (after ≡ before) × ((refusal ≡ Memory alloc_error) ⊎ MatchOption r.trees ⊥ (λ folder. IsUnsearched r.deleted blocks (lost_report r.volume.profile blocks last report) refusal))) ⊎
     MakingStops reach stream r place old new before after last blocks report refusal
 
 -- A block could not be read again, or an input has changed. Nothing was made or reported then, or what the report has was, up to some one; or all was.
-abbrev pub MakingCut : {F I M S W O : Type 0} → Reach F I M S W → (O → Stream) → ExtractRequest → Option (List ℕ) → F → F → O → O → ℕ → Table → Type 0
+abbrev pub MakingCut : {F I S W O : Type 0} → Reach F I S W → (O → Stream) → ExtractRequest → Option (List ℕ) → F → F → O → O → ℕ → Table → Type 0
 MakingCut reach stream r place old new before after last table = ((new ≡ old) × (after ≡ before)) ⊎ ((report : Report) × IsReportBy r.volume.profile (state_of table) last report ×
     (ListedCut reach stream r place old new before after last (state_of table) report ⊎ ((good : Bool) × Makes reach stream r place old new before after last (state_of table) report good)))
 
 -- what was made of the volume's disc by then; where an input could not be read again it is named
-abbrev pub DiscStops : {F I M S W O : Type 0} → Reach F I M S W → (O → Stream) → ExtractRequest → Option (List ℕ) → F → F → O → O → Refusal → Type 0
+abbrev pub DiscStops : {F I S W O : Type 0} → Reach F I S W → (O → Stream) → ExtractRequest → Option (List ℕ) → F → F → O → O → Refusal → Type 0
 DiscStops reach stream r place old new before after refusal = OfToldVolume reach old r.volume (λ last table. MakingRefused reach stream r place old new before after last table refusal) ⊎
     (IsVolumeUnread reach old r.volume refusal × OfToldVolume reach old r.volume (MakingCut reach stream r place old new before after))
 
 -- the volume's disc is not known, and nothing was made or reported; or what was made of it by then
-abbrev pub VolumeStops : {F I M S W O : Type 0} → Reach F I M S W → (O → Stream) → ExtractRequest → Option (List ℕ) → F → F → O → O → Refusal → Type 0
+abbrev pub VolumeStops : {F I S W O : Type 0} → Reach F I S W → (O → Stream) → ExtractRequest → Option (List ℕ) → F → F → O → O → Refusal → Type 0
 VolumeStops reach stream r place old new before after refusal = ((new ≡ old) × (after ≡ before) × (IsNoVolume reach old r.volume refusal ⊎ IsVolumeUnread reach old r.volume refusal)) ⊎ DiscStops reach stream r place old new before after refusal
 
 -- nothing was made or reported, and why; or the volume's disc is known, and what was made of it
-abbrev pub ExtractRefused : {F I M S W O : Type 0} → Reach F I M S W → (O → Stream) → ExtractRequest → F → F → O → O → Refusal → Type 0
+abbrev pub ExtractRefused : {F I S W O : Type 0} → Reach F I S W → (O → Stream) → ExtractRequest → F → F → O → O → Refusal → Type 0
 ExtractRefused reach stream r old new before after refusal = ((new ≡ old) × (after ≡ before) × IsUnbegun reach old r refusal) ⊎
     ((place : Option (List ℕ)) × IsPlace reach old r place × DiscStops reach stream r place old new before after refusal)

@@ -29,18 +29,18 @@ use Rattle.udfs_extraction.specs.declared.nodes.Fate.{Fate}
 use Rattle.udfs_extraction.specs.declared.nodes.Fate.TheVariants.{Failed, Left, Written}
 
 -- what the fate of a node says of its file at some moment: its path holds the bytes
-abbrev pub IsHeldAt : {F I M S W : Type 0} → Ghosts F I M S W → (W → Stream) → F → Blocks → Report → Fill → Bool → List ℕ → ℕ → NodeFields → Fate → Type 0
+abbrev pub IsHeldAt : {F I S W : Type 0} → Ghosts F I S W → (W → Stream) → F → Blocks → Report → Fill → Bool → List ℕ → ℕ → NodeFields → Fate → Type 0
 IsHeldAt files output at blocks report fill short folder = IsPutBy files.tells (Fails files.faults ⊎ SinkFails output) blocks report fill short folder (λ path bytes. files.holds at path ≡ Some (Some bytes))
 
 -- its path and short name, what its fate says of its file, and that a digest is that of what the path holds
-pub record IsHeld {F I M S W : Type 0} (files : Ghosts F I M S W) (output : W → Stream) (at : F) (only : List (List ℕ)) (blocks : Blocks) (report : Report) (fill : Fill) (short digest : Bool) (folder : List ℕ) (index : ℕ) (n : NodeFields) (put : Put) : Type 0 where
+pub record IsHeld {F I S W : Type 0} (files : Ghosts F I S W) (output : W → Stream) (at : F) (only : List (List ℕ)) (blocks : Blocks) (report : Report) (fill : Fill) (short digest : Bool) (folder : List ℕ) (index : ℕ) (n : NodeFields) (put : Put) : Type 0 where
   pub path : string_bytes put.path ≡ path_below folder (placed short report index n)
   pub own : put.place.own ≡ own_name short report n
   pub done : IsDone only (IsHeldAt files output at blocks report fill short folder) index n put.done.fate
   pub noted : IsNoted digest files.tells (files.holds at) (string_bytes put.path) put.done.fate put.done.digest
 
 -- the same of nodes in order, of which the first has this index
-abbrev pub AreHeld : {F I M S W : Type 0} → Ghosts F I M S W → (W → Stream) → F → List (List ℕ) → Blocks → Report → Fill → Bool → Bool → List ℕ → ℕ → List Put → Type 0
+abbrev pub AreHeld : {F I S W : Type 0} → Ghosts F I S W → (W → Stream) → F → List (List ℕ) → Blocks → Report → Fill → Bool → Bool → List ℕ → ℕ → List Put → Type 0
 AreHeld files output at only blocks report fill short digest folder first puts =
     (k : ℕ) (n : NodeFields) (put : Put) → slice_get puts k ≡ Some put → slice_get report.nodes (first + k) ≡ Some n → IsHeld files output at only blocks report fill short digest folder (first + k) n put
 
@@ -82,7 +82,7 @@ abbrev pub SameButPuts : List Put → Disk → Disk → Type 0
 SameButPuts puts d c = (q : List ℕ) → (¬ IsOfPut puts q) → c q ≡ d q
 
 -- each file that was there stays, and so does what is outside of the folder, and each path but that of a node that is asked for and of which a file is to be written, whatever crashes
-pub record SparesRun {F I M S W : Type 0} (files : Ghosts F I M S W) (only : List (List ℕ)) (fill : Fill) (short : Bool) (report : Report) (folder : List ℕ) (before after : F) : Type 0 where
+pub record SparesRun {F I S W : Type 0} (files : Ghosts F I S W) (only : List (List ℕ)) (fill : Fill) (short : Bool) (report : Report) (folder : List ℕ) (before after : F) : Type 0 where
   pub stays : files.tells → Stay (files.holds before) (files.holds after)
   pub outside : (q : List ℕ) → (¬ IsIn folder q) → files.holds after q ≡ files.holds before q
   pub elsewhere : (q : List ℕ) → IsElsewhere only fill short report folder q → files.holds after q ≡ files.holds before q

@@ -13,7 +13,7 @@ use std::alloc::{AllocError, Global};
 use udfs_common::files::Files;
 use udfs_common::known::Known;
 use udfs_common::refusal::Refusal;
-use udfs_common::volumes::unwritten_volume;
+use udfs_common::stored_volumes::unwritten_volume;
 use udfs_words::request::ExtractRequest;
 
 /// Where the manifest goes, every link followed, if one is asked for.

@@ -5,7 +5,8 @@ use Rattle.std.specs.Io.KnownBytes.{Appends, Consumes, IsAtEnd, Keeps}
 use Rattle.std.specs.Prelude.{◌≡◌, ℕ, ◌+◌, ◌-◌, ◌≤◌, ◌<◌, List, [], ◌++◌, Bool, true, false, length, take, drop, Option, Some, None, Result, Ok, Err, IsErr, IfSome, All}
 use Rattle.udfs_reading.specs.Kind.{AreBytes}
 use Rattle.udfs_calls.specs.Files.{Descriptor, IsEmpty, ReadsOn, bytes_of, cut_to, padded, read_on, rest_of, went_to, written, wrote_on, zeros}
-use Rattle.udfs_host_fs.specs.Opened.{IsOutput, contents_of}
+use Rattle.udfs_reading.specs.Device.{left}
+use Rattle.udfs_host_fs.specs.Opened.{IsOutput, IsSized, contents_of}
 
 -- what is the same is kept
 keeps_same : (x y : Option (List ℕ)) → y ≡ x → Keeps x y
@@ -134,3 +135,41 @@ empty_contents (Some d) known empty = ap (λ b. Some (padded 0 b)) empty
 pub bytes_are_bytes : (state : Option Descriptor) → IfSome state (λ d. All (λ byte. byte < 256) d.bytes) → IfSome (bytes_of state) AreBytes
 bytes_are_bytes None are = are
 bytes_are_bytes (Some d) are = are
+
+-- ---- what was opened to be read at positions
+
+-- what a file has is asked when it is wanted
+pub unsized_yet : (state : Option Descriptor) → IsSized state None
+unsized_yet None = tt
+unsized_yet (Some d) = tt
+
+-- a device has as many bytes as its end says
+pub end_sized : (state new : Option Descriptor) (end : ℕ) → IfSome state (λ d. end ≡ length d.bytes) → new ≡ went_to end state → IsSized new (Some end)
+end_sized None new end h e = subst (λ (s : Option Descriptor). IsSized s (Some end)) (sym e) tt
+end_sized (Some d) new end h e = subst (λ (s : Option Descriptor). IsSized s (Some end)) (sym e) h
+
+-- and its bytes are what they were
+pub went_same : (state new : Option Descriptor) (to : ℕ) → new ≡ went_to to state → bytes_of new ≡ bytes_of state
+went_same None new to e = ap bytes_of e
+went_same (Some d) new to e = ap bytes_of e
+
+sized_by : (state : Option Descriptor) (n : ℕ) → IsSized state (Some n) → IfSome (bytes_of state) (λ all. n ≡ length all)
+sized_by None n h = tt
+sized_by (Some d) n h = h
+
+-- so that is how many it has
+pub sized_is : (state : Option Descriptor) (size : Option ℕ) (n : ℕ) → IsSized state size → size ≡ Some n → IfSome (bytes_of state) (λ all. n ≡ length all)
+sized_is state size n h e = sized_by state n (subst (IsSized state) e h)
+
+-- bytes that are what they were are those that the path holds
+pub same_held : (held : Option (Option (List ℕ))) (old new : Option (List ℕ)) → new ≡ old → IfSome held (λ h. old ≡ h) → IfSome held (λ h. new ≡ h)
+same_held None old new e h = tt
+same_held (Some there) old new e h = e ∙ h
+
+none_ahead : (rest : Option (List ℕ)) → left [] rest ≡ rest
+none_ahead None = refl
+none_ahead (Some bytes) = refl
+
+-- and so are those of which nothing has come yet
+pub spooled_held : (held : Option (Option (List ℕ))) (rest all : Option (List ℕ)) → all ≡ left [] rest → IfSome held (λ h. rest ≡ h) → IfSome held (λ h. all ≡ h)
+spooled_held held rest all e h = same_held held rest all (e ∙ none_ahead rest) h

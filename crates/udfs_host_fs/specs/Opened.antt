@@ -1,7 +1,8 @@
 -- What an output has taken, by the file that it is written to.
 --     contents_of state size              all that it has taken: the file's bytes, with the zeros that were left out at their end
 --     IsOutput state size has_hole        the file is at its end, which zeros that were left out may put further on
-use Rattle.std.proofs.Common.{refl, ap, arith}
+use Rattle.std.proofs.Common.{ap}
+use Rattle.std.proofs.Math.Nat.{ℕ_set}
 use Rattle.std.specs.Coded.{×_prop, →_prop, Unit-prop, le_prop}
 use Rattle.std.specs.Prelude.{◌≡◌, ℕ, ◌≤◌, List, Bool, false, drop, length, Option, Some, None}
 use Rattle.udfs_calls.specs.Files.{Descriptor, bytes_of, padded, rest_of}
@@ -21,28 +22,25 @@ pub IsOutput-prop : (state : Option Descriptor) (size : ℕ) (has_hole : Bool) �
 IsOutput-prop None size has_hole = Unit-prop
 IsOutput-prop (Some d) size has_hole = ×_prop le_prop (×_prop le_prop (×_prop le_prop (→_prop le_prop)))
 
--- an opened file is at its front, where its position is known
-abbrev pub AtFront : Option Descriptor → Type 0
-AtFront None = Unit {0}
-AtFront (Some d) = d.at ≤ 0
+-- an opened file has so many bytes, where they are known and it was asked
+abbrev pub IsSized : Option Descriptor → Option ℕ → Type 0
+IsSized None size = Unit {0}
+IsSized (Some d) None = Unit {0}
+IsSized (Some d) (Some size) = size ≡ length d.bytes
 
--- it is so in one way
-pub AtFront-prop : (state : Option Descriptor) → IsProp (AtFront state)
-AtFront-prop None = Unit-prop
-AtFront-prop (Some d) = le_prop
-
--- what is at most 0 is 0
-nothing : (n : ℕ) → n ≤ 0 → n ≡ 0
-nothing n le = omega (arith, le)
-
--- at its front an opened file has all its bytes before it
-pub all_before : (state : Option Descriptor) → AtFront state → rest_of state ≡ bytes_of state
-all_before None front = refl
-all_before (Some d) front = ap (λ at. Some (drop at d.bytes)) (nothing d.at front)
+-- it has them in one way
+pub IsSized-prop : (state : Option Descriptor) (size : Option ℕ) → IsProp (IsSized state size)
+IsSized-prop None size = Unit-prop
+IsSized-prop (Some d) None = Unit-prop
+IsSized-prop (Some d) (Some size) = ℕ_set size (length d.bytes)
 
 -- the bytes of a file are known where its descriptor is
 pub told_bytes : (state : Option Descriptor) → (d : Descriptor) × (state ≡ Some d) → (bytes : List ℕ) × (bytes_of state ≡ Some bytes)
 told_bytes state known = (known.0.bytes, ap bytes_of known.1)
+
+-- and so are those from its position on
+pub told_rest : (state : Option Descriptor) → (d : Descriptor) × (state ≡ Some d) → (bytes : List ℕ) × (rest_of state ≡ Some bytes)
+told_rest state known = (drop known.0.at known.0.bytes, ap rest_of known.1)
 
 -- what an output has taken is known where its descriptor is
 pub told_contents : (state : Option Descriptor) (size : ℕ) → (d : Descriptor) × (state ≡ Some d) → (bytes : List ℕ) × (contents_of state size ≡ Some bytes)

@@ -16,7 +16,6 @@ use std::alloc::{AllocError, Global};
 use std::io::Error;
 use udfs_index::Stored;
 use udfs_reading::{DeviceFault, Sink, Source};
-use udfs_rescue::Image as Positions;
 
 /// An output while it is written.
 pub trait Handle: Sink {
@@ -84,10 +83,7 @@ pub trait Files {
     /// An opened input.
     type Input: Source + Drop;
 
-    /// An opened image, which is read at positions.
-    type Image: Positions + Drop;
-
-    /// An opened regular file, which is read at positions as often as it is wanted.
+    /// An opened file or image, which is read at positions as often as it is wanted.
     type Stored: Stored + Drop;
 
     /// An output that was made.
@@ -142,25 +138,26 @@ pub trait Files {
         ensures there { OnOk result (holds self.now (real self.now path.now) ≢ Some None) }
         ensures shut { OnErr result (shut self.now path.now) };
 
-    /// Opens a file to be read at positions, which changes none. Links are followed.
+    /// Opens an image to be read at positions as often as it is wanted, which changes none. Links are followed.
     ///
     /// # Errors
     ///
     /// `DeviceFault`, only of a path that may fail to open: also where what is there has no positions, as a pipe.
-    fn open_image(&self, path: &str) -> Result<Self::Image, DeviceFault>
-        ensures bytes { IfOk result (λ image. IfSome (holds self.now (real self.now path.now)) (λ held. Self.Image.bytes image ≡ held)) }
+    fn open_image(&self, path: &str) -> Result<Self::Stored, DeviceFault>
+        ensures bytes { IfOk result (λ image. IfSome (holds self.now (real self.now path.now)) (λ held. Self.Stored.content image ≡ held)) }
         ensures there { OnOk result (holds self.now (real self.now path.now) ≢ Some None) }
         ensures shut { OnErr result (shut self.now path.now) };
 
-    /// Opens a file to be read at positions as often as it is wanted, which changes none. Links are followed. Returns `None`, and opens nothing,
-    /// where what is there is no regular file, as a pipe, or its kind is not known: [`open`](Self::open) opens it, or fails.
+    /// Opens a file to be read at positions as often as it is wanted, which changes none. Links are followed. A regular file is read where it is. What is
+    /// there and is none, as a pipe, or of which the kind is not known, has to be brought into memory first, by [`fetch`](Stored::fetch): nothing of it is
+    /// read until then.
     ///
     /// # Errors
     ///
     /// `DeviceFault`, only of a path that may fail to open.
-    fn open_stored(&self, path: &str) -> Result<Option<Self::Stored>, DeviceFault>
-        ensures bytes { IfOk result (λ found. IfSome found (λ stored. IfSome (holds self.now (real self.now path.now)) (λ held. Self.Stored.content stored ≡ held))) }
-        ensures there { IfOk result (λ found. IfSome found (λ stored. holds self.now (real self.now path.now) ≢ Some None)) }
+    fn open_stored(&self, alloc: Global, path: &str) -> Result<Self::Stored, DeviceFault>
+        ensures bytes { IfOk result (λ stored. IfSome (holds self.now (real self.now path.now)) (λ held. Self.Stored.content stored ≡ held)) }
+        ensures there { OnOk result (holds self.now (real self.now path.now) ≢ Some None) }
         ensures shut { OnErr result (shut self.now path.now) };
 
     /// Says where a path leads, every link followed, and what is there. A path that leads through a device is one.
@@ -350,12 +347,6 @@ pub trait Files {
 
     /// With `tells`, the bytes of all that is read at positions are known.
     ghost stored_told: { tells → AreAllTold Self.Stored.content };
-
-    /// What is read at positions can be read from its front.
-    ghost stored_as_input: { (stored : Self.Stored) → (input : Self.Input) × (Self.Input.remaining input ≡ Self.Stored.content stored) };
-
-    /// What is read at positions can be read as an image.
-    ghost stored_as_image: { (stored : Self.Stored) → (image : Self.Image) × (Self.Image.bytes image ≡ Self.Stored.content stored) };
 
     /// The bytes of all that is read at positions are known, or it is known of no output what was written to it.
     ghost told_or_silent: { ToldOrSilent Self.Stored.content Self.Output.stream };

@@ -27,7 +27,7 @@ pub use filling::{Content, Job, fill, fill_by};
 pub use keeping::Times;
 pub use machine::Machine;
 pub use moments::moment_in;
-pub use opened::{MachineImage, MachineInput, MachineStored};
+pub use opened::{MachineInput, MachinePlaced};
 pub use output::MachineFile;
 pub use replacing::{JobError, ReplaceError, replace, replace_by_job};
 pub use watch::{Stage, Watch};

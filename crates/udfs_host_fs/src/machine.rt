@@ -1,15 +1,16 @@
 //! The machine's files, over the system calls that reach them.
 
-ghost use Rattle.std.proofs.Common.{inl, inr, refl, ⊎_elim};
+ghost use Rattle.std.proofs.Common.{inl, inr, ⊎_elim};
 ghost use Rattle.udfs_calls.specs.Log.{AreNamed, IsAt, IsFresh, holds, moment_of};
-ghost use Rattle.udfs_host_fs.specs.Opened.{all_before, contents_of, told_bytes, told_contents, untold_contents};
+ghost use Rattle.udfs_host_fs.specs.Opened.{contents_of, told_bytes, told_contents, told_rest, untold_contents};
 ghost use Rattle.udfs_host_fs.specs.Told.{AreNamed-prop, IsLedInPlace, identity_by, kept_by, kept_held, kept_none, left_by, left_since_by, log_counts_now, log_only_now, path_of, some_left};
+ghost use Rattle.udfs_index.proofs.ReadableLemmas.{all_readable};
 ghost use Rattle.udfs_reading.specs.Device.{CountsFault};
 ghost use Rattle.std.specs.Prelude.{◌≡◌, Some, None, Ok, IfOk, IsErr, OnErr, ⊤};
 
 use crate::files::{Aim, Files, Target};
 use crate::folders::{LastFolder, make_folder, sync_names};
-use crate::opened::{MachineImage, MachineInput, MachineStored};
+use crate::opened::{MachineInput, MachinePlaced};
 use crate::output::MachineFile;
 use crate::reaching::{
     create, open_image, open_in_place, open_input, open_stored, remove, rename, sync_output,
@@ -22,6 +23,7 @@ use std::io::{Error, ErrorKind};
 use std::rt::{Clock, Env};
 use std::time::{Duration, SystemTime};
 use udfs_calls::Calls;
+use udfs_index::Readable;
 use udfs_reading::DeviceFault;
 
 /// The machine's files, over its system calls: they tell what the calls tell. A link is neither moved nor replaced, and a folder is not opened. The name
@@ -89,9 +91,7 @@ impl<'a, C: Calls, R: std::rt::Files + Env + Clock + AllocGlobal, N: Watch> File
     for Machine<'a, C, R, N> {
     type Input = MachineInput<'a, C::File, N>;
 
-    type Image = MachineImage<'a, C::File, N>;
-
-    type Stored = MachineStored<'a, C::File, N>;
+    type Stored = Readable<MachinePlaced<'a, C::File, N>, MachineInput<'a, C::File, N>>;
 
     type Output = MachineFile<'a, C::File, N>;
 
@@ -121,13 +121,9 @@ impl<'a, C: Calls, R: std::rt::Files + Env + Clock + AllocGlobal, N: Watch> File
 
     ghost faults = { λ m. m.faults };
 
-    ghost stored_told = { λ tells s. told_bytes (C.File.state s.file) (C.files_told tells s.file) };
+    ghost stored_told = { λ tells. all_readable (λ s. told_bytes (C.File.state s.file) (C.files_told tells s.file)) (λ i. told_rest (C.File.state i.file) (C.files_told tells i.file)) };
 
-    ghost stored_as_input = { λ s. (record { file = s.file; number = s.number; watch = s.watch; faults = 0 }, all_before (C.File.state s.file) s.front) };
-
-    ghost stored_as_image = { λ s. (record { file = s.file; number = s.number; watch = s.watch; faults = 0 }, refl) };
-
-    ghost told_or_silent = { ⊎_elim (λ known. inl (λ s. told_bytes (C.File.state s.file) (known s.file))) (λ none. inr (λ f. untold_contents (C.File.state f.file) f.size (none f.file))) C.told_or_silent };
+    ghost told_or_silent = { ⊎_elim (λ known. inl (all_readable (λ s. told_bytes (C.File.state s.file) (known s.file)) (λ i. told_rest (C.File.state i.file) (known i.file)))) (λ none. inr (λ f. untold_contents (C.File.state f.file) f.size (none f.file))) C.told_or_silent };
 
     ghost output_told = { λ tells f. told_contents (C.File.state f.file) f.size (C.files_told tells f.file) };
 
@@ -145,12 +141,12 @@ impl<'a, C: Calls, R: std::rt::Files + Env + Clock + AllocGlobal, N: Watch> File
         open_input(&self.calls, self.watch, path)
     }
 
-    fn open_image(&self, path: &str) -> Result<Self::Image, DeviceFault> {
+    fn open_image(&self, path: &str) -> Result<Self::Stored, DeviceFault> {
         open_image(&self.calls, self.watch, path)
     }
 
-    fn open_stored(&self, path: &str) -> Result<Option<Self::Stored>, DeviceFault> {
-        open_stored(&self.calls, self.watch, path)
+    fn open_stored(&self, alloc: Global, path: &str) -> Result<Self::Stored, DeviceFault> {
+        open_stored(&self.calls, self.watch, alloc, path)
     }
 
     fn resolve(

@@ -1,16 +1,14 @@
-//! What the machine opened to be read: inputs, regular files and images, each over a descriptor.
+//! What the machine opened to be read: inputs that are read from their front on, and files and devices that are read at positions, each over a descriptor.
 
-ghost use Rattle.std.specs.Prelude.{◌≡◌, IfOk, Some, ⊤};
+ghost use Rattle.std.specs.Prelude.{⊤};
 ghost use Rattle.udfs_calls.specs.Files.{bytes_of, rest_of};
-ghost use Rattle.udfs_host_fs.specs.Opened.{AtFront, AtFront-prop};
-ghost use Rattle.udfs_reading.specs.Device.{CountsFault};
+ghost use Rattle.udfs_host_fs.specs.Opened.{IsSized, IsSized-prop};
 
 use crate::watch::{Watch, heeded};
 use std::time::SystemTime;
 use udfs_calls::Opened;
 use udfs_index::Stored;
 use udfs_reading::{DeviceFault, Source};
-use udfs_rescue::Image;
 
 /// An input of the machine.
 #[derive(Drop)]
@@ -40,22 +38,27 @@ impl<'a, O: Opened + Drop, N: Watch> Source for MachineInput<'a, O, N> {
     }
 }
 
-/// A regular file of the machine, read at positions. Its own position stays at its front, so reads from its beginning on and reads elsewhere can
-/// alternate.
+/// A regular file of the machine, or a device that has positions, read where it is.
 #[derive(Drop)]
-pub struct MachineStored<'a, O: Opened + Drop, N: Watch> {
+pub struct MachinePlaced<'a, O: Opened + Drop, N: Watch> {
     pub(crate) file: O,
     pub(crate) number: usize,
     pub(crate) watch: &'a N,
-    ghost front: { AtFront (O.state file) } by { AtFront-prop (O.state file) },
+    /// How many bytes a device has; a regular file is asked when this is wanted.
+    pub(crate) size: Option<u64>,
+    ghost sized: { IsSized (O.state file) size } by { IsSized-prop (O.state file) size },
 }
 
-impl<'a, O: Opened + Drop, N: Watch> Stored for MachineStored<'a, O, N> {
+impl<'a, O: Opened + Drop, N: Watch> Stored for MachinePlaced<'a, O, N> {
     ghost content = { λ s. bytes_of (O.state s.file) };
 
     ghost fails = { λ _. ⊤ };
 
+    #[tactic(auto, using(crate::proofs::Taken::bytes_are_bytes, crate::proofs::Taken::sized_is))]
     fn size(&self) -> Result<u64, DeviceFault> {
+        if let Some(size) = self.size {
+            return Ok(size);
+        }
         match heeded(self.watch, self.file.about()) {
             Some(about) if about.is_file => Ok(about.size),
             _ => Err(DeviceFault),
@@ -63,6 +66,9 @@ impl<'a, O: Opened + Drop, N: Watch> Stored for MachineStored<'a, O, N> {
     }
 
     fn changed(&self) -> Option<SystemTime> {
+        if self.size.is_some() {
+            return None;
+        }
         let about = heeded(self.watch, self.file.about())?;
         about.modified
     }
@@ -75,49 +81,5 @@ impl<'a, O: Opened + Drop, N: Watch> Stored for MachineStored<'a, O, N> {
             }
             None => Err(DeviceFault),
         }
-    }
-}
-
-/// An image of the machine.
-#[derive(Drop)]
-pub struct MachineImage<'a, O: Opened + Drop, N: Watch> {
-    pub(crate) file: O,
-    pub(crate) number: usize,
-    pub(crate) watch: &'a N,
-    pub(crate) faults: u64,
-}
-
-impl<'a, O: Opened + Drop, N: Watch> MachineImage<'a, O, N> {
-    /// The outcome of a call, counted.
-    fn heeded<T: Drop>(&mut self, outcome: Option<T>) -> Result<T, DeviceFault>
-        ensures value { IfOk result (λ value. outcome ≡ Some value) }
-        ensures file { self.new.file ≡ self.old.file }
-        ensures count { CountsFault self.old.faults self.new.faults result }
-    {
-        match outcome {
-            Some(value) => Ok(value),
-            None => {
-                self.faults = self.faults.wrapping_add(1);
-                Err(DeviceFault)
-            }
-        }
-    }
-}
-
-impl<'a, O: Opened + Drop, N: Watch> Image for MachineImage<'a, O, N> {
-    ghost bytes = { λ i. bytes_of (O.state i.file) };
-
-    ghost faults = { λ i. i.faults };
-
-    fn size(&mut self) -> Result<u64, DeviceFault> {
-        let end = heeded(self.watch, self.file.go_to_end());
-        self.heeded(end)
-    }
-
-    fn read_at(&mut self, at: u64, buf: &mut [u8]) -> Result<usize, DeviceFault> {
-        let outcome = heeded(self.watch, self.file.read_at(at, buf));
-        let count = self.heeded(outcome)?;
-        self.watch.read(self.number, count);
-        Ok(count)
     }
 }

@@ -4,15 +4,16 @@ ghost use Rattle.std.specs.Prelude.{◌≡◌, ◌≢◌, ℕ, List, [], Option,
 ghost use Rattle.udfs_calls.specs.Files.{bytes_of, rest_of, IsAtFront};
 ghost use Rattle.udfs_calls.specs.Log.{AreNamed, IsAt, IsOpen, after_sync, holds, names_folder};
 ghost use Rattle.udfs_host_fs.specs.Disk.{Gone, Moved, Same, SameBut};
-ghost use Rattle.udfs_host_fs.specs.Opened.{contents_of};
+ghost use Rattle.udfs_host_fs.specs.Opened.{IsSized, contents_of};
 ghost use Rattle.udfs_host_fs.specs.Told.{LogGoes, kept_by};
 
-use crate::opened::{MachineImage, MachineInput, MachineStored};
+use crate::opened::{MachineInput, MachinePlaced};
 use crate::output::MachineFile;
 use crate::watch::{Watch, heeded};
 use std::alloc::Global;
 use std::io::{Error, ErrorKind};
 use udfs_calls::{Calls, Opened};
+use udfs_index::{Readable, Spooled, Stored};
 use udfs_reading::DeviceFault;
 
 /// How many bytes the file that a path leads to has, where it is one. A folder is none.
@@ -73,24 +74,30 @@ pub(crate) fn open_input<'a, C: Calls, N: Watch>(
     }
 }
 
-/// Opens the regular file that a path leads to, to be read at positions; `None` where it leads to none.
+/// Opens the regular file that a path leads to, to be read where it is; of anything else what comes from its front on, to be brought into memory.
+#[tactic(auto, using(crate::proofs::Taken::spooled_held, crate::proofs::Taken::unsized_yet))]
 pub(crate) fn open_stored<'a, C: Calls, N: Watch>(
     calls: &C,
     watch: &'a N,
+    alloc: Global,
     path: &str,
-) -> Result<Option<MachineStored<'a, C::File, N>>, DeviceFault>
-    ensures bytes { IfOk result (λ found. IfSome found (λ stored. IfSome (holds (C.log calls.now) (C.real calls.now path.now)) (λ held. bytes_of (C.File.state stored.file) ≡ held))) }
-    ensures there { IfOk result (λ found. OnSome found (holds (C.log calls.now) (C.real calls.now path.now) ≢ Some None)) }
+) -> Result<Readable<MachinePlaced<'a, C::File, N>, MachineInput<'a, C::File, N>>, DeviceFault>
+    ensures bytes { IfOk result (λ stored. IfSome (holds (C.log calls.now) (C.real calls.now path.now)) (λ held. ⟦<Readable<MachinePlaced<'a, C::File, N>, MachineInput<'a, C::File, N>> as Stored>⟧.content stored ≡ held)) }
+    ensures there { OnOk result (holds (C.log calls.now) (C.real calls.now path.now) ≢ Some None) }
 {
     let size = size_of(calls, path);
     if size.is_none() {
-        return Ok(None);
+        return match open_input(calls, watch, path) {
+            Ok(input) => Ok(Readable::InMemory(Spooled::new(alloc, input))),
+            Err(fault) => Err(fault),
+        };
     }
     match heeded(watch, open_led(calls, path)) {
-        Some(file) => Ok(Some(MachineStored {
+        Some(file) => Ok(Readable::Placed(MachinePlaced {
             file,
             number: watch.opened(size),
             watch,
+            size: None,
         })),
         None => Err(DeviceFault),
     }
@@ -295,25 +302,41 @@ pub(crate) fn remove<C: Calls>(calls: &mut C, path: &str) -> Result<(), Error>
     }
 }
 
-/// Opens what a path leads to, to be read as an image.
+/// How many bytes an opened device has, where it has positions; of a regular file this is asked when it is wanted.
+#[tactic(auto, using(crate::proofs::Taken::end_sized, crate::proofs::Taken::unsized_yet, crate::proofs::Taken::went_same))]
+fn end_of<O: Opened>(file: &mut O, is_file: bool) -> Result<Option<u64>, Error>
+    ensures size { IfOk result (λ size. IsSized (O.state file.new) size) }
+    ensures same { bytes_of (O.state file.new) ≡ bytes_of (O.state file.old) }
+{
+    if is_file {
+        return Ok(None);
+    }
+    file.go_to(0)?;
+    let end = file.go_to_end()?;
+    Ok(Some(end))
+}
+
+/// Opens what a path leads to, to be read at positions, where it has some.
+#[tactic(auto, using(crate::proofs::Taken::same_held))]
 pub(crate) fn open_image<'a, C: Calls, N: Watch>(
     calls: &C,
     watch: &'a N,
     path: &str,
-) -> Result<MachineImage<'a, C::File, N>, DeviceFault>
-    ensures bytes { IfOk result (λ image. IfSome (holds (C.log calls.now) (C.real calls.now path.now)) (λ held. bytes_of (C.File.state image.file) ≡ held)) }
+) -> Result<Readable<MachinePlaced<'a, C::File, N>, MachineInput<'a, C::File, N>>, DeviceFault>
+    ensures bytes { IfOk result (λ image. IfSome (holds (C.log calls.now) (C.real calls.now path.now)) (λ held. ⟦<Readable<MachinePlaced<'a, C::File, N>, MachineInput<'a, C::File, N>> as Stored>⟧.content image ≡ held)) }
     ensures there { OnOk result (holds (C.log calls.now) (C.real calls.now path.now) ≢ Some None) }
 {
+    let size = size_of(calls, path);
     let Some(mut file) = heeded(watch, open_led(calls, path)) else {
         return Err(DeviceFault);
     };
-    match heeded(watch, file.go_to(0)) {
-        Some(()) => Ok(MachineImage {
+    match heeded(watch, end_of(&mut file, size.is_some())) {
+        Some(end) => Ok(Readable::Placed(MachinePlaced {
             file,
-            number: watch.opened(None),
+            number: watch.opened(size),
             watch,
-            faults: 0,
-        }),
+            size: end,
+        })),
         None => Err(DeviceFault),
     }
 }

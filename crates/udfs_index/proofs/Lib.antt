@@ -9,6 +9,8 @@ pub mod CopyLemmas
 pub mod PackLemmas
 pub mod EntryLemmas
 pub mod StoreLemmas
+pub mod ReadableLemmas
+pub mod SpooledLemmas
 mod PairPlacedLemmas
 mod RecordLemmas
 mod SpreadLemmas

@@ -1,12 +1,14 @@
 -- Which known block has a number.
-use Rattle.std.proofs.Common.{◌≡◌, ℕ, zero, suc, ◌+◌, ◌-◌, ◌<◌, ◌≤◌, List, [], ◌∷◌, ◌++◌, length, take, drop, get_or, slice_index, refl, sym, ap, subst, ◌∙◌, ⊎_elim, arith, take-append-drop}
+use Rattle.std.proofs.Common.{◌≡◌, ℕ, zero, suc, ◌+◌, ◌-◌, ◌*◌, ◌<◌, ◌≤◌, List, [], ◌∷◌, ◌++◌, Option, None, Some, IfSome, length, take, drop, get_or, slice_index, refl, sym, ap, subst, ◌∙◌, ⊎_elim, arith, take-append-drop}
 use Rattle.std.proofs.Math.ListN.{get_or-append}
 use Rattle.std.proofs.Math.Seq.{get_or-append_seam}
 use Rattle.std.proofs.lemmas.Bool.{cases_lt}
 use Rattle.std.proofs.lemmas.List.{drop_more}
 use Rattle.udfs_rescue.specs.declared.known.BlockRange.{BlockRange}
-use Rattle.udfs_rescue.specs.Known.{AreBlocks, EndWithin, RiseFrom, block_count}
+use Rattle.udfs_rescue.specs.Blocks.{reading_known, reading_of}
+use Rattle.udfs_rescue.specs.Known.{AreBlocks, EndWithin, InRanges, RiseFrom, block_count}
 use Rattle.udfs_index.specs.PairPlaced.{IsBeforeEach, IsBlockOf}
+use Rattle.udfs_index.specs.Told.{AreInside, HasSize}
 
 -- a range has some blocks, none above the greatest number, and as many come before it as there are numbers below it at most
 pub record IsRange (low before : ℕ) (r : BlockRange) : Type 0 where
@@ -118,3 +120,14 @@ more_numbered ranges before new i count grown many is old k lt =
     let last : k ≡ length before = omega (arith, out, lt, many) in
     ap (λ (n : ℕ). get_or (before ++ count ∷ []) n 0) last ∙ get_or-append_seam before count [] 0 ∙ is ∙ ap (λ (n : ℕ). block_count (take n ranges)) (omega (arith, last, many)))
     (cases_lt k (length before))
+
+-- ---- an image that was opened
+
+-- each known block is in it
+pub all_inside : (image : Option (List ℕ)) (size : ℕ) (ranges : List BlockRange) → HasSize image size → AreInside ranges size → IfSome image (λ all. (n : ℕ) → InRanges ranges n → 2048 * (n + 1) ≤ length all)
+all_inside None size ranges has inside = tt
+all_inside (Some all) size ranges has inside n i = subst (λ (k : ℕ). 2048 * (n + 1) ≤ k) has (inside n i)
+
+pub reading_is : (image : Option (List ℕ)) (ranges : List BlockRange) (left : Option (List ℕ)) → left ≡ reading_known image ranges → IfSome image (λ all. left ≡ Some (reading_of all ranges))
+reading_is None ranges left e = tt
+reading_is (Some all) ranges left e = e

@@ -1,5 +1,5 @@
 -- Blocks that are taken by where their bytes are.
-use Rattle.std.proofs.Common.{◌≡◌, ℕ, ◌+◌, ◌<◌, List, [], ◌∷◌, Err, map, arith, take, drop, Option, None, Some, IfSome, refl, subst, replicate}
+use Rattle.std.proofs.Common.{◌≡◌, ◌≢◌, ◌↔◌, ◌∙◌, ℕ, ◌+◌, ◌<◌, List, [], ◌∷◌, ◌++◌, Err, ap, map, arith, take, drop, Option, None, Some, IfSome, refl, sym, subst, replicate}
 use Rattle.std.specs.Io.KnownBytes.{Consumes}
 use Rattle.std.proofs.lemmas.List.{length-replicate}
 use Rattle.std.proofs.lemmas.List.Elements.{All-replicate}
@@ -7,12 +7,14 @@ use Rattle.udfs_lattice.specs.States.{IsBlock}
 use Rattle.udfs_lattice.specs.Records.{join_all}
 use Rattle.udfs_lattice.specs.TableLaws.{join_tables-empty_right}
 use Rattle.udfs_lattice.specs.Tables.{Table, join_tables, one_record}
-use Rattle.udfs_reading.specs.declared.error.ReadingFault.TheVariants.{OutOfMemory}
-use Rattle.udfs_reading.specs.Answers.{GivesFault, RefusesFaulty}
+use Rattle.udfs_reading.specs.declared.error.ReadingFault.{ReadingFault}
+use Rattle.udfs_reading.specs.declared.error.ReadingFault.TheVariants.{Io, OutOfMemory}
+use Rattle.udfs_reading.specs.Answers.{FailsAfter, GivesFault, RefusesFaulty}
 use Rattle.udfs_reading.specs.Inputs.{inputs}
-use Rattle.udfs_reading.specs.Several.{HasTable, TablesAre}
+use Rattle.udfs_reading.specs.Several.{HasTable, InputFails, TablesAre}
+use Rattle.udfs_reading.specs.declared.inputs.InputError.{InputError}
 use Rattle.udfs_reading.proofs.Outcomes.{inputs_laws}
-use Rattle.udfs_index.specs.Placed.{TakesInput}
+use Rattle.udfs_index.specs.Placed.{IsCut, TakesInput}
 use Rattle.udfs_reading.specs.Field.{TakesBlock}
 use Rattle.udfs_reading.specs.Gains.{Gains}
 use Rattle.udfs_reading.specs.Places.{HasBlockAt, StandsAt}
@@ -83,6 +85,32 @@ untaken_fault (Some bytes) number = λ of_file. absurd of_file
 pub untaken_faulty : (content : Option (List ℕ)) (number : ℕ) (table : Table) → IfSome content (λ bytes. HasTable bytes table) → RefusesFaulty inputs content (Err (record { fault = OutOfMemory; number = number }))
 untaken_faulty None number table has = tt
 untaken_faulty (Some bytes) number table has = λ fault n faulty. absurd (inputs_laws.either bytes has.0 table fault n has.1 faulty)
+
+no_io : OutOfMemory ≡ Io → ⊥
+no_io e = cc
+
+-- nor that its device failed
+pub untaken_cut : (content : Option (List ℕ)) (number : ℕ) → IsCut content (record { fault = OutOfMemory; number = number })
+untaken_cut content number = record { faults = 0; io = (λ io. absurd (no_io io), λ some. absurd (some refl)); left = None; cut = λ io. absurd (no_io io) }
+
+no_rest : {A : Type 0} (xs : List A) (o : A) (l : List A) → [] ≡ xs ++ o ∷ l → ⊥
+no_rest [] o l e = cc
+no_rest (a ∷ xs) o l e = cc
+
+only_here : {A : Type 0} (xs : List A) (o : A) (l : List A) (s : A) → s ∷ [] ≡ xs ++ o ∷ l → o ≡ s
+only_here [] o l s e = let same : o ≡ s = cc in same
+only_here (a ∷ xs) o l s e = absurd (no_rest xs o l (let same : [] ≡ xs ++ o ∷ l = cc in same))
+
+-- of the only input that was read, what its source had given is what had come of it
+pub one_cut : {R : Type 0} (remaining : R → Option (List ℕ)) (faults : R → ℕ) (content : Option (List ℕ)) (one : R) (news : List R) (e : InputError) → remaining one ≡ content → faults one ≡ 0 → InputFails remaining faults (one ∷ []) news e → IsCut content e.error
+one_cut remaining faults content one news e is none fails =
+    let same = only_here fails.earlier fails.old fails.later one fails.were in
+    record {
+      faults = faults fails.new;
+      io = subst (λ (n : ℕ). (e.error.fault ≡ Io) ↔ (faults fails.new ≢ n)) (ap faults same ∙ none) fails.io;
+      left = remaining fails.new;
+      cut = subst (λ (o : Option (List ℕ)). FailsAfter inputs o (remaining fails.new) (Err e.error)) (ap remaining same ∙ is) fails.cut;
+    }
 
 -- by a taker that is as it was before
 pub input_after : {older old new : Table → Type 0} {content : Option (List ℕ)} → ((t : Table) → older t → old t) → TakesInput content old new → TakesInput content older new

@@ -12,3 +12,5 @@ pub mod Fronts
 pub mod Told
 pub mod AnyStored
 pub mod Comparing
+pub mod Readable
+pub mod Spooled

@@ -4,6 +4,7 @@ ghost use Rattle.std.specs.Prelude.{⊤};
 ghost use Rattle.udfs_index.specs.AnyStored.{fails_in, stored_in};
 
 use crate::Stored;
+use crate::stamp::Stamp;
 use crate::stored_pair::StoredPair;
 use std::time::SystemTime;
 use udfs_reading::DeviceFault;
@@ -37,6 +38,14 @@ impl<S: Stored> Stored for AnyStored<S> {
         match self {
             AnyStored::File(stored) => stored.changed(),
             AnyStored::Paired(pair) => pair.changed(),
+            AnyStored::Refused(_) => None,
+        }
+    }
+
+    fn stamp(&self) -> Option<Stamp> {
+        match self {
+            AnyStored::File(stored) => stored.stamp(),
+            AnyStored::Paired(pair) => pair.stamp(),
             AnyStored::Refused(_) => None,
         }
     }

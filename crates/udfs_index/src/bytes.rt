@@ -22,7 +22,7 @@ impl<'a> StoredBytes<'a> {
 }
 
 /// How many bytes there are.
-fn count(bytes: &[u8]) -> u64
+pub(crate) fn count(bytes: &[u8]) -> u64
     ensures value { result ≡ length bytes.now }
     ensures bytes { AreBytes bytes.now }
 {

@@ -363,16 +363,14 @@ impl<'a, S: Stored> Taker<Cursor<'a, S>> for Index<'a, S> {
     fn begin(&mut self, source: &mut Cursor<'a, S>) {
         let (stored, at) = source.place();
         self.begun = None;
-        match stored.size() {
-            Ok(size) if size < BYTES => {
-                if self.stamps.push(Stamp::new(stored, size)).is_ok()
-                    && self.inputs.push(stored).is_ok()
-                {
+        match stored.stamp() {
+            Some(stamp) if stamp.size < BYTES => {
+                if self.stamps.push(stamp).is_ok() && self.inputs.push(stored).is_ok() {
                     self.begun = Some(at);
                 }
             }
-            Ok(_) => {}
-            Err(_) => {
+            Some(_) => {}
+            None => {
                 self.failed = Some(Unread {
                     input: self.inputs.len(),
                     at: 0,

@@ -1,9 +1,12 @@
 //! An input that is read at any position.
 
-ghost use Rattle.std.specs.Prelude.{◌≡◌, ℕ, ◌+◌, ◌*◌, ◌^◌, ◌≤◌, ◌<◌, List, Option, length, take, drop, true, false, IfOk, IfSome, OnErr};
+ghost use Rattle.std.specs.Io.KnownBytes.{Keeps};
+ghost use Rattle.std.specs.Prelude.{◌≡◌, ℕ, ◌+◌, ◌*◌, ◌^◌, ◌≤◌, ◌<◌, List, Option, length, take, drop, true, false, IfOk, IfSome, OnErr, OnOk};
 ghost use Rattle.udfs_reading.specs.Kind.{AreBytes};
 ghost use Rattle.udfs_index.specs.Recorded.{HasRecords, IsRecordedAt};
 
+use crate::stamp::Stamp;
+use std::alloc::AllocError;
 use std::time::SystemTime;
 use udfs_reading::DeviceFault;
 
@@ -28,6 +31,20 @@ pub trait Stored {
     /// A call on it may fail.
     ghost fails: { Self → Type 0 };
 
+    /// Brings its bytes into memory, where they can only be read once, from the front on, as those of a pipe: none can be read before. It returns whether
+    /// all of them can be read then. Of what can be read at positions where it is, nothing is brought.
+    ///
+    /// # Errors
+    ///
+    /// `AllocError` if memory ran out.
+    #[tactic(auto, using(crate::proofs::SpooledLemmas::kept_same))]
+    fn fetch(&mut self) -> Result<bool, AllocError>
+        ensures { OnOk result (Keeps (content self.old) (content self.new)) }
+    {
+        let _ = self;
+        Ok(true)
+    }
+
     /// How many bytes it has.
     ///
     /// # Errors
@@ -35,12 +52,23 @@ pub trait Stored {
     /// `DeviceFault` where the device failed.
     fn size(&self) -> Result<u64, DeviceFault>
         ensures value { IfSome (content self.now) (λ all. IfOk result (λ n. n ≡ length all)) }
-        ensures bytes { IfSome (content self.now) AreBytes }
+        ensures bytes { IfSome (content self.now) (λ all. OnOk result (AreBytes all)) }
         ensures fails { OnErr result (fails self.now) };
 
     /// When its bytes were last changed, where that is known.
     fn changed(&self) -> Option<SystemTime> {
         None
+    }
+
+    /// What is reported of it as long as it does not change; `None` where the device failed.
+    fn stamp(&self) -> Option<Stamp> {
+        match self.size() {
+            Ok(size) => Some(Stamp {
+                size,
+                changed: self.changed(),
+            }),
+            Err(DeviceFault) => None,
+        }
     }
 
     /// How many records it has, if it is a reading whose records are of different blocks, in rising order, and

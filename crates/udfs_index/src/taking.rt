@@ -5,7 +5,7 @@ ghost use Rattle.udfs_lattice.specs.Tables.{Table};
 ghost use Rattle.udfs_reading.specs.Answers.{GivesFault, RefusesFaulty};
 ghost use Rattle.udfs_reading.specs.Inputs.{inputs};
 ghost use Rattle.udfs_reading.specs.Several.{HasTable};
-ghost use Rattle.udfs_index.specs.Placed.{TakesInput};
+ghost use Rattle.udfs_index.specs.Placed.{IsCut, TakesInput};
 
 use crate::by_heads::{is_table, take_table};
 use crate::cursor::Cursor;
@@ -22,6 +22,7 @@ fn take_by_heads<'a, S: Stored + 'a, T: PlaceTaker<'a, S>>(
     ensures table { OnOk result (TakesInput (S.content stored.now) (T.Taker.took taker.old) (T.Taker.took taker.new)) }
     ensures fault { IfErr result (λ e. GivesFault inputs (S.content stored.now) (Err e)) }
     ensures faulty { IfErr result (λ e. RefusesFaulty inputs (S.content stored.now) (Err e)) }
+    ensures cut { IfErr result (IsCut (S.content stored.now)) }
 {
     let mut source = Cursor::new(stored);
     taker.begin(&mut source);
@@ -42,6 +43,7 @@ fn take_whole<'a, S: Stored + 'a, T: PlaceTaker<'a, S>>(
     ensures table { OnOk result (TakesInput (S.content stored.now) (T.Taker.took taker.old) (T.Taker.took taker.new)) }
     ensures fault { IfErr result (λ e. GivesFault inputs (S.content stored.now) (Err e)) }
     ensures faulty { IfErr result (λ e. RefusesFaulty inputs (S.content stored.now) (Err e)) }
+    ensures cut { IfErr result (IsCut (S.content stored.now)) }
 {
     match take_inputs(&mut [Cursor::new(stored)], taker) {
         Ok(()) => Ok(()),
@@ -65,6 +67,8 @@ pub fn take_stored<'a, S: Stored + 'a, T: PlaceTaker<'a, S>>(
     // A fault of the file is the first one of its bytes, at its record; and where they have one, no other is told.
     ensures fault { IfErr result (λ e. GivesFault inputs (S.content stored.now) (Err e)) }
     ensures faulty { IfErr result (λ e. RefusesFaulty inputs (S.content stored.now) (Err e)) }
+    // Where the device failed, what had come has no fault but a cut at its end.
+    ensures cut { IfErr result (IsCut (S.content stored.now)) }
 {
     if is_table(stored) {
         take_by_heads(stored, taker)

@@ -1,10 +1,9 @@
 // SPDX-License-Identifier: MIT OR Apache-2.0
-//! What the commands that look into a volume share: what is found in a volume or why its table has no report, and the remarks beside a result.
+//! What the commands that look into a volume share: why its table has no report, and the remarks beside a result.
 #![tactic(auto)]
 
 pub mod guarantees;
 mod index_blocks;
-pub mod looking;
 pub mod no_reports;
 pub mod remarks;
 mod steady;

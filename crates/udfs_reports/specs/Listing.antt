@@ -18,7 +18,7 @@ use Rattle.udfs_reports.specs.Telling.{IsThe, PrintsNoText, PrintsText}
 abbrev pub list_of : ListForm → Profile → Table → ℕ → Report → List ℕ
 list_of form profile table last report = list_text form (state_of table) report
 
-module _ {F I M S W : Type 0} (reach : Reach F I M S W) (at : F) (form : ListForm) where
+module _ {F I S W : Type 0} (reach : Reach F I S W) (at : F) (form : ListForm) where
   -- the lines of the nodes of the volume's report were printed
   abbrev pub PrintsNodes : VolumeSource → Stream → Stream → Bool → Type 0
   PrintsNodes volume old new whole = PrintsText reach at (IsThe (list_of form)) volume old new whole

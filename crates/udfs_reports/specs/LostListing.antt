@@ -83,7 +83,7 @@ pub record LeavesLost (form : ListForm) (deleted : Bool) (profile : Profile) (la
 abbrev pub BeginsLost : ListForm → Bool → Profile → ℕ → Stream → Stream → Table → Type 0
 BeginsLost form deleted profile last old new table = (new ≡ old) ⊎ LeavesLost form deleted profile last old new table
 
-module _ {F I M S W : Type 0} (reach : Reach F I M S W) (at : F) (form : ListForm) where
+module _ {F I S W : Type 0} (reach : Reach F I S W) (at : F) (form : ListForm) where
   -- with what is lost, or the nodes alone
   abbrev pub PrintsListBy : Bool → ListRequest → Stream → Stream → Bool → Type 0
   PrintsListBy true r old new whole = OfToldVolume reach at r.volume (λ last. TellsLost form r.deleted r.volume.profile last old new whole)

@@ -43,11 +43,11 @@ pub record IsPageOf (r : PageRequest) (last : ℕ) (whole : Bool) (bytes : List 
   pub says : whole ≡ all_whole report.nodes
 
 -- a page takes the place of no input (`files`, and `parts`: the images and mapfiles among them), and, unless what is there may be no file (`in_place`), of no file but a page
-abbrev pub IsFreePage : {F I M S W : Type 0} → Ghosts F I M S W → F → List (List ℕ) → List (List ℕ) → List ℕ → Type 0
+abbrev pub IsFreePage : {F I S W : Type 0} → Ghosts F I S W → F → List (List ℕ) → List (List ℕ) → List ℕ → Type 0
 IsFreePage known at files parts out = IsFreeOwn page_mark known at files parts out
 
 -- why a page is not written: one of the inputs is there, or no page is
-abbrev pub IsSparedPage : {F I M S W : Type 0} → Ghosts F I M S W → F → List (List ℕ) → List (List ℕ) → List ℕ → Type 0
+abbrev pub IsSparedPage : {F I S W : Type 0} → Ghosts F I S W → F → List (List ℕ) → List (List ℕ) → List ℕ → Type 0
 IsSparedPage known at files parts out = IsSparedOwn page_mark known at files parts out
 
 -- what came of it, where a read that failed is told so
@@ -55,7 +55,7 @@ abbrev pub told_as : {A E : Type 0} → Refusal → Result (Result A Refusal) E 
 told_as unread (Ok told) = told
 told_as unread (Err fault) = Err unread
 
-module _ {F I M S W : Type 0} (reach : Reach F I M S W) (old : F) where
+module _ {F I S W : Type 0} (reach : Reach F I S W) (old : F) where
   -- the page of what was read of the disc
   abbrev pub IsPage : PageRequest → Bool → List ℕ → Type 0
   IsPage r whole bytes = OfToldVolume reach old r.volume (λ last. IsPageOf r last whole bytes)

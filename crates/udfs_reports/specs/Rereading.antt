@@ -126,7 +126,7 @@ abbrev pub IsRefusedDomain : Type 0 → RereadRequest → ℕ → Stream → Str
 IsRefusedDomain Unmade r last old new refusal table = ((new ≡ old) × IsUntoldFor (texts r.only.items) r.volume.profile last refusal table) ⊎ ((bytes : List ℕ) × (text : List ℕ) × (whole : Bool) × IsDomain r last table bytes text whole ×
     (((refusal ≡ Output) × Failed old new text) ⊎ (Wrote old new text × IsUnput Unmade refusal)))
 
-module _ {F I M S W : Type 0} (reach : Reach F I M S W) (old : F) where
+module _ {F I S W : Type 0} (reach : Reach F I S W) (old : F) where
   -- the numbers that are asked for were printed
   abbrev pub PrintsNumbers : RereadRequest → Stream → Stream → Bool → Type 0
   PrintsNumbers r before after whole = OfToldVolume reach old r.volume (λ last. TellsNumbers (texts r.only.items) r.volume.profile last before after whole)

@@ -32,7 +32,7 @@ pub record IsSummary (r : SummaryRequest) (profile : Profile) (table : Table) (l
   pub decided : IsVerdict profile (state_of table) last report answer
   pub is : bytes ≡ summary_of r.form (given_by r.volume r.size) profile table last report answer
 
-module _ {F I M S W : Type 0} (reach : Reach F I M S W) (at : F) (r : SummaryRequest) where
+module _ {F I S W : Type 0} (reach : Reach F I S W) (at : F) (r : SummaryRequest) where
   -- what is asked for was printed, up to the volume's last block
   abbrev pub PrintsSummary : Stream → Stream → Bool → Type 0
   PrintsSummary old new whole = PrintsText reach at (IsSummary r) r.volume old new whole

@@ -69,11 +69,11 @@ abbrev pub BeginsText : (Profile → Table → ℕ → Report → List ℕ → T
 BeginsText IsText profile last old new table = (new ≡ old) ⊎ LeavesText IsText profile last old new table
 
 -- the text of the report of a volume was printed, by its rules and up to its last block
-abbrev pub PrintsText : {F I M S W : Type 0} → Reach F I M S W → F → (Profile → Table → ℕ → Report → List ℕ → Type 0) → VolumeSource → Stream → Stream → Bool → Type 0
+abbrev pub PrintsText : {F I S W : Type 0} → Reach F I S W → F → (Profile → Table → ℕ → Report → List ℕ → Type 0) → VolumeSource → Stream → Stream → Bool → Type 0
 PrintsText reach at IsText volume old new whole = OfToldVolume reach at volume (λ last. Tells IsText volume.profile last old new whole)
 
 -- it is not known where the disc ends, or the inputs were not joined, or not read again, and nothing was printed; or they were not read again, and nothing was, or a beginning; or nothing was, or a beginning
-abbrev pub PrintsNoText : {F I M S W : Type 0} → Reach F I M S W → F → (Profile → Table → ℕ → Report → List ℕ → Type 0) → VolumeSource → Stream → Stream → Refusal → Type 0
+abbrev pub PrintsNoText : {F I S W : Type 0} → Reach F I S W → F → (Profile → Table → ℕ → Report → List ℕ → Type 0) → VolumeSource → Stream → Stream → Refusal → Type 0
 PrintsNoText reach at IsText volume old new refusal =
     ((new ≡ old) × (IsNoVolume reach at volume refusal ⊎ IsVolumeUnread reach at volume refusal)) ⊎
     (IsVolumeUnread reach at volume refusal × OfToldVolume reach at volume (λ last. BeginsText IsText volume.profile last old new)) ⊎

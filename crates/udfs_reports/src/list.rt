@@ -111,7 +111,7 @@ impl Telling for NodeLines {
 }
 
 /// Prints a line for each node of a volume but its root, and returns whether there are nodes and all of them are whole. All inputs are opened in order before
-/// one is read. Where all of them are regular files, no block is held: the volume's structures, entries and directories are read where they are.
+/// one is read. No block of a regular file is held: the volume's structures, entries and directories are read where they are.
 ///
 /// # Errors
 ///

@@ -19,7 +19,6 @@ use udfs_common::files::Files;
 use udfs_common::known::Known;
 use udfs_common::refusal::Refusal;
 use udfs_common::stored_volumes::{StoredDisc, indexed_volume, stored_volume, unread_volume};
-use udfs_common::volumes::joined_volume;
 use udfs_host_fs::Stage;
 use udfs_index::{AnyStored, Cursor, Index, Stored, Unread};
 use udfs_lattice::ReadFault;
@@ -94,27 +93,6 @@ fn tell_lost<B: SteadyStore, F: Files, O: Sink>(
     Ok(Ok(survey.all_whole()))
 }
 
-/// Prints the lines that are asked for, and holds all blocks that are known.
-fn lost_held<F: Files, O: Sink>(
-    alloc: Global,
-    request: &ListRequest<'_>,
-    form: ListForm,
-    files: &F,
-    out: &mut O,
-) -> Result<bool, Refusal>
-    ensures printed { IfOk result (PrintsListBy ⟦<F as Known>⟧.reach files.now form true request.now (O.stream out.old) (O.stream out.new)) }
-    ensures refused { IfErr result (PrintsNoLost ⟦<F as Known>⟧.reach files.now form request.now (O.stream out.old) (O.stream out.new)) }
-{
-    let disc = match joined_volume(alloc, &request.volume, files) {
-        Ok(disc) => disc,
-        Err(refusal) => return Err(refusal),
-    };
-    match tell_lost(alloc, &disc.table, disc.last, request, form, files, out) {
-        Ok(told) => told,
-        Err(ReadFault) => unreachable!(),
-    }
-}
-
 /// Prints the lines of an index's volume, where `last` is its last block.
 ///
 /// # Errors
@@ -179,8 +157,7 @@ fn list_lost<F: Files, O: Sink>(
     ensures refused { IfErr result (PrintsNoLost ⟦<F as Known>⟧.reach files.now form request.now (O.stream out.old) (O.stream out.new)) }
 {
     match stored_volume(alloc, &request.volume, files) {
-        Ok(Some(disc)) => lost_stored(alloc, &disc, request, form, files, out),
-        Ok(None) => lost_held(alloc, request, form, files, out),
+        Ok(disc) => lost_stored(alloc, &disc, request, form, files, out),
         Err(refusal) => Err(refusal),
     }
 }
@@ -188,7 +165,7 @@ fn list_lost<F: Files, O: Sink>(
 /// Prints a line for each node of the volume that is asked for, but its root, and behind them, where the request has `lost` or `deleted`, a line for each node of
 /// the trees of lost folders and for each lost file. With `deleted` those of link count 0 are lost folders and files too. Where the volume does not open, but its
 /// layout and the places of its blocks are found, they are looked for by these alone, and the root is a lost folder too. It returns whether there are nodes and
-/// all of them are whole, whatever is lost. All inputs are opened in order before one is read. Where all of them are regular files, no block is held: what is
+/// all of them are whole, whatever is lost. All inputs are opened in order before one is read. No block of a regular file is held: what is
 /// asked of the volume is read where it is.
 ///
 /// # Errors

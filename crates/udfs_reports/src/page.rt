@@ -28,8 +28,7 @@ use udfs_common::index_taking::reread_of;
 use udfs_common::job_putting::put_job;
 use udfs_common::known::Known;
 use udfs_common::refusal::Refusal;
-use udfs_common::stored_volumes::{StoredDisc, indexed_volume, stored_volume};
-use udfs_common::volumes::{joined_volume, unwritten_volume};
+use udfs_common::stored_volumes::{StoredDisc, indexed_volume, stored_volume, unwritten_volume};
 use udfs_host_fs::{Job, Stage};
 use udfs_index::{AnyStored, Stored};
 use udfs_lattice::ReadFault;
@@ -225,25 +224,6 @@ fn page_of<F: Files, B: SteadyStore>(
     }
 }
 
-/// Puts the page that is asked for, and holds all blocks that are known.
-fn page_held<F: Files>(
-    alloc: Global,
-    request: &PageRequest<'_>,
-    files: &mut F,
-) -> Result<bool, Refusal>
-    ensures puts { PutsAs ⟦<F as Known>⟧.reach (IsPage ⟦<F as Known>⟧.reach files.old request.now) request.now.out.now files.old files.new result }
-    ensures why { IfErr result (IsNotPaged ⟦<F as Known>⟧.reach files.old files.new request.now) }
-{
-    let disc = match joined_volume(alloc, &request.volume, files) {
-        Ok(disc) => disc,
-        Err(refusal) => return Err(refusal),
-    };
-    match page_of(alloc, request, &disc.table, disc.last, files) {
-        Ok(told) => told,
-        Err(ReadFault) => unreachable!(),
-    }
-}
-
 /// Puts the page that is asked for, and holds no block. Where a block could not be read, or an input has changed, what is at the path stays as it was, unless it is
 /// no file.
 fn page_stored<F: Files>(
@@ -278,14 +258,13 @@ fn page_inputs<F: Files>(
     ensures why { IfErr result (IsNotPaged ⟦<F as Known>⟧.reach files.old files.new request.now) }
 {
     match stored_volume(alloc, &request.volume, files) {
-        Ok(Some(disc)) => page_stored(alloc, &disc, request, files),
-        Ok(None) => page_held(alloc, request, files),
+        Ok(disc) => page_stored(alloc, &disc, request, files),
         Err(refusal) => Err(refusal),
     }
 }
 
 /// Puts the page that is asked for, and returns whether there are files and all of them are whole. All inputs are opened in order before one is read, and the
-/// page is begun only after all are joined. Where all of them are regular files, no block is held: what is asked of the volume is read where it is.
+/// page is begun only after all are joined. No block of a regular file is held: what is asked of the volume is read where it is.
 ///
 /// # Errors
 ///

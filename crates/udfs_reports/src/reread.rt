@@ -15,7 +15,6 @@ use udfs_common::files::Files;
 use udfs_common::known::Known;
 use udfs_common::refusal::Refusal;
 use udfs_common::stored_volumes::{StoredDisc, indexed_volume, stored_volume, unread_volume};
-use udfs_common::volumes::joined_volume;
 use udfs_host_fs::Stage;
 use udfs_index::{AnyStored, Cursor, Index, Stored, Unread};
 use udfs_lattice::{GaveUp, ReadFault};
@@ -64,26 +63,6 @@ fn tell_numbers<B: SteadyStore, F: Files, O: Sink>(
             Ok(Ok(listing.all_whole()))
         }
         Err(WriteFault) => Ok(Err(Refusal::Output)),
-    }
-}
-
-/// Prints the numbers of the blocks that are worth reading again, and holds all blocks that are known.
-fn tell_held<F: Files, O: Sink>(
-    alloc: Global,
-    request: &RereadRequest<'_>,
-    files: &F,
-    out: &mut O,
-) -> Result<bool, Refusal>
-    ensures printed { IfOk result (PrintsNumbers ⟦<F as Known>⟧.reach files.now request.now (O.stream out.old) (O.stream out.new)) }
-    ensures refused { IfErr result (PrintsNoNumbers ⟦<F as Known>⟧.reach files.now request.now (O.stream out.old) (O.stream out.new)) }
-{
-    let disc = match joined_volume(alloc, &request.volume, files) {
-        Ok(disc) => disc,
-        Err(refusal) => return Err(refusal),
-    };
-    match tell_numbers(alloc, &disc.table, disc.last, request, files, out) {
-        Ok(told) => told,
-        Err(ReadFault) => unreachable!(),
     }
 }
 
@@ -138,8 +117,8 @@ fn tell_stored<F: Files, O: Sink>(
 }
 
 /// Prints the numbers of the blocks that are worth reading again of the volume that is asked for: for the paths of the request, or for all of it. It returns
-/// whether all nodes at these paths, below them and above them are whole, and there are some. All inputs are opened in order before one is read. Where all of them
-/// are regular files, no block is held: the volume's structures, entries and directories are read where they are.
+/// whether all nodes at these paths, below them and above them are whole, and there are some. All inputs are opened in order before one is read. No block of a
+/// regular file is held: the volume's structures, entries and directories are read where they are.
 ///
 /// # Errors
 ///
@@ -157,8 +136,7 @@ pub fn reread<F: Files, O: Sink>(
     ensures refused { IfErr result (PrintsNoNumbers ⟦<F as Known>⟧.reach files.now request.now (O.stream out.old) (O.stream out.new)) }
 {
     match stored_volume(alloc, &request.volume, files) {
-        Ok(Some(disc)) => tell_stored(alloc, &disc, request, files, out),
-        Ok(None) => tell_held(alloc, request, files, out),
+        Ok(disc) => tell_stored(alloc, &disc, request, files, out),
         Err(refusal) => Err(refusal),
     }
 }

@@ -20,8 +20,9 @@ use udfs_common::guard::{Outlook, look_at_map};
 use udfs_common::known::Known;
 use udfs_common::putting::put_file;
 use udfs_common::refusal::Refusal;
-use udfs_common::stored_volumes::{StoredDisc, indexed_volume, stored_volume, unread_volume};
-use udfs_common::volumes::{joined_volume, unwritten_volume};
+use udfs_common::stored_volumes::{
+    StoredDisc, indexed_volume, stored_volume, unread_volume, unwritten_volume,
+};
 use udfs_host_fs::{Content, Stage};
 use udfs_index::{AnyStored, Stored};
 use udfs_lattice::{GaveUp, ReadFault};
@@ -247,27 +248,6 @@ fn map_of<B: SteadyStore, F: Files, O: Sink>(
     Ok(Ok(listing.all_whole()))
 }
 
-/// Puts the mapfile that is asked for, and holds all blocks that are known.
-fn map_held<F: Files, O: Sink>(
-    alloc: Global,
-    request: &RereadRequest<'_>,
-    path: &str,
-    files: &mut F,
-    out: &mut O,
-) -> Result<bool, Refusal>
-    ensures puts { PutsAs ⟦<F as Known>⟧.reach (IsMap ⟦<F as Known>⟧.reach files.old request.now (O.stream out.old) (O.stream out.new)) path.now files.old files.new result }
-    ensures why { IfErr result (IsNotMapped ⟦<F as Known>⟧.reach files.old files.new request.now path.now (O.stream out.old) (O.stream out.new)) }
-{
-    let disc = match joined_volume(alloc, &request.volume, files) {
-        Ok(disc) => disc,
-        Err(refusal) => return Err(refusal),
-    };
-    match map_of(alloc, &disc.table, disc.last, request, path, files, out) {
-        Ok(told) => told,
-        Err(ReadFault) => unreachable!(),
-    }
-}
-
 /// Puts the mapfile that is asked for, and holds no block. Where a block could not be read, or an input has changed, nothing is printed or put.
 fn map_stored<F: Files, O: Sink>(
     alloc: Global,
@@ -305,8 +285,7 @@ fn map_inputs<F: Files, O: Sink>(
     ensures why { IfErr result (IsNotMapped ⟦<F as Known>⟧.reach files.old files.new request.now path.now (O.stream out.old) (O.stream out.new)) }
 {
     match stored_volume(alloc, &request.volume, files) {
-        Ok(Some(disc)) => map_stored(alloc, &disc, request, path, files, out),
-        Ok(None) => map_held(alloc, request, path, files, out),
+        Ok(disc) => map_stored(alloc, &disc, request, path, files, out),
         Err(refusal) => Err(refusal),
     }
 }
@@ -329,7 +308,7 @@ fn look_at_asked<F: Files>(
 
 /// Prints how many blocks are worth reading again of the volume that is asked for, and then puts their mapfile at a path, whole or not at all. It returns
 /// whether there are files and all of those that are asked for are whole, with the folders above them. All inputs are opened in order before one is read, and the
-/// mapfile is begun only after all are joined. Where all of them are regular files, no block is held: the volume's structures, entries and directories are read
+/// mapfile is begun only after all are joined. No block of a regular file is held: the volume's structures, entries and directories are read
 /// where they are, and known blocks to compare.
 ///
 /// # Errors

@@ -110,7 +110,7 @@ impl<'a, 'r> Telling for SummaryAs<'a, 'r> {
 }
 
 /// Prints the summary of the volume that is asked for, with whether it is lawful. It returns whether there are files and all of them are whole. All inputs are
-/// opened in order before one is read. Where all of them are regular files, no block is held: what is asked of the volume is read where it is.
+/// opened in order before one is read. No block of a regular file is held: what is asked of the volume is read where it is.
 ///
 /// # Errors
 ///

@@ -14,7 +14,6 @@ use udfs_common::files::Files;
 use udfs_common::known::Known;
 use udfs_common::refusal::Refusal;
 use udfs_common::stored_volumes::{StoredDisc, indexed_volume, stored_volume, unread_volume};
-use udfs_common::volumes::joined_volume;
 use udfs_index::{AnyStored, Cursor, Index, Stored, Unread};
 use udfs_lattice::ReadFault;
 use udfs_reading::{Sink, Taker};
@@ -49,27 +48,6 @@ pub trait Telling {
         ensures refused { IfOk result (λ told. IfErr told (λ refusal. B.tells → (t : Table) → B.holds blocks.now t → IsRefusedTelling (text self.now) profile last (O.stream out.old) (O.stream out.new) refusal t)) }
         ensures begun { OnErr result (B.tells → (t : Table) → B.holds blocks.now t → BeginsText (text self.now) profile last (O.stream out.old) (O.stream out.new) t) }
         ensures fails { OnErr result B.fails };
-}
-
-/// Prints the text of the report of a volume, and holds all blocks that are known.
-fn tell_held<F: Files, O: Sink, T: Telling>(
-    alloc: Global,
-    volume: &VolumeSource<'_>,
-    telling: &T,
-    files: &F,
-    out: &mut O,
-) -> Result<bool, Refusal>
-    ensures printed { IfOk result (PrintsText ⟦<F as Known>⟧.reach files.now (T.text telling.now) volume.now (O.stream out.old) (O.stream out.new)) }
-    ensures refused { IfErr result (PrintsNoText ⟦<F as Known>⟧.reach files.now (T.text telling.now) volume.now (O.stream out.old) (O.stream out.new)) }
-{
-    let disc = match joined_volume(alloc, volume, files) {
-        Ok(disc) => disc,
-        Err(refusal) => return Err(refusal),
-    };
-    match telling.tell(alloc, &disc.table, disc.last, volume.profile, files, out) {
-        Ok(told) => told,
-        Err(ReadFault) => unreachable!(),
-    }
 }
 
 /// Prints the text of the report of an index's volume by the rules of a profile, where `last` is its last block, and returns whether there are files and all of
@@ -134,7 +112,7 @@ fn tell_stored<F: Files, O: Sink, T: Telling>(
 }
 
 /// Prints the text of the report of a volume. It returns whether there are files and all of them are whole. All inputs are opened in order before one is
-/// read. Where all of them are regular files, no block is held: what is asked of the volume is read where it is. No more is held in memory then than what is found of the
+/// read. No block of a regular file is held: what is asked of the volume is read where it is. No more is held in memory then than what is found of the
 /// volume's files, and what is missing of one of them.
 ///
 /// # Errors
@@ -153,8 +131,7 @@ pub fn tell<F: Files, O: Sink, T: Telling>(
     ensures refused { IfErr result (PrintsNoText ⟦<F as Known>⟧.reach files.now (T.text telling.now) volume.now (O.stream out.old) (O.stream out.new)) }
 {
     match stored_volume(alloc, volume, files) {
-        Ok(Some(disc)) => tell_stored(alloc, &disc, volume, telling, files, out),
-        Ok(None) => tell_held(alloc, volume, telling, files, out),
+        Ok(disc) => tell_stored(alloc, &disc, volume, telling, files, out),
         Err(refusal) => Err(refusal),
     }
 }

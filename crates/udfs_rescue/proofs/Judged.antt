@@ -1,6 +1,5 @@
 -- What the count of ranges says of their blocks.
 use Rattle.std.specs.Prelude.{◌↔◌, IfSome, IfNone}
-use Rattle.udfs_rescue.specs.Blocks.{AreSome}
 use Rattle.std.proofs.Common.{◌≡◌, ℕ, ◌+◌, ◌-◌, ◌<◌, ◌≤◌, ◌*◌, ◌/◌, ltb, max, Option, Some, None, ◌⊎◌, inl, inr, ⊎_elim, Bool, true, false, cond, List, [], ◌∷◌, Result, Ok, Err, leb, refl, sym, ap, subst, ◌∙◌, arith}
 use Rattle.std.proofs.lemmas.Bool.{cases_lt, leb-true, leb-false, ltb-true, ltb-false}
 use Rattle.udfs_rescue.specs.declared.run.Run.{Run}
@@ -119,10 +118,6 @@ too_high runs ranges n same h =
       exactly = λ k. (λ i. let a = (h.exactly k).0 i in ((same k).0 a.0, a.1), λ i. (h.exactly k).1 ((same k).1 i.0, i.1));
       which = ap (λ m. m + 1) h.which;
     }
-
-pub some_ranges : (low : ℕ) (rs : List BlockRange) → RiseFrom low rs → EndWithin rs → AreSome rs
-some_ranges low [] w e = tt
-some_ranges low (r ∷ rs) w e = (w.1, e.0, some_ranges r.end rs w.2 e.1)
 
 abbrev FirstIs : List BlockRange → ℕ → Option ℕ → Type 0
 FirstIs rs size None = (n : ℕ) → InRanges rs n → 2048 * (n + 1) ≤ size

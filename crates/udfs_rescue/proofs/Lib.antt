@@ -8,13 +8,11 @@ mod FrontLemmas
 mod StreamLemmas
 mod PieceLemmas
 mod Judged
-mod Giving
 mod MapText
-pub mod PairLemmas
 mod ListLines
 mod ListPieces
 mod ImageText
-mod PairTables
+pub mod PairTables
 mod ReadBack
 mod ReadMaps
 mod ReadImages

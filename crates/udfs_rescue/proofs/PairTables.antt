@@ -15,7 +15,17 @@ use Rattle.udfs_rescue.specs.declared.run.Run.{Run}
 use Rattle.udfs_rescue.specs.Blocks.{block_of, records_from, records_of, reading_of}
 use Rattle.udfs_rescue.specs.Known.{InRanges, IsKnown, RiseFrom, EndWithin, AreBlocks, block_count}
 use Rattle.udfs_rescue.specs.Opening.{IsReadingOf, KnowsBlocks, IsTableOfPair}
-use Rattle.udfs_rescue.proofs.Giving.{length-records_of}
+
+-- ---- how many there are
+
+length-records_from : (all : List ℕ) (n k : ℕ) → length (records_from all n k) ≡ k
+length-records_from all n zero = refl
+length-records_from all n (suc k) = ap suc (length-records_from all (n + 1) k)
+
+length-records_of : (all : List ℕ) (rs : List BlockRange) → length (records_of all rs) ≡ block_count rs
+length-records_of all [] = refl
+length-records_of all (r ∷ rs) =
+    length-append (records_from all r.start (r.end - r.start)) (records_of all rs) ∙ ap (λ n. n + length (records_of all rs)) (length-records_from all r.start (r.end - r.start)) ∙ ap (λ n. (r.end - r.start) + n) (length-records_of all rs)
 
 -- ---- what the records have
 

@@ -1,8 +1,7 @@
 -- The blocks of an image, and the reading file of those that are rescued.
-use Rattle.std.specs.Prelude.{◌≡◌, ℕ, zero, suc, ◌+◌, ◌-◌, ◌*◌, ◌<◌, ◌≤◌, List, [], ◌∷◌, ◌++◌, length, take, drop, Option, None, Some}
-use Rattle.std.specs.List.{flat_map}
+use Rattle.std.specs.Prelude.{ℕ, zero, suc, ◌+◌, ◌-◌, ◌*◌, List, [], ◌∷◌, ◌++◌, length, take, drop, Option, None, Some}
 use Rattle.udfs_lattice.specs.Records.{Record}
-use Rattle.udfs_reading.specs.Reading.{front, record_bytes}
+use Rattle.udfs_reading.specs.Reading.{front}
 use Rattle.udfs_rescue.specs.declared.known.BlockRange.{BlockRange}
 
 -- the 2048 bytes of block n
@@ -33,34 +32,7 @@ abbrev pub reading_known : Option (List ℕ) → List BlockRange → Option (Lis
 reading_known None ranges = None
 reading_known (Some all) ranges = Some (reading_of all ranges)
 
--- ---- as they are given (internal)
-
 -- the records of this many blocks from block n on, whose bytes are one after another
 abbrev pub records_in : ℕ → ℕ → List ℕ → List Record
 records_in n zero bytes = []
 records_in n (suc k) bytes = (n, take 2048 bytes) ∷ records_in (n + 1) k (drop 2048 bytes)
-
--- the bytes pending, the records read and not yet pending, and those of the ranges left
-abbrev pub left_bytes : Option (List ℕ) → List ℕ → List Record → List BlockRange → Option (List ℕ)
-left_bytes None pending here ranges = None
-left_bytes (Some all) pending here ranges = Some (pending ++ (flat_map record_bytes here ++ flat_map record_bytes (records_of all ranges)))
-
--- the front of the ranges: at most 128 blocks of the first range
-pub record IsFront (ranges : List BlockRange) (r : BlockRange) : Type 0 where
-  pub first : BlockRange
-  pub later : List BlockRange
-  pub are : ranges ≡ first ∷ later
-  pub start : r.start ≡ first.start
-  pub some : r.start < r.end
-  pub end : r.end ≤ first.end
-  pub few : r.end - r.start ≤ 128
-  pub within : r.end ≤ 4194304
-
--- the ranges without their front
-pub record WithoutFront (old : List BlockRange) (r : BlockRange) (new : List BlockRange) : Type 0 where
-  pub same : (all : List ℕ) → records_of all old ≡ records_from all r.start (r.end - r.start) ++ records_of all new
-
--- ranges of which none is empty, up to block 4,194,303 at most
-abbrev pub AreSome : List BlockRange → Type 0
-AreSome [] = Unit {0}
-AreSome (r ∷ rs) = (r.start < r.end) × (r.end ≤ 4194304) × AreSome rs

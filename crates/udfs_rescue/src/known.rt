@@ -3,7 +3,6 @@
 ghost use Rattle.std.specs.Prelude.{◌≡◌, ◌++◌, ℕ, ◌+◌, ◌^◌, ◌≤◌, ◌<◌, ◌↔◌, ◌*◌, OnOk, IfOk, IfErr, IfSome, IfNone};
 ghost use Rattle.udfs_rescue.specs.Runs.{AreRuns, RunsFrom};
 ghost use Rattle.udfs_rescue.specs.Known.{IsKnown, InRanges, RiseFrom, AreBlocks, block_count, KnownFails, IsFirstOutside, judged, first_from};
-ghost use Rattle.udfs_rescue.specs.Blocks.{AreSome};
 ghost use Rattle.udfs_rescue.specs.Ranges.{range_of, joins_next, ranges_from};
 
 use crate::mapfile::Mapfile;
@@ -180,14 +179,6 @@ impl KnownBlocks {
         ensures none { IfNone result ((n : ℕ) → InRanges self.now n → 2048 * (n + 1) ≤ size) }
     {
         first_from(&self.ranges, size / 2048)
-    }
-
-    pub(crate) fn into_ranges(self) -> Vec<BlockRange>
-        ensures value { result.items ≡ self }
-        ensures some { AreSome result.items }
-    {
-        let KnownBlocks { ranges, count: _ } = self;
-        ranges
     }
 
     /// How many blocks are known.

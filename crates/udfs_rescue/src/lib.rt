@@ -1,12 +1,10 @@
 // SPDX-License-Identifier: MIT OR Apache-2.0
-//! GNU ddrescue's images and mapfiles: the runs that a mapfile lists, the blocks that they make known, and an image
-//! with its mapfile as a source of the reading of these blocks.
+//! GNU ddrescue's images and mapfiles: the runs that a mapfile lists, and the blocks that they make known.
 #![tactic(auto)]
 
 mod fault;
 mod front;
 mod held;
-mod image;
 mod imaging;
 mod known;
 mod laws;
@@ -15,21 +13,17 @@ mod list;
 mod mapfile;
 mod number;
 mod opening;
-mod pair;
-mod piece;
 mod run;
 mod stream;
 mod word;
 mod writing;
 
 pub use fault::{LineFault, MapError, MapFault};
-pub use image::Image;
 pub use imaging::write_image;
 pub use known::{BlockRange, KnownBlocks};
 pub use laws::{domains_are_marked, images_read_back, maps_read_back};
 pub use list::{BlockList, ListError};
 pub use mapfile::Mapfile;
-pub use opening::{PairFault, open_pair};
-pub use pair::Pair;
+pub use opening::{FAILED, PairFault, known_of};
 pub use run::{Run, RunStatus};
 pub use writing::{Statuses, write_domain, write_image_map};

@@ -35,23 +35,23 @@ rest_is : (p : Bor (List ℕ)) (ps : List (Bor (List ℕ))) → take (length (p 
 rest_is p ps = take_all (length (p ∷ ps) - 1) ps (omega arith)
 
 -- the first list was not read
-pub first_refused : {F I M S W : Type 0} (reach : Reach F I M S W) (at : F) (paths : List (Bor (List ℕ))) (d : Bor (List ℕ)) (refusal : Refusal) → 1 ≤ length paths →
+pub first_refused : {F I S W : Type 0} (reach : Reach F I S W) (at : F) (paths : List (Bor (List ℕ))) (d : Bor (List ℕ)) (refusal : Refusal) → 1 ≤ length paths →
     IsListRefused reach at (slice_index_or paths 0 d).now refusal → ListsRefused reach at (texts paths) refusal
 first_refused reach at [] d refusal some why = absurd (omega (arith, some))
 first_refused reach at (p ∷ ps) d refusal some why = record { earlier = []; path = p.now; later = texts ps; are = refl; blocks = []; listed = refl; why = why }
 
 -- memory was refused at one
-pub memory_refused : {F I M S W : Type 0} (reach : Reach F I M S W) (at : F) (paths : List (Bor (List ℕ))) → 1 ≤ length paths → ListsRefused reach at (texts paths) (Memory alloc_error)
+pub memory_refused : {F I S W : Type 0} (reach : Reach F I S W) (at : F) (paths : List (Bor (List ℕ))) → 1 ≤ length paths → ListsRefused reach at (texts paths) (Memory alloc_error)
 memory_refused reach at [] some = absurd (omega (arith, some))
 memory_refused reach at (p ∷ ps) some = record { earlier = []; path = p.now; later = texts ps; are = refl; blocks = []; listed = refl; why = inl refl }
 
-one_more : {F I M S W : Type 0} (reach : Reach F I M S W) (at : F) (p : List ℕ) (ps : List (List ℕ)) (first : List ℕ) (refusal : Refusal) →
+one_more : {F I S W : Type 0} (reach : Reach F I S W) (at : F) (p : List ℕ) (ps : List (List ℕ)) (first : List ℕ) (refusal : Refusal) →
     HasList (found_at reach at p) first → ListsRefused reach at ps refusal → ListsRefused reach at (p ∷ ps) refusal
 one_more reach at p ps first refusal has rest =
     record { earlier = p ∷ rest.earlier; path = rest.path; later = rest.later; are = ap (λ (l : List (List ℕ)). p ∷ l) rest.are; blocks = first ++ rest.blocks; listed = (first, rest.blocks, has, rest.listed, refl); why = rest.why }
 
 -- it was, and one of the others was not
-pub rest_refused : {F I M S W : Type 0} (reach : Reach F I M S W) (at : F) (paths : List (Bor (List ℕ))) (d : Bor (List ℕ)) (first : List ℕ) (refusal : Refusal) → 1 ≤ length paths →
+pub rest_refused : {F I S W : Type 0} (reach : Reach F I S W) (at : F) (paths : List (Bor (List ℕ))) (d : Bor (List ℕ)) (first : List ℕ) (refusal : Refusal) → 1 ≤ length paths →
     HasList (found_at reach at (slice_index_or paths 0 d).now) first → ListsRefused reach at (texts (take (length paths - 1) (drop 1 paths))) refusal → ListsRefused reach at (texts paths) refusal
 rest_refused reach at [] d first refusal some has rest = absurd (omega (arith, some))
 rest_refused reach at (p ∷ ps) d first refusal some has rest =
@@ -59,12 +59,12 @@ rest_refused reach at (p ∷ ps) d first refusal some has rest =
     (subst (λ (l : List (Bor (List ℕ))). ListsRefused reach at (texts l) refusal) (rest_is p ps) rest)
 
 -- the table of the join of the inputs, after it forgot the blocks of the lists, is the one that a request asks for
-pub forgets_of : {F I M S W : Type 0} (reach : Reach F I M S W) (at : F) (request : ForgetRequest) (blocks : List ℕ) (table : Table) → Lists (found_at reach at) (texts request.lists.items) blocks →
+pub forgets_of : {F I S W : Type 0} (reach : Reach F I S W) (at : F) (request : ForgetRequest) (blocks : List ℕ) (table : Table) → Lists (found_at reach at) (texts request.lists.items) blocks →
     OfInputs reach at request.inputs request.force (λ t. Forgets request.conflicts blocks t table) → IsForgottenJoin reach at request table
 forgets_of reach at request blocks table listed left = record { blocks = blocks; listed = listed; left = left }
 
 -- so it is where the join was held
-pub forgets_held : {F I M S W : Type 0} (reach : Reach F I M S W) (at : F) (request : ForgetRequest) (blocks : List ℕ) (joined table : Table) → Lists (found_at reach at) (texts request.lists.items) blocks →
+pub forgets_held : {F I S W : Type 0} (reach : Reach F I S W) (at : F) (request : ForgetRequest) (blocks : List ℕ) (joined table : Table) → Lists (found_at reach at) (texts request.lists.items) blocks →
     OfInputs reach at request.inputs request.force (λ t. joined ≡ t) → Forgets request.conflicts blocks joined table → IsForgottenJoin reach at request table
 forgets_held reach at request blocks joined table listed of forgets =
     forgets_of reach at request blocks table listed (record {
@@ -117,12 +117,12 @@ settled_first blocks t u forgets = (forgets_without true [] t, λ n. forgets n �
 
 -- ---- nothing is told as done
 
-list_early : {F I M S W : Type 0} (reach : Reach F I M S W) (at : F) (path : List ℕ) (r : Refusal) → IsListRefused reach at path r → r ≢ Unkept
+list_early : {F I S W : Type 0} (reach : Reach F I S W) (at : F) (path : List ℕ) (r : Refusal) → IsListRefused reach at path r → r ≢ Unkept
 list_early reach at path r (inl memory) = memory_early r memory
 list_early reach at path r (inr (inl shut)) = λ e. let bad : ListOpen ≡ Unkept = sym shut.0 ∙ e in cc
 list_early reach at path r (inr (inr (inl failed))) = λ e. let bad : ListRead ≡ Unkept = sym failed.0 ∙ e in cc
 list_early reach at path r (inr (inr (inr fault))) = λ e. let bad : ListLine fault.0 ≡ Unkept = sym fault.1 ∙ e in cc
 
 -- where the lists were not read
-pub lists_early : {F I M S W : Type 0} (reach : Reach F I M S W) (at : F) (paths : List (List ℕ)) (r : Refusal) → ListsRefused reach at paths r → r ≢ Unkept
+pub lists_early : {F I S W : Type 0} (reach : Reach F I S W) (at : F) (paths : List (List ℕ)) (r : Refusal) → ListsRefused reach at paths r → r ≢ Unkept
 lists_early reach at paths r lists = list_early reach at lists.path r lists.why

@@ -1,6 +1,5 @@
 pub mod ForgettingLemmas
 pub mod ImagingLemmas
-mod PastEnds
 pub mod PairingLemmas
 mod MergingLemmas
 mod OutlookLemmas

@@ -13,18 +13,18 @@ use Rattle.udfs_tables.specs.Merging.{IsMerged, MergeFails}
 use Rattle.udfs_tables.specs.Outputs.{OutRefused}
 
 -- any error but those of a file that was begun leaves all files as they were
-pub untouched : {A F I M S W : Type 0} (reach : Reach F I M S W) (Is : List ℕ → Type 0) (out : List ℕ) (old new : F) (refusal : Refusal) → Puts {A = A} reach Is out old new (Err refusal) → (IsBroken refusal → ⊥) → refusal ≢ Unkept → new ≡ old
+pub untouched : {A F I S W : Type 0} (reach : Reach F I S W) (Is : List ℕ → Type 0) (out : List ℕ) (old new : F) (refusal : Refusal) → Puts {A = A} reach Is out old new (Err refusal) → (IsBroken refusal → ⊥) → refusal ≢ Unkept → new ≡ old
 untouched reach Is out old new refusal puts whole kept = ⊎_elim (λ same. same) (λ other. ⊎_elim (λ failed. absurd (whole failed.0)) (λ unkept. absurd (kept unkept.0)) other) puts.left
 
-keeps_by : {F I M S W : Type 0} (reach : Reach F I M S W) (out : List ℕ) (old new : F) → new ≡ old → KeepsOut reach out old new
+keeps_by : {F I S W : Type 0} (reach : Reach F I S W) (out : List ℕ) (old new : F) → new ≡ old → KeepsOut reach out old new
 keeps_by {F} reach out old new same = subst (λ (f : F). KeepsOut reach out old f) (sym same) (λ tells place. refl)
 
 -- with `Output` and `Reread` the output's path holds what it held, unless it is that of a device or a pipe
-pub refused : {A F I M S W : Type 0} (reach : Reach F I M S W) (Is : List ℕ → Type 0) (out : List ℕ) (old new : F) (refusal : Refusal) → Puts {A = A} reach Is out old new (Err refusal) → refusal ≢ Unkept → KeepsOut reach out old new
+pub refused : {A F I S W : Type 0} (reach : Reach F I S W) (Is : List ℕ → Type 0) (out : List ℕ) (old new : F) (refusal : Refusal) → Puts {A = A} reach Is out old new (Err refusal) → refusal ≢ Unkept → KeepsOut reach out old new
 refused reach Is out old new refusal puts kept = ⊎_elim (λ same. keeps_by reach out old new same) (λ other. ⊎_elim (λ failed. failed.2) (λ unkept. absurd (kept unkept.0)) other) puts.left
 
 -- after an error nothing has changed; or a call failed, and the path, unless a device or a pipe, holds what it held or the new file, whole
-pub left_out : {A F I M S W : Type 0} (reach : Reach F I M S W) (Is : List ℕ → Type 0) (out : List ℕ) (old new : F) (refusal : Refusal) → Puts {A = A} reach Is out old new (Err refusal) →
+pub left_out : {A F I S W : Type 0} (reach : Reach F I S W) (Is : List ℕ → Type 0) (out : List ℕ) (old new : F) (refusal : Refusal) → Puts {A = A} reach Is out old new (Err refusal) →
     RefusedOut reach.files.tells reach.files.holds reach.files.real reach.files.in_place (PutFails reach out old) out old new (λ Put. (bytes : List ℕ) × Is bytes × Put bytes)
 left_out reach Is out old new refusal puts =
     ⊎_elim (λ same. inl same)
@@ -34,8 +34,8 @@ left_out reach Is out old new refusal puts =
     puts.left
 
 -- the table file of the join of what the input paths held was put
-pub merge_written : {A F I M S W : Type 0} (reach : Reach F I M S W) (old new : F) (r : MergeRequest) (a : A) → Puts reach (IsMerged reach old r) r.out.now old new (Ok a) →
-    OfPaths (found_at reach old) reach.remaining r.inputs.paths.items
+pub merge_written : {A F I S W : Type 0} (reach : Reach F I S W) (old new : F) (r : MergeRequest) (a : A) → Puts reach (IsMerged reach old r) r.out.now old new (Ok a) →
+    OfPaths (found_at reach old) r.inputs.paths.items
     (λ table. (reach.files.tells → IsKept (reach.files.holds new) (reach.files.may_leave new) (reach.files.real old r.out.now) (table_file r.version table)) ⊎ (reach.files.in_place old r.out.now × IsTaken reach.output (table_file r.version table)))
 merge_written reach old new r a puts =
     let of = puts.put.is.join in (
@@ -45,12 +45,12 @@ merge_written reach old new r a puts =
     )
 
 -- by force no image is named as one of another disc
-out_names_none : {F I M S W : Type 0} (reach : Reach F I M S W) (old : F) (r : MergeRequest) (refusal : Refusal) → r.force ≡ true → OutRefused reach old r.inputs r.force r.out.now refusal → NamesNoOther refusal
+out_names_none : {F I S W : Type 0} (reach : Reach F I S W) (old : F) (r : MergeRequest) (refusal : Refusal) → r.force ≡ true → OutRefused reach old r.inputs r.force r.out.now refusal → NamesNoOther refusal
 out_names_none reach old r refusal forced (inl memory) = memory_names_none refusal memory
 out_names_none reach old r refusal forced (inr (inl spared)) = spared_names_none refusal spared.0
 out_names_none reach old r refusal forced (inr (inr (inl unseen))) = output_names_none refusal (inl unseen.0)
 out_names_none reach old r refusal forced (inr (inr (inr inputs))) = inputs.2 forced
 
-pub merge_forced : {F I M S W : Type 0} (reach : Reach F I M S W) (old : F) (r : MergeRequest) (refusal : Refusal) → r.force ≡ true → MergeFails reach old r refusal → NamesNoOther refusal
+pub merge_forced : {F I S W : Type 0} (reach : Reach F I S W) (old : F) (r : MergeRequest) (refusal : Refusal) → r.force ≡ true → MergeFails reach old r refusal → NamesNoOther refusal
 merge_forced reach old r refusal forced (inl out) = out_names_none reach old r refusal forced out
 merge_forced reach old r refusal forced (inr unmerged) = unmerged.1 forced

@@ -24,7 +24,7 @@ at_both {a} {b} {c} {d} Of e f of = subst (λ (p : List ℕ). Of p d) e (subst (
 -- ---- the calls that put them
 
 -- an old mapfile was removed, or it was not
-pub goes_cleared : {F I M S W : Type 0} (files : Ghosts F I M S W) (image mapfile bytes text : List ℕ) (old new : F) → IsApart image mapfile → Goes files.moment files.may_leave files.left_since old new (Gone mapfile) →
+pub goes_cleared : {F I S W : Type 0} (files : Ghosts F I S W) (image mapfile bytes text : List ℕ) (old new : F) → IsApart image mapfile → Goes files.moment files.may_leave files.left_since old new (Gone mapfile) →
     (files.tells → (files.holds new mapfile ≡ files.holds old mapfile) ⊎ (files.holds new mapfile ≡ Some None)) → ((q : List ℕ) → q ≢ mapfile → files.holds new q ≡ files.holds old q) → GoesPair files image mapfile bytes text old new
 goes_cleared files image mapfile bytes text old new apart crash either others = record {
   crash = λ tells. after_clear _ _ _ image mapfile bytes text apart old new crash;
@@ -33,7 +33,7 @@ goes_cleared files image mapfile bytes text old new apart crash either others = 
 }
 
 -- and the image was put, or it was not
-pub goes_image : {F I M S W : Type 0} (files : Ghosts F I M S W) (image mapfile bytes text : List ℕ) (old mid new : F) → IsApart image mapfile → Goes files.moment files.may_leave files.left_since old mid (Gone mapfile) → IsGone files mapfile mid →
+pub goes_image : {F I S W : Type 0} (files : Ghosts F I S W) (image mapfile bytes text : List ℕ) (old mid new : F) → IsApart image mapfile → Goes files.moment files.may_leave files.left_since old mid (Gone mapfile) → IsGone files mapfile mid →
     ((q : List ℕ) → q ≢ mapfile → files.holds mid q ≡ files.holds old q) → (files.tells → Goes files.moment files.may_leave files.left_since mid new (Replaced image bytes)) →
     (files.tells → (files.holds new image ≡ files.holds mid image) ⊎ (files.holds new image ≡ Some (Some bytes))) → ((q : List ℕ) → q ≢ image → (¬ IsOwn image q) → files.holds new q ≡ files.holds mid q) → GoesPair files image mapfile bytes text old new
 goes_image files image mapfile bytes text old mid new apart one gone others two either elsewhere = record {
@@ -46,13 +46,13 @@ goes_image files image mapfile bytes text old mid new apart one gone others two 
 }
 
 -- no mapfile is there still
-pub gone_still : {F I M S W : Type 0} (files : Ghosts F I M S W) (image mapfile bytes : List ℕ) (mid new : F) → IsApart image mapfile → IsGone files mapfile mid → (files.tells → Goes files.moment files.may_leave files.left_since mid new (Replaced image bytes)) →
+pub gone_still : {F I S W : Type 0} (files : Ghosts F I S W) (image mapfile bytes : List ℕ) (mid new : F) → IsApart image mapfile → IsGone files mapfile mid → (files.tells → Goes files.moment files.may_leave files.left_since mid new (Replaced image bytes)) →
     ((q : List ℕ) → q ≢ image → (¬ IsOwn image q) → files.holds new q ≡ files.holds mid q) → IsGone files mapfile new
 gone_still files image mapfile bytes mid new apart gone two elsewhere =
     λ tells. (elsewhere mapfile (λ is. apart.differ (sym is)) apart.mapfile_is_no_own ∙ (gone tells).0, λ c left. still_none _ _ _ image mapfile bytes bytes apart mid new (gone tells).1 (two tells) c left)
 
 -- and the mapfile was put, or it was not
-pub goes_both : {F I M S W : Type 0} (files : Ghosts F I M S W) (image mapfile bytes text : List ℕ) (old mid new : F) → IsApart image mapfile → GoesPair files image mapfile bytes text old mid → (files.tells → IsKept (files.holds mid) (files.may_leave mid) image bytes) → IsGone files mapfile mid →
+pub goes_both : {F I S W : Type 0} (files : Ghosts F I S W) (image mapfile bytes text : List ℕ) (old mid new : F) → IsApart image mapfile → GoesPair files image mapfile bytes text old mid → (files.tells → IsKept (files.holds mid) (files.may_leave mid) image bytes) → IsGone files mapfile mid →
     (files.tells → Goes files.moment files.may_leave files.left_since mid new (Replaced mapfile text)) →
     (files.tells → (files.holds new mapfile ≡ files.holds mid mapfile) ⊎ (files.holds new mapfile ≡ Some (Some text))) → ((q : List ℕ) → q ≢ mapfile → (¬ IsOwn mapfile q) → files.holds new q ≡ files.holds mid q) → GoesPair files image mapfile bytes text old new
 goes_both files image mapfile bytes text old mid new apart goes kept gone two either elsewhere = record {
@@ -64,7 +64,7 @@ goes_both files image mapfile bytes text old mid new apart goes kept gone two ei
 }
 
 -- both are there
-pub kept_both : {F I M S W : Type 0} (files : Ghosts F I M S W) (image mapfile bytes text : List ℕ) (mid new : F) → IsApart image mapfile → (files.tells → IsKept (files.holds mid) (files.may_leave mid) image bytes) →
+pub kept_both : {F I S W : Type 0} (files : Ghosts F I S W) (image mapfile bytes text : List ℕ) (mid new : F) → IsApart image mapfile → (files.tells → IsKept (files.holds mid) (files.may_leave mid) image bytes) →
     (files.tells → Goes files.moment files.may_leave files.left_since mid new (Replaced mapfile text)) → ((q : List ℕ) → q ≢ mapfile → (¬ IsOwn mapfile q) → files.holds new q ≡ files.holds mid q) →
     (files.tells → IsKept (files.holds new) (files.may_leave new) mapfile text) → AreKept files image mapfile bytes text new
 kept_both files image mapfile bytes text mid new apart kept two elsewhere put =
@@ -77,20 +77,20 @@ kept_both files image mapfile bytes text mid new apart kept two elsewhere put =
     )
 
 -- where it is known what is there, the mapfile may be told as another text that is the same then
-pub goes_told : {F I M S W : Type 0} (files : Ghosts F I M S W) (image mapfile bytes text other : List ℕ) (old new : F) → (files.tells → text ≡ other) → GoesPair files image mapfile bytes text old new → GoesPair files image mapfile bytes other old new
+pub goes_told : {F I S W : Type 0} (files : Ghosts F I S W) (image mapfile bytes text other : List ℕ) (old new : F) → (files.tells → text ≡ other) → GoesPair files image mapfile bytes text old new → GoesPair files image mapfile bytes other old new
 goes_told files image mapfile bytes text other old new same goes = record {
   crash = λ tells. subst (λ (t : List ℕ). Goes files.moment files.may_leave files.left_since old new (BothReplaced image mapfile bytes t)) (same tells) (goes.crash tells);
   stand = λ tells. subst (λ (t : List ℕ). Stands (Some None) (Some (Some bytes)) (Some (Some t)) (files.holds old image) (files.holds old mapfile) (files.holds new image) (files.holds new mapfile)) (same tells) (goes.stand tells);
   elsewhere = goes.elsewhere;
 }
 
-pub kept_told : {F I M S W : Type 0} (files : Ghosts F I M S W) (image mapfile bytes text other : List ℕ) (new : F) → (files.tells → text ≡ other) → AreKept files image mapfile bytes text new → AreKept files image mapfile bytes other new
+pub kept_told : {F I S W : Type 0} (files : Ghosts F I S W) (image mapfile bytes text other : List ℕ) (new : F) → (files.tells → text ≡ other) → AreKept files image mapfile bytes text new → AreKept files image mapfile bytes other new
 kept_told files image mapfile bytes text other new same kept = λ tells. ((kept tells).0, subst (λ (t : List ℕ). IsKept (files.holds new) (files.may_leave new) mapfile t) (same tells) (kept tells).1)
 
 -- ---- the two paths
 
 -- nothing was begun
-pub unbegun : {A F I M S W : Type 0} (reach : Reach F I M S W) (Is : List ℕ → List ℕ → Type 0) (image mapfile : List ℕ) (at : F) (refusal : Refusal) → ((files : F) (c : Disk) → reach.files.left_since files (reach.files.moment files) c → reach.files.may_leave files c) →
+pub unbegun : {A F I S W : Type 0} (reach : Reach F I S W) (Is : List ℕ → List ℕ → Type 0) (image mapfile : List ℕ) (at : F) (refusal : Refusal) → ((files : F) (c : Disk) → reach.files.left_since files (reach.files.moment files) c → reach.files.may_leave files c) →
     PutsPair {A = A} reach Is image mapfile at at (Err refusal)
 unbegun reach Is image mapfile at refusal only_now = record {
   put = tt;
@@ -103,7 +103,7 @@ unbegun reach Is image mapfile at refusal only_now = record {
 }
 
 -- both were put where the paths lead
-pub put_there : {F I M S W : Type 0} (reach : Reach F I M S W) (Is : List ℕ → List ℕ → Type 0) (image mapfile i m bytes text : List ℕ) (old new : F) → (reach.files.tells → i ≡ reach.files.real old image) → (reach.files.tells → m ≡ reach.files.real old mapfile) → Is bytes text →
+pub put_there : {F I S W : Type 0} (reach : Reach F I S W) (Is : List ℕ → List ℕ → Type 0) (image mapfile i m bytes text : List ℕ) (old new : F) → (reach.files.tells → i ≡ reach.files.real old image) → (reach.files.tells → m ≡ reach.files.real old mapfile) → Is bytes text →
     AreKept reach.files i m bytes text new → IsPairPut reach Is image mapfile old new
 put_there reach Is image mapfile i m bytes text old new to_image to_mapfile are kept = record {
   bytes = bytes;
@@ -113,7 +113,7 @@ put_there reach Is image mapfile i m bytes text old new to_image to_mapfile are 
 }
 
 -- and what is there stays
-pub spares_there : {F I M S W : Type 0} (reach : Reach F I M S W) (Is : List ℕ → List ℕ → Type 0) (image mapfile i m bytes text : List ℕ) (old new : F) → (reach.files.tells → i ≡ reach.files.real old image) → (reach.files.tells → m ≡ reach.files.real old mapfile) → Is bytes text →
+pub spares_there : {F I S W : Type 0} (reach : Reach F I S W) (Is : List ℕ → List ℕ → Type 0) (image mapfile i m bytes text : List ℕ) (old new : F) → (reach.files.tells → i ≡ reach.files.real old image) → (reach.files.tells → m ≡ reach.files.real old mapfile) → Is bytes text →
     ((files : F) (c : Disk) → reach.files.left_since files (reach.files.moment files) c → reach.files.may_leave files c) → GoesPair reach.files i m bytes text old new → SparesPair reach Is image mapfile old new
 spares_there reach Is image mapfile i m bytes text old new to_image to_mapfile are only_now goes = record {
   any_moment = λ tells c since. ⊎_elim
@@ -124,13 +124,13 @@ spares_there reach Is image mapfile i m bytes text old new to_image to_mapfile a
   elsewhere = λ tells. at_both (λ (p r : List ℕ). (q : List ℕ) → q ≢ p → q ≢ r → (¬ IsOwn p q) → (¬ IsOwn r q) → reach.files.holds new q ≡ reach.files.holds old q) (to_image tells) (to_mapfile tells) goes.elsewhere;
 }
 
-put_wider : {F I M S W : Type 0} (reach : Reach F I M S W) (image mapfile : List ℕ) (old new : F) {A : Type 0} (Is Wider : List ℕ → List ℕ → Type 0) → ((bytes text : List ℕ) → Is bytes text → Wider bytes text) → (result : Result A Refusal) →
+put_wider : {F I S W : Type 0} (reach : Reach F I S W) (image mapfile : List ℕ) (old new : F) {A : Type 0} (Is Wider : List ℕ → List ℕ → Type 0) → ((bytes text : List ℕ) → Is bytes text → Wider bytes text) → (result : Result A Refusal) →
     OnOk result (IsPairPut reach Is image mapfile old new) → OnOk result (IsPairPut reach Wider image mapfile old new)
 put_wider reach image mapfile old new Is Wider widen (Ok a) put = record { bytes = put.bytes; text = put.text; are = widen put.bytes put.text put.are; put = put.put }
 put_wider reach image mapfile old new Is Wider widen (Err e) put = put
 
 -- of more images and mapfiles
-pub wider : {F I M S W : Type 0} {reach : Reach F I M S W} {image mapfile : List ℕ} {old new : F} {A : Type 0} {result : Result A Refusal} (Is Wider : List ℕ → List ℕ → Type 0) → ((bytes text : List ℕ) → Is bytes text → Wider bytes text) →
+pub wider : {F I S W : Type 0} {reach : Reach F I S W} {image mapfile : List ℕ} {old new : F} {A : Type 0} {result : Result A Refusal} (Is Wider : List ℕ → List ℕ → Type 0) → ((bytes text : List ℕ) → Is bytes text → Wider bytes text) →
     PutsPair reach Is image mapfile old new result → PutsPair reach Wider image mapfile old new result
 wider {reach = reach} {image = image} {mapfile = mapfile} {old = old} {new = new} {result = result} Is Wider widen puts = record {
   put = put_wider reach image mapfile old new Is Wider widen result puts.put;
@@ -145,21 +145,21 @@ wider {reach = reach} {image = image} {mapfile = mapfile} {old = old} {new = new
 }
 
 -- what holds of the join of the inputs, and of the last block, holds of the disc of a request
-pub of_disc : {F I M S W : Type 0} (reach : Reach F I M S W) (old : F) (request : ImageRequest) (last : ℕ) (Holds : ℕ → Table → Type 0) → IsEnd (found_at reach old) request.last request.inputs.paths.items last → OfInputs reach old request.inputs request.force (Holds last) → OfDisc reach old request Holds
+pub of_disc : {F I S W : Type 0} (reach : Reach F I S W) (old : F) (request : ImageRequest) (last : ℕ) (Holds : ℕ → Table → Type 0) → IsEnd (found_at reach old) request.last request.inputs.paths.items last → OfInputs reach old request.inputs request.force (Holds last) → OfDisc reach old request Holds
 of_disc reach old request last Holds end of = (last, end, of)
 
 -- so it is where the join was held
-pub of_held_disc : {F I M S W : Type 0} (reach : Reach F I M S W) (old : F) (request : ImageRequest) (last : ℕ) (table : Table) (Holds : ℕ → Table → Type 0) → IsEnd (found_at reach old) request.last request.inputs.paths.items last →
+pub of_held_disc : {F I S W : Type 0} (reach : Reach F I S W) (old : F) (request : ImageRequest) (last : ℕ) (table : Table) (Holds : ℕ → Table → Type 0) → IsEnd (found_at reach old) request.last request.inputs.paths.items last →
     OfInputs reach old request.inputs request.force (λ t. table ≡ t) → Holds last table → OfDisc reach old request Holds
 of_held_disc reach old request last table Holds end of holds =
     of_disc reach old request last Holds end (record { one_disc = of.one_disc; join = (of.join.0, of.join.1, subst (λ (t : Table). Holds last t) of.join.2 holds) })
 
 -- why the image of the join was not put
-pub of_unput : {F I M S W : Type 0} (reach : Reach F I M S W) (old : F) (request : ImageRequest) (last : ℕ) (refusal : Refusal) → IsEnd (found_at reach old) request.last request.inputs.paths.items last → OfInputs reach old request.inputs request.force (ImageUnput reach old request last refusal) → OfDisc reach old request (λ n. ImageUnput reach old request n refusal)
+pub of_unput : {F I S W : Type 0} (reach : Reach F I S W) (old : F) (request : ImageRequest) (last : ℕ) (refusal : Refusal) → IsEnd (found_at reach old) request.last request.inputs.paths.items last → OfInputs reach old request.inputs request.force (ImageUnput reach old request last refusal) → OfDisc reach old request (λ n. ImageUnput reach old request n refusal)
 of_unput reach old request last refusal end of = (last, end, of)
 
 -- and where the join was held
-pub of_held_unput : {F I M S W : Type 0} (reach : Reach F I M S W) (old : F) (request : ImageRequest) (last : ℕ) (table : Table) (refusal : Refusal) → IsEnd (found_at reach old) request.last request.inputs.paths.items last →
+pub of_held_unput : {F I S W : Type 0} (reach : Reach F I S W) (old : F) (request : ImageRequest) (last : ℕ) (table : Table) (refusal : Refusal) → IsEnd (found_at reach old) request.last request.inputs.paths.items last →
     OfInputs reach old request.inputs request.force (λ t. table ≡ t) → ImageUnput reach old request last refusal table → OfDisc reach old request (λ n. ImageUnput reach old request n refusal)
 of_held_unput reach old request last table refusal end of unput = of_held_disc reach old request last table (λ n t. ImageUnput reach old request n refusal t) end of unput
 
@@ -186,7 +186,3 @@ not_made inputs refusal (inr reread) = inr reread
 pub left_made : {X : Type 0} (inputs : ℕ) (refusal : Refusal) → IsUnput X refusal ⊎ IsRereadOf inputs refusal → IsUnput X refusal ⊎ ((input number : ℕ) × (refusal ≡ Reread input number))
 left_made inputs refusal (inl unput) = inl unput
 left_made inputs refusal (inr reread) = inr (reread.0 + 1, reread.1, reread.3)
-
--- where no input is read again, none could not be
-pub no_input : {refusal : Refusal} → IsRereadOf 0 refusal → ⊥
-no_input reread = let less = reread.2 in omega (arith, less)

@@ -43,12 +43,12 @@ abbrev pub SomeFault : {R : Type 0} → (R → ℕ) → Type 0
 SomeFault {R} faults = (before : R) × (after : R) × (faults after ≢ faults before)
 
 -- memory ran out, or the path may fail to open, or a read failed, or a line is no block number
-abbrev pub IsListRefused : {F I M S W : Type 0} → Reach F I M S W → F → List ℕ → Refusal → Type 0
+abbrev pub IsListRefused : {F I S W : Type 0} → Reach F I S W → F → List ℕ → Refusal → Type 0
 IsListRefused reach at path refusal = (refusal ≡ Memory alloc_error) ⊎ ((refusal ≡ ListOpen) × reach.files.shut at path) ⊎ ((refusal ≡ ListRead) × SomeFault reach.read_faults) ⊎
     ((line : ℕ) × (refusal ≡ ListLine line) × HasListFault (found_at reach at path) line)
 
 -- one of them was not, and those before it were
-pub record ListsRefused {F I M S W : Type 0} (reach : Reach F I M S W) (at : F) (paths : List (List ℕ)) (refusal : Refusal) : Type 0 where
+pub record ListsRefused {F I S W : Type 0} (reach : Reach F I S W) (at : F) (paths : List (List ℕ)) (refusal : Refusal) : Type 0 where
   pub earlier : List (List ℕ)
   pub path : List ℕ
   pub later : List (List ℕ)
@@ -58,12 +58,12 @@ pub record ListsRefused {F I M S W : Type 0} (reach : Reach F I M S W) (at : F) 
   pub why : IsListRefused reach at path refusal
 
 -- the table has all of the join of what the inputs hold but the blocks of the lists, and where asked those in conflict
-pub record IsForgottenJoin {F I M S W : Type 0} (reach : Reach F I M S W) (at : F) (request : ForgetRequest) (table : Table) : Type 0 where
+pub record IsForgottenJoin {F I S W : Type 0} (reach : Reach F I S W) (at : F) (request : ForgetRequest) (table : Table) : Type 0 where
   pub blocks : List ℕ
   pub listed : Lists (found_at reach at) (texts request.lists.items) blocks
   pub left : OfInputs reach at request.inputs request.force (λ t. Forgets request.conflicts blocks t table)
 
-module _ {F I M S W : Type 0} (reach : Reach F I M S W) (old : F) (request : ForgetRequest) where
+module _ {F I S W : Type 0} (reach : Reach F I S W) (old : F) (request : ForgetRequest) where
   -- the table file of such a table
   abbrev pub IsForgotten : List ℕ → Type 0
   IsForgotten bytes = (table : Table) × IsForgottenJoin reach old request table × (bytes ≡ table_file Two table)

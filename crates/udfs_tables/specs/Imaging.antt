@@ -37,7 +37,7 @@ pub record IsImageOf (told : Type 0) (last : ℕ) (bytes text : List ℕ) (t : T
 abbrev pub HasNoImage : Type 0 → ℕ → Refusal → Table → Type 0
 HasNoImage told last refusal t = ((refusal ≡ LastRange) × IsOutOfRange last) ⊎ ((n : ℕ) × (refusal ≡ PastEnd n) × (¬ IsOutOfRange last) × (told → IsPastEnd (state_of t) last n))
 
-module _ {F I M S W : Type 0} (reach : Reach F I M S W) (old : F) (request : ImageRequest) where
+module _ {F I S W : Type 0} (reach : Reach F I S W) (old : F) (request : ImageRequest) where
   -- the last block that was given, or that with which the mapfiles of all inputs end
   abbrev pub OfDisc : (ℕ → Table → Type 0) → Type 0
   OfDisc Holds = (last : ℕ) × IsEnd (found_at reach old) request.last request.inputs.paths.items last × OfInputs reach old request.inputs request.force (Holds last)
@@ -67,7 +67,7 @@ module _ {F I M S W : Type 0} (reach : Reach F I M S W) (old : F) (request : Ima
 
   -- the inputs were not joined, or not read a second time, and why; by force no image is named as one of another disc
   abbrev pub IsNotTaken : Refusal → Type 0
-  IsNotTaken refusal = IndexRefused reach.stored_told (found_at reach old) (reach.files.shut old) reach.remaining request.inputs.paths.items refusal × (request.force ≡ true → NamesNoOther refusal)
+  IsNotTaken refusal = IndexRefused reach.stored_told (found_at reach old) (reach.files.shut old) request.inputs.paths.items refusal × (request.force ≡ true → NamesNoOther refusal)
 
   -- they may not be written; or no last block is known, or the inputs were not joined; or their image was not put
   abbrev pub ImageRefused : Refusal → Type 0

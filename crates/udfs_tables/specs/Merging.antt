@@ -10,7 +10,7 @@ use Rattle.udfs_common.specs.declared.refusal.Refusal.{Refusal}
 use Rattle.udfs_tables.specs.Joining.{OfInputs}
 use Rattle.udfs_tables.specs.Outputs.{IsNotWritten, OutRefused}
 
-module _ {F I M S W : Type 0} (reach : Reach F I M S W) (old : F) (request : MergeRequest) where
+module _ {F I S W : Type 0} (reach : Reach F I S W) (old : F) (request : MergeRequest) where
   -- in the version that is asked for
   abbrev pub IsMerged : List ℕ → Type 0
   IsMerged bytes = OfInputs reach old request.inputs request.force (λ table. bytes ≡ table_file request.version table)

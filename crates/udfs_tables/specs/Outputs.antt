@@ -16,7 +16,7 @@ use Rattle.udfs_common.specs.declared.refusal.Refusal.{Refusal}
 use Rattle.udfs_common.specs.declared.refusal.Refusal.TheVariants.{Memory, Output, Spared}
 use Rattle.udfs_tables.specs.Joining.{IsNotJoined}
 
-module _ {F I M S W : Type 0} (reach : Reach F I M S W) (old : F) (inputs : Inputs) (force : Bool) (out : List ℕ) where
+module _ {F I S W : Type 0} (reach : Reach F I S W) (old : F) (inputs : Inputs) (force : Bool) (out : List ℕ) where
   -- where it is known what files hold
   abbrev pub IsOutFree : Type 0
   IsOutFree = reach.files.tells → IsFree reach.files old (texts inputs.files.items) (texts inputs.parts.items) force out
@@ -32,4 +32,4 @@ module _ {F I M S W : Type 0} (reach : Reach F I M S W) (old : F) (inputs : Inpu
 
   -- by force no image is named as one of another disc
   abbrev pub IsNotWritten : Refusal → Type 0
-  IsNotWritten refusal = (IndexRefused reach.stored_told (found_at reach old) (reach.files.shut old) reach.remaining inputs.paths.items refusal ⊎ IsUnput (PutFails reach out old) refusal) × (force ≡ true → NamesNoOther refusal)
+  IsNotWritten refusal = (IndexRefused reach.stored_told (found_at reach old) (reach.files.shut old) inputs.paths.items refusal ⊎ IsUnput (PutFails reach out old) refusal) × (force ≡ true → NamesNoOther refusal)

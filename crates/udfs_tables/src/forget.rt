@@ -1,23 +1,23 @@
 //! The command `forget`: readings in, one table file out, in which the named blocks are unknown again.
 
 ghost use Rattle.std.specs.Prelude.{◌≡◌, ◌++◌, ℕ, List, IfOk, IfErr, IsErrOf, OnOk};
+ghost use Rattle.udfs_lattice.specs.Tables.{Table};
 ghost use Rattle.udfs_words.specs.Requests.{texts};
 ghost use Rattle.udfs_common.specs.Puts.{HasPut, Puts};
 ghost use Rattle.udfs_common.specs.Reach.{found_at};
 ghost use Rattle.udfs_tables.specs.Forgetting.{ForgetRefused, Forgets, HasList, IsForgotten, IsListRefused, Lists, ListsRefused};
 ghost use Rattle.udfs_tables.specs.Outputs.{IsNotWritten, IsOutFree};
 
-use crate::forget_stored::forget_stored;
-use crate::joining::join_of;
-use crate::merge::TableFile;
+use crate::indexed::put_index;
 use crate::outlook::check_out;
 use std::alloc::{AllocError, Global};
 use udfs_common::files::Files;
+use udfs_common::indexing::index_of;
 use udfs_common::known::Known;
-use udfs_common::putting::put_file;
 use udfs_common::refusal::Refusal;
 use udfs_common::stored_inputs::open_all_stored;
-use udfs_lattice::BlockTable;
+use udfs_index::{Cursor, Index, Stored};
+use udfs_reading::Taker;
 use udfs_rescue::{BlockList, ListError};
 use udfs_words::forms::Version;
 use udfs_words::request::ForgetRequest;
@@ -80,43 +80,17 @@ fn listed<F: Files>(alloc: Global, paths: &[&str], files: &F) -> Result<Vec<u32>
 }
 
 /// Makes these blocks unknown, and where that is asked those in conflict.
-fn forget_blocks(table: &mut BlockTable, conflicts: bool, blocks: &[u32])
-    ensures { Forgets conflicts blocks.now table.old table.new }
+fn forget_in<'a, S: Stored>(index: &mut Index<'a, S>, conflicts: bool, blocks: &[u32])
+    ensures { (t u : Table) → ⟦<Index<'a, S> as Taker<Cursor<'a, S>>>⟧.took index.old t → Forgets conflicts blocks.now t u → ⟦<Index<'a, S> as Taker<Cursor<'a, S>>>⟧.took index.new u }
 {
     if conflicts {
-        table.forget_conflicts();
+        index.forget_conflicts();
     }
-    table.forget_all(blocks);
+    index.forget_all(blocks);
 }
 
-/// Joins the inputs and puts the table file of their join without these blocks, as [`forget`] does, and holds the blocks meanwhile.
-fn forget_held<F: Files>(
-    alloc: Global,
-    request: &ForgetRequest<'_>,
-    blocks: &[u32],
-    files: &mut F,
-) -> Result<(), Refusal>
-    requires { Lists (found_at ⟦<F as Known>⟧.reach files.now) (texts request.now.lists.items) blocks.now }
-    ensures puts { Puts ⟦<F as Known>⟧.reach (IsForgotten ⟦<F as Known>⟧.reach files.old request.now) request.now.out.now files.old files.new result }
-    ensures unkept { IsErrOf result Refusal.Unkept → F.tells → HasPut ⟦<F as Known>⟧.reach (IsForgotten ⟦<F as Known>⟧.reach files.old request.now) request.now.out.now files.old files.new }
-    ensures why { IfErr result (IsNotWritten ⟦<F as Known>⟧.reach files.old request.now.inputs request.now.force request.now.out.now) }
-{
-    let mut table = match join_of(alloc, &request.inputs, request.force, files) {
-        Ok(table) => table,
-        Err(refusal) => return Err(refusal),
-    };
-    forget_blocks(&mut table, request.conflicts, blocks);
-    let content = TableFile {
-        table: &table,
-        version: Version::Two,
-    };
-    match put_file(alloc, &content, request.out, files) {
-        Ok(()) => Ok(()),
-        Err(refusal) => Err(refusal),
-    }
-}
-
-/// Joins the inputs and puts the table file of their join without these blocks, as [`forget`] does, and holds no block where all of them can be read at positions.
+/// Joins the inputs and puts the table file of their join without these blocks, as [`forget`] does: of each known block it keeps in which input its bytes are, and
+/// where, and reads them again when it writes them.
 fn forget_inputs<F: Files>(
     alloc: Global,
     request: &ForgetRequest<'_>,
@@ -129,21 +103,26 @@ fn forget_inputs<F: Files>(
     ensures why { IfErr result (IsNotWritten ⟦<F as Known>⟧.reach files.old request.now.inputs request.now.force request.now.out.now) }
 {
     let paths = request.inputs.paths.as_slice();
-    // Where there is no input, nothing is read again.
-    if paths.is_empty() {
-        return forget_held(alloc, request, blocks, files);
-    }
-    match open_all_stored(alloc, paths, files) {
-        Ok(Some(stored)) => forget_stored(alloc, stored.as_slice(), request, blocks, files),
-        Ok(None) => forget_held(alloc, request, blocks, files),
+    let stored = match open_all_stored(alloc, paths, files) {
+        Ok(stored) => stored,
+        Err(refusal) => return Err(refusal),
+    };
+    let inputs = stored.as_slice();
+    let mut index = match index_of(alloc, inputs, paths, request.force) {
+        Ok(index) => index,
+        Err(refusal) => return Err(refusal),
+    };
+    forget_in(&mut index, request.conflicts, blocks);
+    match put_index(alloc, &index, inputs, Version::Two, request.out, files) {
+        Ok(()) => Ok(()),
         Err(refusal) => Err(refusal),
     }
 }
 
 /// Joins the inputs, and puts the table file of their join without the named blocks at the output's path, over an old one. An image that disagrees with the inputs
 /// before it so that it is of another disc is refused, but by force. The lists are read before an input is opened, and the output is begun only after all are
-/// joined. A file is put in its place whole or not at all; a device or a pipe is written in place. Where each input is a regular file by its own path, or an image and
-/// a mapfile that are, no block is held, as in [`merge`](crate::merge::merge): an input must not change meanwhile.
+/// joined. A file is put in its place whole or not at all; a device or a pipe is written in place. No block of a regular file is held, as in
+/// [`merge`](crate::merge::merge): an input must not change meanwhile.
 ///
 /// # Errors
 ///

@@ -1,6 +1,6 @@
 //! The command `image`: readings in, the image of their disc and its mapfile out.
 
-ghost use Rattle.std.specs.Prelude.{◌≡◌, ◌⊎◌, ◌<◌, ◌≤◌, ℕ, IfErr, OnOk, Some, None, length, string_bytes};
+ghost use Rattle.std.specs.Prelude.{◌≡◌, ◌⊎◌, ◌≤◌, ℕ, IfErr, OnOk, Some, None, string_bytes};
 ghost use Rattle.udfs_host_fs.specs.Disk.{Fails, SinkFails};
 ghost use Rattle.udfs_host_fs.specs.declared.files.Kind.{Kind};
 ghost use Rattle.udfs_index.specs.Copying.{AreAllTold};
@@ -8,27 +8,26 @@ ghost use Rattle.udfs_lattice.specs.Tables.{Table, state_of};
 ghost use Rattle.udfs_rescue.specs.Images.{image_bytes};
 ghost use Rattle.udfs_rescue.specs.Writing.{map_text, table_status};
 ghost use Rattle.udfs_salvage.specs.Reports.{IsNothingPast, IsOutOfRange, IsPastEnd};
-ghost use Rattle.udfs_common.specs.Blaming.{AreJudgedFor, stored_reason};
 ghost use Rattle.udfs_common.specs.Ends.{IsEnd};
 ghost use Rattle.udfs_common.specs.Guarding.{IsApart};
-ghost use Rattle.udfs_common.specs.Keeping.{Opens};
 ghost use Rattle.udfs_common.specs.Reach.{found_at};
 ghost use Rattle.udfs_common.specs.Refused.{IsRereadOf};
 ghost use Rattle.udfs_tables.specs.Imaging.{ImageRefused, ImageUnput, IsImageOf, IsImaged, IsNotTaken, IsPairFree, OfDisc, PairRefused};
 ghost use Rattle.udfs_tables.specs.Pairing.{AreKept, GoesPair, IsUnmade, PutsPair};
 
 use crate::imaged::{Imaged, Indexed};
-use crate::joining::{index_of, join_of, unwritten_of};
+use crate::joining::unwritten_of;
 use crate::pairing::{ImageOf, put_both};
 use std::alloc::Global;
 use udfs_common::ends::last_block;
 use udfs_common::files::Files;
+use udfs_common::indexing::index_of;
 use udfs_common::known::Known;
 use udfs_common::placing::{Places, find_places, look_at_both};
 use udfs_common::refusal::Refusal;
 use udfs_common::stored_inputs::open_all_stored;
 use udfs_host_fs::{Content, Stage};
-use udfs_index::{AnyStored, Stored};
+use udfs_index::Stored;
 use udfs_reading::{Sink, WriteFault};
 use udfs_rescue::write_image_map;
 use udfs_words::request::ImageRequest;
@@ -127,60 +126,8 @@ fn put_imaged<F: Files, T: Imaged>(
     }
 }
 
-/// Joins the inputs and puts the image of their join and its mapfile, as [`image`] does, and holds the blocks meanwhile.
-fn image_held<F: Files>(
-    alloc: Global,
-    last: u32,
-    request: &ImageRequest<'_>,
-    files: &mut F,
-) -> Result<(), Refusal>
-    requires { IsEnd (found_at ⟦<F as Known>⟧.reach files.now) request.now.last request.now.inputs.paths.items last }
-    ensures puts { PutsPair ⟦<F as Known>⟧.reach (IsImaged ⟦<F as Known>⟧.reach files.old request.now) request.now.image.now request.now.mapfile.now files.old files.new result }
-    ensures why { IfErr result (λ refusal. IsNotTaken ⟦<F as Known>⟧.reach files.old request.now refusal ⊎ OfDisc ⟦<F as Known>⟧.reach files.old request.now (λ n. ImageUnput ⟦<F as Known>⟧.reach files.old request.now n refusal)) }
-{
-    let table = match join_of(alloc, &request.inputs, request.force, files) {
-        Ok(table) => table,
-        Err(refusal) => return Err(refusal),
-    };
-    match put_imaged(alloc, &table, last, request, files) {
-        Ok(()) => Ok(()),
-        Err(refusal) => Err(refusal),
-    }
-}
-
-/// The same of inputs that are opened, and holds no block: of each known block it keeps in which input its bytes are, and where, and reads them again when it
-/// writes them.
-fn image_stored<F: Files>(
-    alloc: Global,
-    stored: &[AnyStored<F::Stored>],
-    last: u32,
-    request: &ImageRequest<'_>,
-    files: &mut F,
-) -> Result<(), Refusal>
-    requires ends { IsEnd (found_at ⟦<F as Known>⟧.reach files.now) request.now.last request.now.inputs.paths.items last }
-    requires each { length stored.now ≡ length request.now.inputs.paths.items }
-    requires opened { Opens (found_at ⟦<F as Known>⟧.reach files.now) ⟦<AnyStored<F::Stored> as Stored>⟧.content request.now.inputs.paths.items stored.now }
-    requires judged { AreJudgedFor (found_at ⟦<F as Known>⟧.reach files.now) stored_reason request.now.inputs.paths.items stored.now }
-    requires some { 0 < length request.now.inputs.paths.items }
-    ensures puts { PutsPair ⟦<F as Known>⟧.reach (IsImaged ⟦<F as Known>⟧.reach files.old request.now) request.now.image.now request.now.mapfile.now files.old files.new result }
-    ensures why { IfErr result (λ refusal. IsNotTaken ⟦<F as Known>⟧.reach files.old request.now refusal ⊎ OfDisc ⟦<F as Known>⟧.reach files.old request.now (λ n. ImageUnput ⟦<F as Known>⟧.reach files.old request.now n refusal)) }
-{
-    let paths = request.inputs.paths.as_slice();
-    let index = match index_of(alloc, stored, paths, request.force) {
-        Ok(index) => index,
-        Err(refusal) => return Err(refusal),
-    };
-    let indexed = Indexed {
-        index: &index,
-        stored,
-    };
-    match put_imaged(alloc, &indexed, last, request, files) {
-        Ok(()) => Ok(()),
-        Err(refusal) => Err(refusal),
-    }
-}
-
-/// The same of the inputs, as they can be read.
+/// Joins the inputs and puts the image of their join and its mapfile, as [`image`] does: of each known block it keeps in which input its bytes are, and where, and
+/// reads them again when it writes them.
 fn image_inputs<F: Files>(
     alloc: Global,
     last: u32,
@@ -192,13 +139,21 @@ fn image_inputs<F: Files>(
     ensures why { IfErr result (λ refusal. IsNotTaken ⟦<F as Known>⟧.reach files.old request.now refusal ⊎ OfDisc ⟦<F as Known>⟧.reach files.old request.now (λ n. ImageUnput ⟦<F as Known>⟧.reach files.old request.now n refusal)) }
 {
     let paths = request.inputs.paths.as_slice();
-    // Where there is no input, nothing is read again.
-    if paths.is_empty() {
-        return image_held(alloc, last, request, files);
-    }
-    match open_all_stored(alloc, paths, files) {
-        Ok(Some(stored)) => image_stored(alloc, stored.as_slice(), last, request, files),
-        Ok(None) => image_held(alloc, last, request, files),
+    let stored = match open_all_stored(alloc, paths, files) {
+        Ok(stored) => stored,
+        Err(refusal) => return Err(refusal),
+    };
+    let inputs = stored.as_slice();
+    let index = match index_of(alloc, inputs, paths, request.force) {
+        Ok(index) => index,
+        Err(refusal) => return Err(refusal),
+    };
+    let indexed = Indexed {
+        index: &index,
+        stored: inputs,
+    };
+    match put_imaged(alloc, &indexed, last, request, files) {
+        Ok(()) => Ok(()),
         Err(refusal) => Err(refusal),
     }
 }
@@ -227,8 +182,8 @@ fn check_both<F: Files>(alloc: Global, request: &ImageRequest<'_>, files: &F) ->
 
 /// Joins the inputs, and puts the image of the blocks from 0 to the last one and its mapfile at two paths. An old mapfile is removed first, and the new one is
 /// put last, so that there is never a mapfile beside an image that lacks a block which it marks `+`. All inputs are opened in order before one is read. An image
-/// that disagrees with the inputs before it so that it is of another disc is refused, but by force. Where each input is a regular file by its own path, or an image
-/// and a mapfile that are, no block is held, as in [`merge`](crate::merge::merge): an input must not change meanwhile.
+/// that disagrees with the inputs before it so that it is of another disc is refused, but by force. No block of a regular file is held, as
+/// in [`merge`](crate::merge::merge): an input must not change meanwhile.
 ///
 /// # Errors
 ///

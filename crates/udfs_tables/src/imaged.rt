@@ -1,6 +1,6 @@
-//! What an image is written of: the join of the inputs, held in memory or by where its bytes are.
+//! What an image is written of: the join of the inputs, by where its bytes are.
 
-ghost use Rattle.std.specs.Prelude.{◌≡◌, ◌⊎◌, ◌<◌, ◌≤◌, ⊤, ℕ, IfErr, MatchOption, OnOk, length};
+ghost use Rattle.std.specs.Prelude.{◌≡◌, ◌⊎◌, ◌≤◌, ℕ, IfErr, MatchOption, OnOk, length};
 ghost use Rattle.std.specs.Io.KnownBytes.{Appends};
 ghost use Rattle.udfs_host_fs.specs.Disk.{SinkFails};
 ghost use Rattle.udfs_index.specs.Copying.{AreAllTold};
@@ -16,9 +16,9 @@ ghost use Rattle.udfs_common.proofs.IndexingLemmas.{states_are};
 use udfs_common::index_taking::reread_of;
 use udfs_common::refusal::Refusal;
 use udfs_index::{AnyStored, CopyFault, Cursor, END, Index, Stored, Unread};
-use udfs_lattice::{BlockStore, BlockTable, Fact};
-use udfs_reading::{Sink, Taker, WriteFault};
-use udfs_rescue::{RunStatus, Statuses, write_image};
+use udfs_lattice::{BlockStore, Fact};
+use udfs_reading::{Sink, Taker};
+use udfs_rescue::{RunStatus, Statuses};
 
 /// What an image is written of.
 pub trait Imaged: Statuses {
@@ -57,50 +57,12 @@ pub trait Imaged: Statuses {
     ghost shown: { (one : Self) (t : Table) → shows one t → (n : ℕ) → Self.Statuses.statuses one n ≡ table_status t n };
 }
 
-impl Imaged for BlockTable {
-    ghost shows = { λ held t. held ≡ t };
-
-    ghost shown = { λ held t same n. ap (λ (u : Table). table_status u n) same };
-
-    ghost inputs = { λ _. 0 };
-
-    type Fault = WriteFault;
-
-    ghost blames = { λ _ _. ⊤ };
-
-    fn past_end(&self, last: u32) -> Option<u32> {
-        past_end(self, last)
-    }
-
-    fn write_image_to<W: Sink>(&self, last: u32, sink: &mut W) -> Result<(), WriteFault> {
-        write_image(self, last, sink)
-    }
-
-    fn refusal(&self, _fault: WriteFault) -> Refusal {
-        let _ = self;
-        Refusal::Output
-    }
-}
-
-/// The first block of a table after the block `last` of which something is known.
-fn past_end(table: &BlockTable, last: u32) -> Option<u32>
-    ensures { MatchOption result (IsNothingPast (state_of table.now) last) (λ n. IsPastEnd (state_of table.now) last n) }
-{
-    for (block, _) in table.entries() {
-        if block > last {
-            return Some(block);
-        }
-    }
-    None
-}
-
 /// The join of inputs that are read at positions, by where its bytes are.
 #[derive(Drop)]
 pub struct Indexed<'i, 'a, S: Stored> {
     pub index: &'i Index<'a, AnyStored<S>>,
-    /// The inputs that it is of. There is at least one.
+    /// The inputs that it is of.
     pub stored: &'a [AnyStored<S>],
-    ghost some: { 0 < length stored.now },
 }
 
 impl<'i, 'a, S: Stored> Statuses for Indexed<'i, 'a, S> {

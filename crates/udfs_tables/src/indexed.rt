@@ -1,6 +1,6 @@
 //! The table file of inputs that are read at positions.
 
-ghost use Rattle.std.specs.Prelude.{◌≡◌, ◌⊎◌, ◌<◌, IfErr, IsErrOf, Some, length};
+ghost use Rattle.std.specs.Prelude.{◌≡◌, ◌⊎◌, IfErr, IsErrOf, Some, length};
 ghost use Rattle.std.specs.Io.KnownBytes.{Appends};
 ghost use Rattle.udfs_index.specs.Copying.{AreAllTold, Copies, CountsSink};
 ghost use Rattle.udfs_lattice.specs.Tables.{Table, IsTable};
@@ -64,7 +64,7 @@ fn write_version<'a, S: Stored, W: Sink>(
 impl<'i, 'a, S: Stored> IndexedFile<'i, 'a, S> {
     /// What is said of bytes of an input that could not be read a second time when they were to be written, or of one that has changed.
     pub fn reread(&self, unread: Unread) -> Refusal
-        ensures { 0 < length self.now.stored.now → IsRereadOf (length self.now.stored.now) result }
+        ensures { IsRereadOf (length self.now.stored.now) result }
     {
         reread_of(self.stored, unread)
     }
@@ -83,7 +83,6 @@ pub fn put_index<'a, F: Files>(
     out: &str,
     files: &mut F,
 ) -> Result<(), Refusal>
-    requires { 0 < length stored.now }
     ensures puts { (t : Table) → (AreAllTold ⟦<AnyStored<F::Stored> as Stored>⟧.content → IsTable t) → ⟦<Index<'a, AnyStored<F::Stored>> as Taker<Cursor<'a, AnyStored<F::Stored>>>>⟧.took index.now t →
         Puts ⟦<F as Known>⟧.reach (λ bytes. bytes ≡ table_file version t) out.now files.old files.new result }
     ensures unkept { IsErrOf result Refusal.Unkept → F.tells → (t : Table) → (AreAllTold ⟦<AnyStored<F::Stored> as Stored>⟧.content → IsTable t) → ⟦<Index<'a, AnyStored<F::Stored>> as Taker<Cursor<'a, AnyStored<F::Stored>>>>⟧.took index.now t →

@@ -5,15 +5,12 @@
 mod beside;
 mod closing;
 pub mod forget;
-mod forget_stored;
 pub mod image;
 mod imaged;
 mod index_tally;
 mod indexed;
 mod joining;
 pub mod merge;
-mod merge_stored;
-mod merge_tally;
 mod outlook;
 mod pairing;
 mod said;

@@ -1,96 +1,50 @@
 //! The command `merge`: readings and table files in, one table file out.
 
-ghost use Rattle.std.specs.Prelude.{◌≡◌, IfOk, IfErr, IsErrOf, OnOk};
-ghost use Rattle.udfs_reading.specs.Writing.{Writes};
+ghost use Rattle.std.specs.Prelude.{◌≡◌, IfErr, IfOk, IsErrOf, OnOk};
+ghost use Rattle.udfs_common.specs.Indexing.{Indexed};
 ghost use Rattle.udfs_common.specs.Puts.{HasPut, Puts};
-ghost use Rattle.udfs_common.specs.Spelling.{table_file};
-ghost use Rattle.udfs_tables.specs.Joining.{IsNotJoined, OfInputs};
+ghost use Rattle.udfs_common.specs.Refused.{IsUnindexed};
 ghost use Rattle.udfs_tables.specs.Merging.{IsMerged, IsUnmerged, MergeFails};
 ghost use Rattle.udfs_tables.specs.Outputs.{IsOutFree};
 
 use crate::closing::remark_on_merge;
-use crate::merge_stored::merge_stored;
-use crate::merge_tally::MergeTally;
+use crate::index_tally::IndexTally;
+use crate::indexed::put_index;
 use crate::outlook::check_out;
 use std::alloc::{AllocError, Global};
 use udfs_common::files::Files;
-use udfs_common::inputs::take_all;
+use udfs_common::indexing::index_all;
 use udfs_common::known::Known;
-use udfs_common::putting::put_file;
 use udfs_common::refusal::Refusal;
 use udfs_common::stored_inputs::open_all_stored;
-use udfs_host_fs::Content;
-use udfs_lattice::BlockTable;
-use udfs_reading::{Sink, WriteFault, write_table, write_table_v1};
-use udfs_words::forms::Version;
-use udfs_words::request::{Inputs, MergeRequest};
+use udfs_index::{AnyStored, Cursor, Stored};
+use udfs_reading::Taker;
+use udfs_words::input_path::InputPath;
+use udfs_words::request::MergeRequest;
 
-/// A table to be written as a table file of this version.
-#[derive(Drop)]
-pub struct TableFile<'a> {
-    pub table: &'a BlockTable,
-    pub version: Version,
-}
-
-impl<'a> Content for TableFile<'a> {
-    ghost bytes = { λ file. table_file file.version file.table.now };
-
-    fn write_to<W: Sink>(&self, sink: &mut W) -> Result<(), WriteFault> {
-        write_version(self.table, self.version, sink)
-    }
-}
-
-/// The join of the inputs' tables, and what was counted of them.
-fn tallied<F: Files>(
+/// The join of the inputs' tables, as an index of where its bytes are, and what was counted of them. An image of another disc than the inputs before it is
+/// refused, unless `force` is set.
+fn indexed<'a, S: Stored>(
     alloc: Global,
-    inputs: &Inputs<'_>,
+    stored: &'a [AnyStored<S>],
+    paths: &[InputPath<'_>],
     force: bool,
-    files: &F,
-) -> Result<MergeTally, Refusal>
-    ensures joined { IfOk result (λ tally. OfInputs ⟦<F as Known>⟧.reach files.now inputs.now force (λ t. tally ≡ t)) }
-    ensures refused { IfErr result (IsNotJoined ⟦<F as Known>⟧.reach files.now inputs.now force) }
+) -> Result<IndexTally<'a, AnyStored<S>>, Refusal>
+    ensures table { IfOk result (λ tally. Indexed ⟦<AnyStored<S> as Stored>⟧.content paths.now stored.now force (⟦<IndexTally<'a, AnyStored<S>> as Taker<Cursor<'a, AnyStored<S>>>>⟧.took tally)) }
+    ensures why { IfErr result (IsUnindexed ⟦<AnyStored<S> as Stored>⟧.content paths.now stored.now force) }
 {
-    let paths = inputs.paths.as_slice();
-    let mut tally = match MergeTally::new(alloc, paths.len()) {
+    let mut tally = match IndexTally::new(alloc, stored.len()) {
         Ok(tally) => tally,
         Err(AllocError) => return Err(Refusal::Memory(AllocError)),
     };
-    match take_all(alloc, paths, force, &mut tally, files) {
+    match index_all(alloc, stored, paths, force, &mut tally) {
         Ok(()) => Ok(tally),
         Err(refusal) => Err(refusal),
     }
 }
 
-/// Joins the inputs and puts their table file, as [`merge`] does, and holds the blocks meanwhile.
-fn merge_held<F: Files>(
-    alloc: Global,
-    request: &MergeRequest<'_>,
-    files: &mut F,
-) -> Result<(), Refusal>
-    ensures puts { Puts ⟦<F as Known>⟧.reach (IsMerged ⟦<F as Known>⟧.reach files.old request.now) request.now.out.now files.old files.new result }
-    ensures unkept { IsErrOf result Refusal.Unkept → F.tells → HasPut ⟦<F as Known>⟧.reach (IsMerged ⟦<F as Known>⟧.reach files.old request.now) request.now.out.now files.old files.new }
-    ensures why { IfErr result (IsUnmerged ⟦<F as Known>⟧.reach files.old request.now) }
-{
-    let mut tally = match tallied(alloc, &request.inputs, request.force, files) {
-        Ok(tally) => tally,
-        Err(refusal) => return Err(refusal),
-    };
-    let content = TableFile {
-        table: tally.table(),
-        version: request.version,
-    };
-    match put_file(alloc, &content, request.out, files) {
-        Ok(()) => {
-            let totals = tally.close();
-            let inputs = request.inputs.paths.len();
-            remark_on_merge(alloc, inputs, totals, tally.disagreements(), files);
-            Ok(())
-        }
-        Err(refusal) => Err(refusal),
-    }
-}
-
-/// Joins the inputs and puts their table file, as [`merge`] does, and holds no block where all of them can be read at positions.
+/// Joins the inputs and puts their table file, as [`merge`] does: of each known block it keeps in which input its bytes are, and where, and reads them again when it
+/// writes them.
 fn merge_inputs<F: Files>(
     alloc: Global,
     request: &MergeRequest<'_>,
@@ -101,22 +55,37 @@ fn merge_inputs<F: Files>(
     ensures why { IfErr result (IsUnmerged ⟦<F as Known>⟧.reach files.old request.now) }
 {
     let paths = request.inputs.paths.as_slice();
-    // Where there is no input, nothing is read again.
-    if paths.is_empty() {
-        return merge_held(alloc, request, files);
-    }
-    match open_all_stored(alloc, paths, files) {
-        Ok(Some(stored)) => merge_stored(alloc, stored.as_slice(), request, files),
-        Ok(None) => merge_held(alloc, request, files),
+    let stored = match open_all_stored(alloc, paths, files) {
+        Ok(stored) => stored,
+        Err(refusal) => return Err(refusal),
+    };
+    let inputs = stored.as_slice();
+    let mut tally = match indexed(alloc, inputs, paths, request.force) {
+        Ok(tally) => tally,
+        Err(refusal) => return Err(refusal),
+    };
+    match put_index(
+        alloc,
+        tally.index(),
+        inputs,
+        request.version,
+        request.out,
+        files,
+    ) {
+        Ok(()) => {
+            let totals = tally.close();
+            remark_on_merge(alloc, paths.len(), totals, tally.disagreements(), files);
+            Ok(())
+        }
         Err(refusal) => Err(refusal),
     }
 }
 
 /// Joins the inputs, and puts their table file at the output's path, over an old one. An image that disagrees with the inputs before it so that it is of another
 /// disc is refused, but by force. All inputs are opened in order before one is read, and the output is begun only after all are joined. A file is put in its place
-/// whole or not at all, and the output may be one of the inputs; a device or a pipe is written in place. Where each input is a regular file by its own path, or an
-/// image and a mapfile that are, no block is held: of each known block is kept in which input its bytes are, and where, and they are read again when they are
-/// written. An input must not change meanwhile: where its length or its time of change has, the merge fails before a file is in the output's place.
+/// whole or not at all, and the output may be one of the inputs; a device or a pipe is written in place. Of each known block is kept in which input its bytes
+/// are, and where, and they are read again when they are written; an input that is a pipe, or a device and no image, is held in memory. An input must not change
+/// meanwhile: where its length or its time of change has, the merge fails before a file is in the output's place.
 ///
 /// # Errors
 ///
@@ -146,19 +115,5 @@ pub fn merge<F: Files>(
     match merge_inputs(alloc, request, files) {
         Ok(()) => Ok(()),
         Err(refusal) => Err(refusal),
-    }
-}
-
-/// Writes the table file of this version.
-fn write_version<W: Sink>(
-    table: &BlockTable,
-    version: Version,
-    output: &mut W,
-) -> Result<(), WriteFault>
-    ensures { Writes (W.stream output.old) (W.stream output.new) (table_file version table.now) result }
-{
-    match version {
-        Version::One => write_table_v1(table, output),
-        Version::Two => write_table(table, output),
     }
 }

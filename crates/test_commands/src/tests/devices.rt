@@ -25,6 +25,64 @@ some 2068 4121
 inputs-fail «n»
 $ merge --v1 --out t.tab two.rd
 refused udfsalvage: input 1: fault 8 Io at record 2\n
+
+= a_device_that_fails_is_told_at_the_same_record
+file dev/two.rd reading 300:61 301:62
+file t.tab text UDFTABL«4993*w»
+then has t.tab text UDFTABL«4993*w»
+
+some 0 16
+inputs-fail «n»
+$ merge --v1 --out t.tab dev/two.rd
+refused udfsalvage: input 1: fault 8 Io at record 0\n
+
+some 16 2068
+inputs-fail «n»
+$ merge --v1 --out t.tab dev/two.rd
+refused udfsalvage: input 1: fault 8 Io at record 1\n
+
+some 2068 4121
+inputs-fail «n»
+$ merge --v1 --out t.tab dev/two.rd
+refused udfsalvage: input 1: fault 8 Io at record 2\n
+
+= a_device_is_read_once
+file dev/two.rd reading 300:61 301:62
+
+inputs-fail 4121
+$ merge --v1 --out t.tab dev/two.rd
+silent
+has t.tab table 300:61 301:62
+
+inputs-fail 4121
+$ image --last 513 --out d.img --mapfile d.map dev/two.rd
+silent
+has d.img text «614400*\0»«2048*a»«2048*b»«434176*\0»
+
+= a_fault_that_came_before_the_device_failed_is_told
+# Of a second device nothing is said.
+file dev/b.rd text UDFTABLX
+then absent t.tab
+
+file dev/x text «100*w»
+inputs-fail 16
+$ merge --out t.tab dev/x dev/b.rd
+refused udfsalvage: input 1: fault 1 Magic at record 0\n
+
+file dev/x reading 4194304:00 301:62
+inputs-fail 2100
+$ merge --out t.tab dev/x dev/b.rd
+refused udfsalvage: input 1: fault 3 BlockNumber at record 1\n
+
+file dev/x longer 300:61 301:62
+inputs-fail 4121
+$ merge --out t.tab dev/x dev/b.rd
+refused udfsalvage: input 1: fault 5 Trailing at record 2\n
+
+file dev/x reading 300:61
+inputs-fail 2067
+$ merge --out t.tab dev/x dev/b.rd
+refused udfsalvage: input 1: fault 8 Io at record 1\n
 ";
 
 #[test]

@@ -1,13 +1,14 @@
 //! An image with its map is read as the reading of its known blocks.
 
-ghost use Rattle.std.specs.Prelude.{ℕ, List, Option, None};
+ghost use Rattle.std.specs.Prelude.{None, ⊤};
 
 use crate::tests::assert_same;
 use std::alloc::Global;
 use std::test::Fail;
+use udfs_index::{Cursor, Stored, StoredPair, open_stored_pair};
 use udfs_lattice::Fact;
 use udfs_reading::{DeviceFault, Reader, ReadingError, ReadingFault, Source, read_input};
-use udfs_rescue::{Image, KnownBlocks, Mapfile, Pair};
+use udfs_rescue::{KnownBlocks, Mapfile, PairFault};
 
 /// An image in memory, which gives few bytes at once, and can not be read from a position on.
 #[derive(Drop)]
@@ -15,21 +16,19 @@ struct Narrow<'a> {
     all: &'a [u8],
     most: usize,
     bad: u64,
-    faults: u64,
 }
 
-impl<'a> Image for Narrow<'a> {
-    ghost bytes = { λ _. None };
+impl<'a> Stored for Narrow<'a> {
+    ghost content = { λ _. None };
 
-    ghost faults = { λ n. n.faults };
+    ghost fails = { λ _. ⊤ };
 
-    fn size(&mut self) -> Result<u64, DeviceFault> {
+    fn size(&self) -> Result<u64, DeviceFault> {
         Ok(self.all.len() as u64)
     }
 
-    fn read_at(&mut self, at: u64, buf: &mut [u8]) -> Result<usize, DeviceFault> {
+    fn read_at(&self, at: u64, buf: &mut [u8]) -> Result<usize, DeviceFault> {
         if at >= self.bad {
-            self.faults = self.faults.wrapping_add(1);
             return Err(DeviceFault);
         }
         let size = self.all.len() as u64;
@@ -58,21 +57,16 @@ fn known_of(alloc: Global, map: &[u8]) -> Result<KnownBlocks, Fail> {
     Ok(known)
 }
 
+/// The pair of an image and this map, where it has one; `None` where there is no memory.
 fn pair_of<'a>(
     alloc: Global,
     all: &'a [u8],
     most: usize,
     bad: u64,
     map: &[u8],
-) -> Result<Pair<Narrow<'a>>, Fail> {
-    let image = Narrow {
-        all,
-        most,
-        bad,
-        faults: 0,
-    };
-    let pair = Pair::new(alloc, image, known_of(alloc, map)?)?;
-    Ok(pair)
+) -> Result<StoredPair<Narrow<'a>>, PairFault> {
+    let image = Narrow { all, most, bad };
+    open_stored_pair(alloc, image, &mut Reader::new(map))
 }
 
 #[test]
@@ -82,8 +76,11 @@ fn a_pair_is_the_reading_of_its_known_blocks(rt: HostRuntime) -> Result<(), Fail
     // Blocks 1, 2 and 150 to 399 are known: a piece has 128 blocks.
     let map = b"0 +\n0 2048 -\n2048 4096 +\n6144 301056 ?\n307200 512000 +\n";
     for most in [1000, 1_000_000] {
-        let mut pair = pair_of(alloc, all.as_slice(), most, u64::MAX, map)?;
-        let table = read_input(alloc, &mut pair)?;
+        let Ok(pair) = pair_of(alloc, all.as_slice(), most, u64::MAX, map) else {
+            assert!(rt; false);
+            return Ok(());
+        };
+        let table = read_input(alloc, &mut Cursor::new(&pair))?;
         assert_same(&rt, table.known(), 252);
         static CASES: [u32; 7] = [1, 2, 150, 277, 278, 279, 399];
         for &n in &CASES {
@@ -104,13 +101,17 @@ fn a_pair_is_the_reading_of_its_known_blocks(rt: HostRuntime) -> Result<(), Fail
 fn the_bytes_of_a_pair(rt: HostRuntime) -> Result<(), Fail> {
     let alloc = rt.alloc();
     let all = image_of(alloc, 3)?;
-    let mut pair = pair_of(
+    let Ok(pair) = pair_of(
         alloc,
         all.as_slice(),
         5000,
         u64::MAX,
         b"0 +\n0 2048 -\n2048 4096 +\n",
-    )?;
+    ) else {
+        assert!(rt; false);
+        return Ok(());
+    };
+    let mut pair = Cursor::new(&pair);
     let mut due = Vec::new(alloc);
     due.extend_from_slice(b"UDFREAD1\x00\x08\x00\x00\x02\x00\x00\x00\x01\x00\x00\x00")?;
     due.extend_from_slice(&[1; 2048])?;
@@ -134,8 +135,11 @@ fn the_bytes_of_a_pair(rt: HostRuntime) -> Result<(), Fail> {
 #[test]
 fn a_map_that_rescued_nothing_is_an_empty_reading(rt: HostRuntime) -> Result<(), Fail> {
     let alloc = rt.alloc();
-    let mut pair = pair_of(alloc, &[], 1, u64::MAX, b"0 + 1\n0 2048 ?\n")?;
-    let table = read_input(alloc, &mut pair)?;
+    let Ok(pair) = pair_of(alloc, &[], 1, u64::MAX, b"0 + 1\n0 2048 ?\n") else {
+        assert!(rt; false);
+        return Ok(());
+    };
+    let table = read_input(alloc, &mut Cursor::new(&pair))?;
     assert_same(&rt, table.known(), 0);
     Ok(())
 }
@@ -158,19 +162,10 @@ fn an_image_that_ends_early(rt: HostRuntime) -> Result<(), Fail> {
     for &(size, block) in &SIZES {
         assert_same(&rt, known.first_outside(size), block);
     }
-    // Where that is not asked before, it is a fault of the device at the block.
+    // Such an image has no reading.
     let all = image_of(alloc, 3)?;
-    let mut pair = pair_of(alloc, all.as_slice(), 5000, u64::MAX, map)?;
-    let refused = read_input(alloc, &mut pair);
-    assert!(rt;
-        matches!(
-            refused,
-            Err(ReadingError {
-                fault: ReadingFault::Io,
-                number: 2
-            })
-        )
-    );
+    let refused = pair_of(alloc, all.as_slice(), 5000, u64::MAX, map);
+    assert!(rt; matches!(refused, Err(PairFault::EndsBefore(3))));
     Ok(())
 }
 
@@ -178,14 +173,17 @@ fn an_image_that_ends_early(rt: HostRuntime) -> Result<(), Fail> {
 fn a_device_fails(rt: HostRuntime) -> Result<(), Fail> {
     let alloc = rt.alloc();
     let all = image_of(alloc, 3)?;
-    let mut pair = pair_of(
+    let Ok(pair) = pair_of(
         alloc,
         all.as_slice(),
         2048,
         2048,
         b"0 +\n0 2048 +\n2048 2048 ?\n4096 2048 +\n",
-    )?;
-    let refused = read_input(alloc, &mut pair);
+    ) else {
+        assert!(rt; false);
+        return Ok(());
+    };
+    let refused = read_input(alloc, &mut Cursor::new(&pair));
     assert!(rt;
         matches!(
             refused,

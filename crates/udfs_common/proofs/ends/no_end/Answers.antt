@@ -1,5 +1,5 @@
 use Rattle.std.proofs.Common.{inr}
 use Rattle.udfs_common.proofs.ends.no_end.Goals as goal
 
-pub returns-in-Err-clause-blamed : goal.returns-in-Err-clause-blamed
-returns-in-Err-clause-blamed g c = inr c.in-Err.ensures.blamed
+pub returns-in-Some-clause-blamed : goal.returns-in-Some-clause-blamed
+returns-in-Some-clause-blamed g c = inr c.in-Some.ensures.blamed

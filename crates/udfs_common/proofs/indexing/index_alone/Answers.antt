@@ -16,4 +16,4 @@ returns-in-Err-clause-why g c ts are =
     let a = at_place c.args.stored.now c.args.place c.requires in
     let same = c.index-stored-place.is ∙ get_or_from_slice_get c.args.stored.now c.args.place a.0 c.index-stored-place.result a.1 in
     stored_blamed content c.args.stored.now _ _
-    (fails_at content c.args.stored.now c.args.place a.0 c.index-stored-place.result ts c.in-Err.error a.1 same are c.in-Err.ensures.fault c.in-Err.ensures.faulty) c.refusal_of.ensures.why
+    (fails_at content c.args.stored.now c.args.place a.0 c.index-stored-place.result ts c.in-Err.error a.1 same are c.in-Err.ensures.fault c.in-Err.ensures.faulty c.in-Err.ensures.cut) c.refusal_of.ensures.why

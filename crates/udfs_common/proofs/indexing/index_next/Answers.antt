@@ -46,6 +46,6 @@ returns-in-Err-judge-clause-why g c i =
       ⊎_elim (λ memory. inl (inl memory))
           (λ rest. ⊎_elim (λ unread. inl (inr (inr unread))) (λ judged. inr (other_judged content c.args.paths.now c.args.stored.now c.args.place a.0 i.tables takes.own _ a.1 compared.1 i.are takes.has judged.0 judged.1)) rest)
           c.in-Err-judge.ensures.why,
-      judged_early _ _ _ c.in-Err-judge.ensures.why,
+      judged_early _ _ _ _ c.in-Err-judge.ensures.why,
       λ forced. absurd (true≢false (sym forced ∙ compared.0)),
     )

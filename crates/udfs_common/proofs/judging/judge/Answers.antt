@@ -9,7 +9,7 @@ returns-then-is_other_disc-clause-why g c =
     let content = g.S.Stored.content in
     let found = c.in-Ok-compare_stores.ensures in
     inr (inr (
-      (_, _, _, refl),
+      (_, _, sym c.is_other_disc.ensures ∙ c.if-is_other_disc.true, refl),
       λ told ts own tell tell_own.
           let one : c.args.place + 1 - c.args.place ≡ 1 = omega arith in
           let t = c.in-Ok.ensures ts tell in

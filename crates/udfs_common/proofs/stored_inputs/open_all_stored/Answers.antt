@@ -1,17 +1,10 @@
-use Rattle.std.proofs.Common.{◌≡◌, ◌++◌, ◌∷◌, [], length, rules}
-use Rattle.udfs_common.proofs.BlamingLemmas.{stored_shut_at}
-use Rattle.udfs_common.proofs.KeepingLemmas.{at_place, judged_for_more, opens_more}
+use Rattle.udfs_index.specs.AnyStored.{stored_in}
+use Rattle.udfs_common.proofs.KeepingLemmas.{fetched_many, judged_fetched, opens_fetched}
+use Rattle.udfs_common.specs.Blaming.{stored_reason}
 use Rattle.udfs_common.proofs.stored_inputs.open_all_stored.Goals as goal
 
-pub loop-index-preserved : goal.loop-index-preserved
-loop-index-preserved g c =
-    let grown : c.push.new.self.items ≡ c.loop-index.all.items ++ c.in-Ok-Some.stored ∷ [] = search rules in
-    let many : length c.loop-index.all.items ≡ c.loop-index.index = search rules in
-    record {
-      each = search rules;
-      opened = rw (grown) (opens_more _ _ c.args.paths.now c.loop-index.all.items _ c.in-Ok-Some.stored c.loop-index.invariant.opened (rw c.in-Ok-Some.field-0-is at c.in-Ok-Some.ensures.opened) (rw (many) (at_place c.args.paths.now c.loop-index.index _ (search rules))));
-      judged = rw (grown) (judged_for_more _ _ c.args.paths.now c.loop-index.all.items _ c.in-Ok-Some.stored c.loop-index.invariant.judged (rw c.in-Ok-Some.field-0-is at c.in-Ok-Some.ensures.judged) (rw (many) (at_place c.args.paths.now c.loop-index.index _ (search rules))));
-    }
+pub returns-in-Ok-fetch_all-clause-opened : goal.returns-in-Ok-fetch_all-clause-opened
+returns-in-Ok-fetch_all-clause-opened g c = opens_fetched (stored_in g.F.Stored.Stored.content) stored_reason _ c.args.paths.now _ _ c.in-Ok-fetch_all.ensures c.in-Ok.ensures.opened
 
-pub returns-in-Err-clause-blamed : goal.returns-in-Err-clause-blamed
-returns-in-Err-clause-blamed g c = stored_shut_at _ c.args.paths.now c.loop-index.index _ c.in-Err.refusal (at_place c.args.paths.now c.loop-index.index _ (search rules)) c.in-Err.ensures.why
+pub returns-in-Ok-fetch_all-clause-judged : goal.returns-in-Ok-fetch_all-clause-judged
+returns-in-Ok-fetch_all-clause-judged g c = judged_fetched (stored_in g.F.Stored.Stored.content) stored_reason _ c.args.paths.now _ _ c.in-Ok-fetch_all.ensures c.in-Ok.ensures.judged

@@ -1,4 +1,4 @@
-use Rattle.std.proofs.Common.{◌<◌, inl, inr, length, refl, subst, sym}
+use Rattle.std.proofs.Common.{inl, inr, length, refl}
 use Rattle.udfs_common.proofs.NamingLemmas.{reread_names_none}
 use Rattle.udfs_common.proofs.StoredLemmas.{any_told, of_unread}
 use Rattle.udfs_lattice.specs.Tables.{state_of}
@@ -41,15 +41,14 @@ pub returns-clause-why : goal.returns-clause-why
 returns-clause-why g c =
     let r = c.args.request.now in
     let is = c.requires in
-    let reread = rw c.as_slice-inputs.ensures.value at (c.reread_of.ensures (rw c.as_slice-inputs.ensures.value (subst (λ n. 0 < n) (sym is.each) is.some))) in
+    let reread = rw c.as_slice-inputs.ensures.value at c.reread_of.ensures in
     inr (inr (
-      (of_unread _ _ _ r.volume.inputs.paths.items (length c.args.disc.now.stored.items) _ is.each reread, λ forced. reread_names_none _ _ reread),
+      (of_unread _ _ r.volume.inputs.paths.items (length c.args.disc.now.stored.items) _ is.each reread, λ forced. reread_names_none _ _ reread),
       of_taken _ _ _ (λ last table. MakingCut _ _ r _ _ _ _ _ last table) (any_told g.F.Stored.Stored.content) c.in-Ok.ensures.index
           (λ told table fits took. cut_at _ _ _ c.in-Err-Unread.field-0-is (c.in-Err-Unread.ensures.why told table (c.new-blocks.ensures table told fits took))),
     ))
 
 pub returns-clause-no_node : goal.returns-clause-no_node
 returns-clause-no_node g c i named =
-    let is = c.requires in
-    let reread = rw c.as_slice-inputs.ensures.value at (c.reread_of.ensures (rw c.as_slice-inputs.ensures.value (subst (λ n. 0 < n) (sym is.each) is.some))) in
+    let reread = rw c.as_slice-inputs.ensures.value at c.reread_of.ensures in
     absurd (reread_no_node _ _ i named reread)

@@ -1,6 +1,6 @@
 use Rattle.std.proofs.Common.{List, ℕ, Option, ◌∙◌, refl, subst}
 use Rattle.udfs_reading.specs.Places.{StandsAt}
-use Rattle.udfs_index.proofs.PlacedLemmas.{input_after, is_begun, untaken_fault, untaken_faulty}
+use Rattle.udfs_index.proofs.PlacedLemmas.{input_after, is_begun, untaken_cut, untaken_fault, untaken_faulty}
 use Rattle.udfs_index.proofs.taking.take_by_heads.Goals as goal
 
 pub take_table-requires : goal.take_table-requires
@@ -17,3 +17,6 @@ returns-in-Err-clause-fault g c = untaken_fault (g.S.Stored.content c.args.store
 
 pub returns-in-Err-clause-faulty : goal.returns-in-Err-clause-faulty
 returns-in-Err-clause-faulty g c = untaken_faulty (g.S.Stored.content c.args.stored.now) c.in-Err.number c.requires.0 c.requires.1
+
+pub returns-in-Err-clause-cut : goal.returns-in-Err-clause-cut
+returns-in-Err-clause-cut g c = untaken_cut (g.S.Stored.content c.args.stored.now) c.in-Err.number

@@ -27,7 +27,7 @@ pub returns-in-Ok-Err-Input-clause-puts : goal.returns-in-Ok-Err-Input-clause-pu
 returns-in-Ok-Err-Input-clause-puts g c t is took =
     let bytes = table_file c.args.version t in
     let told : g.F.Files.tells → AreAllTold (stored_in g.F.Stored.Stored.content) = λ tells. any_told g.F.Stored.Stored.content (g.met.F.Files.stored_told tells) in
-    let reread = c.reread.ensures c.requires in
+    let reread = c.reread.ensures in
     job_broken _ _ _ _ _ _ bytes refl (inr (reread.0 + 1, reread.1, reread.3)) (rw c.in-Ok-Err-Input.field-0-is at c.in-Ok-Err-Input.ensures.given_up)
     (c.in-Ok-Err-Input.ensures.any_moment bytes (λ tells other wrote. wrote t (is (told tells)) (told tells) took)) c.in-Ok-Err-Input.ensures.elsewhere
 
@@ -45,13 +45,13 @@ returns-in-Ok-Err-Sink-clause-why g c =
     inr (inr (inl refl, inr left.failed))
 
 pub returns-in-Ok-Err-Input-clause-why : goal.returns-in-Ok-Err-Input-clause-why
-returns-in-Ok-Err-Input-clause-why g c = inl (c.reread.ensures c.requires)
+returns-in-Ok-Err-Input-clause-why g c = inl c.reread.ensures
 
 pub returns-in-Err-clause-why : goal.returns-in-Err-clause-why
 returns-in-Err-clause-why g c = inr c.in-Err.ensures.why
 
 pub returns-in-Ok-Err-Input-clause-unkept : goal.returns-in-Ok-Err-Input-clause-unkept
-returns-in-Ok-Err-Input-clause-unkept g c is_unkept tells t is took = absurd (reread_early _ _ (c.reread.ensures c.requires) (err_is is_unkept refl))
+returns-in-Ok-Err-Input-clause-unkept g c is_unkept tells t is took = absurd (reread_early _ _ c.reread.ensures (err_is is_unkept refl))
 
 pub returns-in-Err-clause-unkept : goal.returns-in-Err-clause-unkept
 returns-in-Err-clause-unkept g c is_unkept tells t is took =
