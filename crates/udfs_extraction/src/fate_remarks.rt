@@ -2,19 +2,24 @@
 
 use crate::nodes::Fate;
 use std::alloc::{AllocError, Global};
+use std::collections::BTreeMap;
 use std::fmt::Write;
 use udfs_common::files::Files;
 use udfs_common::shown::Said;
 use udfs_file::{Kind, NodeFault};
 use udfs_lattice::{BlockStore, GaveUp};
 use udfs_osta::OutOfMemory;
-use udfs_overview::{lost_of, push_shown_path, push_size};
+use udfs_overview::{push_shown_path, push_size};
 use udfs_salvage::{Listing, Volume};
 use udfs_volume::Profile;
-use udfs_walk::{Node, Standing, full_standing_by};
+use udfs_space::StoreView;
+use udfs_walk::{Losses, Node, Standing};
 
-/// How many holes of torn files are gone through for remarks: more than a disc has whose files share no block. Behind them a torn file is only called so.
-const MOST_HOLES: usize = 2_000_000;
+/// How many holes of torn files are told of: more than a disc has whose files share no block. Behind them a torn file is only called so.
+const MOST_HOLES: u64 = 2_000_000;
+
+/// Of how many torn bodies is kept what is missing.
+const MOST_BODIES: usize = 65_536;
 
 /// What a person is told that a file or a folder is.
 #[derive(Clone, Copy, PartialEq, Eq)]
@@ -39,8 +44,16 @@ enum Sort {
     Other,
 }
 
-/// How many there are of each sort.
+/// What is missing of a torn body: how many bytes, in how many places, and where the first of these begins, if there is one.
 #[derive(Clone, Copy)]
+struct Missing {
+    bytes: u64,
+    places: u64,
+    first: Option<u64>,
+}
+
+/// How many there are of each sort.
+#[derive(Drop)]
 pub struct Totals {
     written: usize,
     filled: usize,
@@ -51,13 +64,15 @@ pub struct Totals {
     loops: usize,
     faults: usize,
     others: usize,
-    /// How many holes were gone through.
-    holes: usize,
+    /// How many holes were told of.
+    holes: u64,
+    /// What is missing of torn bodies, by the numbers of their information control blocks.
+    missing: BTreeMap<u64, Missing>,
 }
 
 impl Totals {
     /// None of any sort.
-    pub fn new() -> Totals {
+    pub fn new(alloc: Global) -> Totals {
         Totals {
             written: 0,
             filled: 0,
@@ -69,6 +84,7 @@ impl Totals {
             faults: 0,
             others: 0,
             holes: 0,
+            missing: BTreeMap::new(alloc),
         }
     }
 
@@ -115,7 +131,35 @@ fn sort_of(node: &Node, fate: Fate) -> Option<Sort> {
     }
 }
 
-/// Appends how much of a torn file is missing, and where, unless too many holes were gone through for that.
+/// What is missing of a torn node, found once for all names of one body.
+fn missing_of<B: BlockStore>(
+    alloc: Global,
+    view: StoreView<'_, B>,
+    node: &Node,
+    totals: &mut Totals,
+) -> Result<Missing, GaveUp> {
+    let number = node.icb.address().number();
+    if let Some(missing) = totals.missing.get(&number) {
+        return Ok(*missing);
+    }
+    let mut losses = Losses::new(alloc, view, 1);
+    let loss = losses.loss(alloc, node.icb, &node.standing)?;
+    let first = match loss.first.first() {
+        Some((offset, _)) => Some(*offset),
+        None => None,
+    };
+    let missing = Missing {
+        bytes: loss.lost,
+        places: loss.places,
+        first,
+    };
+    if totals.missing.len() < MOST_BODIES {
+        totals.missing.insert(number, missing)?;
+    }
+    Ok(missing)
+}
+
+/// Appends how much of a torn file is missing, and where, unless too many holes were told of for that.
 fn push_missing<B: BlockStore>(
     alloc: Global,
     text: &mut String,
@@ -131,23 +175,19 @@ fn push_missing<B: BlockStore>(
     if totals.holes >= MOST_HOLES {
         return Ok(());
     }
-    let view = opened.view_by(listing.table);
-    let full = match full_standing_by(alloc, view, node.icb, &node.standing) {
-        Ok(full) => full,
+    let missing = match missing_of(alloc, opened.view_by(listing.table), node, totals) {
+        Ok(missing) => missing,
         Err(GaveUp::OutOfMemory) => return Err(AllocError),
         Err(GaveUp::Unread) => return text.push_str(": an input could not be read again"),
     };
-    let Standing::Torn(torn) = &full else {
-        return Ok(());
-    };
-    totals.holes = totals.holes.saturating_add(torn.holes.len());
-    let Some((offset, _)) = torn.holes.first() else {
+    totals.holes = totals.holes.saturating_add(missing.places);
+    let Some(offset) = missing.first else {
         return Ok(());
     };
     text.push_str(": ")?;
-    push_size(lost_of(&full, node.kind).unwrap_or(0), text)?;
+    push_size(u128::from(missing.bytes), text)?;
     write!(text, " {what} at {offset}")?;
-    match torn.holes.len() {
+    match missing.places {
         0 | 1 => Ok(()),
         2 => text.push_str(" and one more place"),
         places => {

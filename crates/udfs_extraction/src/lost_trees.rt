@@ -72,7 +72,7 @@ fn put_first<B: BlockStore, F: Files, O: Sink>(
     let fate = name_file(path, done.fate, files);
     let node = node_at(listing, 0);
     let heard = tell(alloc, true, fate, word, &node.path, &target.own, out)?;
-    let mut totals = Totals::new();
+    let mut totals = Totals::new(alloc);
     remark_on_fate(alloc, listing, word, node, fate, &mut totals, files);
     set_written_time(alloc, word, node, fate, folder, place, times, files);
     Ok(First { fate, heard })

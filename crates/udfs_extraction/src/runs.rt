@@ -52,7 +52,7 @@ impl Told {
         Told {
             good: true,
             heard: true,
-            totals: Totals::new(),
+            totals: Totals::new(alloc),
             manifest: Vec::new(alloc),
             made: Vec::new(alloc),
         }

@@ -121,6 +121,22 @@ impl<'a, B: BlockStore> StoreKnowledge<'a, B> {
     }
 }
 
+/// What is known of the bytes of some stretches of a body, run by run, by any store of blocks. It takes no memory.
+pub fn knowledge_of<'a, B: BlockStore>(
+    view: StoreView<'a, B>,
+    stretches: &'a [Stretch],
+) -> StoreKnowledge<'a, B>
+    ensures { result ≡ cells_of (view_by B.states view.entry) stretches.now }
+{
+    StoreKnowledge {
+        cells: StoreCells {
+            view,
+            stretches,
+            passed: 0,
+        },
+    }
+}
+
 impl Body {
     ghost use Rattle.udfs_space.specs.Views.{view_by};
 
@@ -131,12 +147,6 @@ impl Body {
     ) -> StoreKnowledge<'a, B>
         ensures { result ≡ cells_of (view_by B.states view.entry) self.now }
     {
-        StoreKnowledge {
-            cells: StoreCells {
-                view,
-                stretches: self.stretches(),
-                passed: 0,
-            },
-        }
+        knowledge_of(view, self.stretches())
     }
 }

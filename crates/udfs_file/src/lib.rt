@@ -35,7 +35,7 @@ pub use entries::Entry;
 pub use faults::{FrontError, Kind, NodeFault, WalkError};
 pub use file_sets::file_set;
 pub use found_names::FoundNames;
-pub use knowledge::{Knowledge, StoreKnowledge};
+pub use knowledge::{Knowledge, StoreKnowledge, knowledge_of};
 pub use marks::Marks;
 pub use pieces::Pieces;
 pub use portions::{Portion, Portions, Unread};

@@ -3,7 +3,6 @@
 
 ghost use Rattle.std.specs.Prelude.{◌≡◌, ◌++◌, OnOk, IfOk, IsErrOf};
 ghost use Rattle.std.specs.String.{string_bytes};
-ghost use Rattle.udfs_space.specs.Views.{view_by};
 ghost use Rattle.udfs_lost.specs.FoundNames.{full_found};
 ghost use Rattle.udfs_overview.specs.FoundLists.{found_columns, found_line, found_mark, found_member, found_path};
 
@@ -15,9 +14,8 @@ use std::alloc::Global;
 use udfs_lattice::{BlockStore, GaveUp};
 use udfs_lost::FoundName;
 use udfs_osta::{Name, OutOfMemory};
-use udfs_space::StoreView;
 use udfs_tag::LbAddr;
-use udfs_walk::{Path, full_standing_by, tail_by};
+use udfs_walk::{Losses, Path, tail_by};
 
 /// What an entry is called where it is listed as lost, and that this name of it was found.
 fn push_found_columns(text: &mut String, two: bool, icb: LbAddr) -> Result<(), OutOfMemory>
@@ -68,25 +66,26 @@ pub(crate) fn push_found_line<B: BlockStore>(
     alloc: Global,
     text: &mut String,
     form: ListForm,
-    view: StoreView<'_, B>,
+    losses: &mut Losses<'_, B>,
     two: bool,
     word: &str,
     folder: &Path,
     found: &FoundName<'_>,
 ) -> Result<(), GaveUp>
-    ensures line { OnOk result (B.tells → string_bytes text.new ≡ string_bytes text.old ++ found_line form (view_by B.states view.entry) two word.now folder.now (full_found (view_by B.states view.entry) found.now)) }
+    ensures line { OnOk result (B.tells → string_bytes text.new ≡ string_bytes text.old ++ found_line form losses.old.view two word.now folder.now (full_found losses.old.view found.now)) }
+    ensures view { losses.new ≡ losses.old }
     ensures fails { IsErrOf result GaveUp.Unread → B.fails }
 {
     let lost = found.lost;
-    let full = full_standing_by(alloc, view, lost.icb(), &lost.standing)?;
-    if form.torn && is_whole(&full) {
+    let loss = losses.loss(alloc, lost.icb(), &lost.standing)?;
+    if form.torn && is_whole(&loss.standing) {
         return Ok(());
     }
-    let tail = tail_by(alloc, view, lost.icb())?;
+    let tail = tail_by(alloc, losses.view(), lost.icb())?;
     let path = found_path(alloc, word, folder, &found.name)?;
     let mark = found_mark(alloc, form, two, lost.address())?;
     let size = Some(lost.size);
     let stamp = Some(lost.stamp);
-    push_lost_line(text, form, tail, &full, lost.kind, size, stamp, path, &mark)?;
+    push_lost_line(text, form, tail, &loss, lost.kind, size, stamp, path, &mark)?;
     Ok(())
 }

@@ -1,8 +1,7 @@
 //! The list of names that are found behind holes of torn folders, behind that of what is lost.
 
-ghost use Rattle.std.specs.Prelude.{IsErrOf, flat_map, map};
+ghost use Rattle.std.specs.Prelude.{◌≡◌, IsErrOf, flat_map, map};
 ghost use Rattle.std.specs.String.{string_bytes};
-ghost use Rattle.udfs_space.specs.Views.{view_by};
 ghost use Rattle.udfs_walk.specs.Bare.{full_entry};
 ghost use Rattle.udfs_lost.specs.FoundNames.{full_found};
 ghost use Rattle.udfs_salvage.specs.StorePrinting.{PassesOnBy};
@@ -16,8 +15,7 @@ use udfs_lattice::BlockStore;
 use udfs_lost::{FoundName, LostTree, Unplaced, found_names_by, torn_folders, unplaced_by};
 use udfs_reading::Sink;
 use udfs_salvage::{PrintError, pass_on};
-use udfs_space::StoreView;
-use udfs_walk::{Node, Path, Unnamed};
+use udfs_walk::{Losses, Node, Path, Unnamed};
 
 /// The line of a name that is found in the folder at a path, if it is asked for.
 fn put_name<B: BlockStore, W: Sink>(
@@ -25,17 +23,18 @@ fn put_name<B: BlockStore, W: Sink>(
     text: &mut String,
     sink: &mut W,
     form: ListForm,
-    view: StoreView<'_, B>,
+    losses: &mut Losses<'_, B>,
     two: bool,
     word: &str,
     folder: &Path,
     found: &FoundName<'_>,
 ) -> Result<(), PrintError>
     ensures printed { B.tells → PassesOnBy (W.stream sink.old) (W.stream sink.new) (string_bytes text.old) (string_bytes text.new)
-        (found_line form (view_by B.states view.entry) two word.now folder.now (full_found (view_by B.states view.entry) found.now)) result }
+        (found_line form losses.old.view two word.now folder.now (full_found losses.old.view found.now)) result }
+    ensures view { losses.new ≡ losses.old }
     ensures fails { IsErrOf result PrintError.Unread → B.fails }
 {
-    push_found_line(alloc, text, form, view, two, word, folder, found)?;
+    push_found_line(alloc, text, form, losses, two, word, folder, found)?;
     pass_on(text, sink)?;
     Ok(())
 }
@@ -46,18 +45,19 @@ fn put_names<B: BlockStore, W: Sink>(
     text: &mut String,
     sink: &mut W,
     form: ListForm,
-    view: StoreView<'_, B>,
+    losses: &mut Losses<'_, B>,
     two: bool,
     word: &str,
     folder: &Path,
     names: &[FoundName<'_>],
 ) -> Result<(), PrintError>
     ensures printed { B.tells → PassesOnBy (W.stream sink.old) (W.stream sink.new) (string_bytes text.old) (string_bytes text.new)
-        (flat_map (found_line form (view_by B.states view.entry) two word.now folder.now) (map (full_found (view_by B.states view.entry)) names.now)) result }
+        (flat_map (found_line form losses.old.view two word.now folder.now) (map (full_found losses.old.view) names.now)) result }
+    ensures view { losses.new ≡ losses.old }
     ensures fails { IsErrOf result PrintError.Unread → B.fails }
 {
     for name in names {
-        put_name(alloc, text, sink, form, view, two, word, folder, name)?;
+        put_name(alloc, text, sink, form, losses, two, word, folder, name)?;
     }
     Ok(())
 }
@@ -68,23 +68,24 @@ fn put_folder<B: BlockStore, W: Sink>(
     text: &mut String,
     sink: &mut W,
     form: ListForm,
-    view: StoreView<'_, B>,
+    losses: &mut Losses<'_, B>,
     two: bool,
     word: &str,
     lost: &Unplaced<'_>,
     folder: &Node,
 ) -> Result<(), PrintError>
     ensures printed { B.tells → PassesOnBy (W.stream sink.old) (W.stream sink.new) (string_bytes text.old) (string_bytes text.new)
-        (folder_found form (view_by B.states view.entry) two (full_names (view_by B.states view.entry) lost.now) word.now folder.now) result }
+        (folder_found form losses.old.view two (full_names losses.old.view lost.now) word.now folder.now) result }
+    ensures view { losses.new ≡ losses.old }
     ensures fails { IsErrOf result PrintError.Unread → B.fails }
 {
-    let names = found_names_by(alloc, view, lost, folder)?;
+    let names = found_names_by(alloc, losses.view(), lost, folder)?;
     put_names(
         alloc,
         text,
         sink,
         form,
-        view,
+        losses,
         two,
         word,
         &folder.path,
@@ -98,18 +99,19 @@ fn put_folders<B: BlockStore, W: Sink>(
     text: &mut String,
     sink: &mut W,
     form: ListForm,
-    view: StoreView<'_, B>,
+    losses: &mut Losses<'_, B>,
     two: bool,
     word: &str,
     lost: &Unplaced<'_>,
     folders: &[&Node],
 ) -> Result<(), PrintError>
     ensures printed { B.tells → PassesOnBy (W.stream sink.old) (W.stream sink.new) (string_bytes text.old) (string_bytes text.new)
-        (flat_map (folder_found form (view_by B.states view.entry) two (full_names (view_by B.states view.entry) lost.now) word.now) (map (λ folder. folder.now) folders.now)) result }
+        (flat_map (folder_found form losses.old.view two (full_names losses.old.view lost.now) word.now) (map (λ folder. folder.now) folders.now)) result }
+    ensures view { losses.new ≡ losses.old }
     ensures fails { IsErrOf result PrintError.Unread → B.fails }
 {
     for folder in folders {
-        put_folder(alloc, text, sink, form, view, two, word, lost, folder)?;
+        put_folder(alloc, text, sink, form, losses, two, word, lost, folder)?;
     }
     Ok(())
 }
@@ -120,18 +122,19 @@ fn put_nodes<B: BlockStore, W: Sink>(
     text: &mut String,
     sink: &mut W,
     form: ListForm,
-    view: StoreView<'_, B>,
+    losses: &mut Losses<'_, B>,
     two: bool,
     word: &str,
     lost: &Unplaced<'_>,
     nodes: &[Node],
 ) -> Result<(), PrintError>
     ensures printed { B.tells → PassesOnBy (W.stream sink.old) (W.stream sink.new) (string_bytes text.old) (string_bytes text.new)
-        (folders_found form (view_by B.states view.entry) two (full_names (view_by B.states view.entry) lost.now) word.now nodes.now) result }
+        (folders_found form losses.old.view two (full_names losses.old.view lost.now) word.now nodes.now) result }
+    ensures view { losses.new ≡ losses.old }
     ensures fails { IsErrOf result PrintError.Unread → B.fails }
 {
     let folders = torn_folders(alloc, nodes)?;
-    put_folders(alloc, text, sink, form, view, two, word, lost, &folders)
+    put_folders(alloc, text, sink, form, losses, two, word, lost, &folders)
 }
 
 /// The same of a lost tree.
@@ -140,18 +143,19 @@ fn put_tree<B: BlockStore, W: Sink>(
     text: &mut String,
     sink: &mut W,
     form: ListForm,
-    view: StoreView<'_, B>,
+    losses: &mut Losses<'_, B>,
     two: bool,
     lost: &Unplaced<'_>,
     tree: &LostTree,
 ) -> Result<(), PrintError>
     ensures printed { B.tells → PassesOnBy (W.stream sink.old) (W.stream sink.new) (string_bytes text.old) (string_bytes text.new)
-        (tree_found form (view_by B.states view.entry) two (full_names (view_by B.states view.entry) lost.now) tree.now) result }
+        (tree_found form losses.old.view two (full_names losses.old.view lost.now) tree.now) result }
+    ensures view { losses.new ≡ losses.old }
     ensures fails { IsErrOf result PrintError.Unread → B.fails }
 {
     let mut word = String::new(alloc);
     push_lost_word(&mut word, two, tree.folder)?;
-    put_nodes(alloc, text, sink, form, view, two, &word, lost, &tree.nodes)
+    put_nodes(alloc, text, sink, form, losses, two, &word, lost, &tree.nodes)
 }
 
 /// The same of lost trees.
@@ -160,17 +164,18 @@ fn put_trees<B: BlockStore, W: Sink>(
     text: &mut String,
     sink: &mut W,
     form: ListForm,
-    view: StoreView<'_, B>,
+    losses: &mut Losses<'_, B>,
     two: bool,
     lost: &Unplaced<'_>,
     trees: &[LostTree],
 ) -> Result<(), PrintError>
     ensures printed { B.tells → PassesOnBy (W.stream sink.old) (W.stream sink.new) (string_bytes text.old) (string_bytes text.new)
-        (flat_map (tree_found form (view_by B.states view.entry) two (full_names (view_by B.states view.entry) lost.now)) trees.now) result }
+        (flat_map (tree_found form losses.old.view two (full_names losses.old.view lost.now)) trees.now) result }
+    ensures view { losses.new ≡ losses.old }
     ensures fails { IsErrOf result PrintError.Unread → B.fails }
 {
     for tree in trees {
-        put_tree(alloc, text, sink, form, view, two, lost, tree)?;
+        put_tree(alloc, text, sink, form, losses, two, lost, tree)?;
     }
     Ok(())
 }
@@ -181,18 +186,19 @@ fn put_all<B: BlockStore, W: Sink>(
     text: &mut String,
     sink: &mut W,
     form: ListForm,
-    view: StoreView<'_, B>,
+    losses: &mut Losses<'_, B>,
     two: bool,
     lost: &Unplaced<'_>,
     nodes: &[Node],
     trees: &[LostTree],
 ) -> Result<(), PrintError>
     ensures printed { B.tells → PassesOnBy (W.stream sink.old) (W.stream sink.new) (string_bytes text.old) (string_bytes text.new)
-        (all_found form (view_by B.states view.entry) two (full_names (view_by B.states view.entry) lost.now) nodes.now trees.now) result }
+        (all_found form losses.old.view two (full_names losses.old.view lost.now) nodes.now trees.now) result }
+    ensures view { losses.new ≡ losses.old }
     ensures fails { IsErrOf result PrintError.Unread → B.fails }
 {
-    put_nodes(alloc, text, sink, form, view, two, "", lost, nodes)?;
-    put_trees(alloc, text, sink, form, view, two, lost, trees)
+    put_nodes(alloc, text, sink, form, losses, two, "", lost, nodes)?;
+    put_trees(alloc, text, sink, form, losses, two, lost, trees)
 }
 
 /// The lines of all names that are found behind holes of torn folders, of a volume that has these nodes and of lost trees. Where only paths are asked for there is
@@ -204,19 +210,20 @@ pub(crate) fn put_found<B: BlockStore, W: Sink>(
     sink: &mut W,
     form: ListForm,
     deleted: bool,
-    view: StoreView<'_, B>,
+    losses: &mut Losses<'_, B>,
     two: bool,
     nodes: &[Node],
     entries: &[Unnamed],
     trees: &[LostTree],
 ) -> Result<(), PrintError>
     ensures printed { B.tells → PassesOnBy (W.stream sink.old) (W.stream sink.new) (string_bytes text.old) (string_bytes text.new)
-        (found_lines form deleted (view_by B.states view.entry) two nodes.now (map (full_entry (view_by B.states view.entry)) entries.now) trees.now) result }
+        (found_lines form deleted losses.old.view two nodes.now (map (full_entry losses.old.view) entries.now) trees.now) result }
+    ensures view { losses.new ≡ losses.old }
     ensures fails { IsErrOf result PrintError.Unread → B.fails }
 {
     if form.paths {
         return Ok(());
     }
-    let lost = unplaced_by(alloc, view, deleted, trees, entries)?;
-    put_all(alloc, text, sink, form, view, two, &lost, nodes, trees)
+    let lost = unplaced_by(alloc, losses.view(), deleted, trees, entries)?;
+    put_all(alloc, text, sink, form, losses, two, &lost, nodes, trees)
 }

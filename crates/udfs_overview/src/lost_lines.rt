@@ -1,10 +1,12 @@
 //! What a line of the list says of a lost folder, of what is in it, and of a lost file. Each function appends to a text; if memory
 //! runs out, a part may be appended.
 
-ghost use Rattle.std.specs.Prelude.{◌≡◌, ◌++◌, OnErr, OnOk, IfOk, IsErrOf, Some, option_map};
+ghost use Rattle.std.specs.Prelude.{◌≡◌, ◌++◌, OnErr, OnOk, IfOk, IsErrOf, Some, option_map, ℕ};
 ghost use Rattle.std.specs.List.{list_any};
 ghost use Rattle.std.specs.String.{string_bytes};
 ghost use Rattle.udfs_space.specs.Views.{view_by};
+ghost use Rattle.udfs_walk.specs.Losses.{loss_of};
+ghost use Rattle.udfs_walk.specs.declared.standings.Standing.{Standing};
 ghost use Rattle.udfs_walk.specs.Bare.{full_entry, full_node};
 ghost use Rattle.udfs_walk.specs.Targets.{is_icb};
 ghost use Rattle.udfs_walk.specs.UnnamedEntries.{names};
@@ -24,7 +26,7 @@ use udfs_lost::{Met, parent_by};
 use udfs_osta::{OutOfMemory, Stamp};
 use udfs_space::StoreView;
 use udfs_tag::{LbAddr, LongAd};
-use udfs_walk::{Node, Path, Standing, Unnamed, full_standing_by, tail_by};
+use udfs_walk::{Loss, Losses, Node, Path, Unnamed, tail_by};
 
 /// Appends what a lost folder or a lost file is called: `lost:` and the logical block of its entry, with the partition reference and a `-` before
 /// it where there are two partitions.
@@ -57,17 +59,17 @@ fn push_lost_path(text: &mut String, word: &str, path: &Path) -> Result<(), OutO
 fn push_lost_columns(
     text: &mut String,
     form: ListForm,
-    standing: &Standing,
+    loss: &Loss,
     kind: Kind,
     size: Option<u64>,
     stamp: Option<Stamp>,
 ) -> Result<(), OutOfMemory>
-    ensures { OnOk result (string_bytes text.new ≡ string_bytes text.old ++ lost_columns form standing.now kind size stamp) }
+    ensures { (s : Standing) (most : ℕ) → loss.now ≡ loss_of most s → OnOk result (string_bytes text.new ≡ string_bytes text.old ++ lost_columns form s kind size stamp) }
 {
     if form.paths {
         return Ok(());
     }
-    push_told(text, standing, kind, size, stamp)
+    push_told(text, loss, kind, size, stamp)
 }
 
 /// Whether it is a directory.
@@ -205,17 +207,17 @@ fn own_place<'a>(path: &Path, place: &'a str) -> &'a str
 fn push_lost_members(
     text: &mut String,
     form: ListForm,
-    standing: &Standing,
+    loss: &Loss,
     kind: Kind,
     size: Option<u64>,
     stamp: Option<Stamp>,
 ) -> Result<(), OutOfMemory>
-    ensures { OnOk result (string_bytes text.new ≡ string_bytes text.old ++ lost_members form standing.now kind size stamp) }
+    ensures { (s : Standing) (most : ℕ) → loss.now ≡ loss_of most s → OnOk result (string_bytes text.new ≡ string_bytes text.old ++ lost_members form s kind size stamp) }
 {
     if form.paths {
         return Ok(());
     }
-    push_told_json(text, standing, kind, size, stamp)
+    push_told_json(text, loss, kind, size, stamp)
 }
 
 /// The object of what is lost, at a path and with the member of its folder's place.
@@ -224,17 +226,17 @@ fn push_lost_object(
     text: &mut String,
     form: ListForm,
     tail: bool,
-    standing: &Standing,
+    loss: &Loss,
     kind: Kind,
     size: Option<u64>,
     stamp: Option<Stamp>,
     path: String,
     place: &str,
 ) -> Result<(), OutOfMemory>
-    ensures { OnOk result (string_bytes text.new ≡ string_bytes text.old ++ lost_object form tail standing.now kind size stamp (string_bytes path) place.now) }
+    ensures { (s : Standing) (most : ℕ) → loss.now ≡ loss_of most s → OnOk result (string_bytes text.new ≡ string_bytes text.old ++ lost_object form tail s kind size stamp (string_bytes path) place.now) }
 {
     text.push_str("{")?;
-    push_lost_members(text, form, standing, kind, size, stamp)?;
+    push_lost_members(text, form, loss, kind, size, stamp)?;
     text.push_str("\"path\":")?;
     push_quoted(text, path)?;
     text.push_str(tail_member(form, tail))?;
@@ -248,16 +250,16 @@ fn push_lost_row(
     text: &mut String,
     form: ListForm,
     tail: bool,
-    standing: &Standing,
+    loss: &Loss,
     kind: Kind,
     size: Option<u64>,
     stamp: Option<Stamp>,
     path: &str,
     place: &str,
 ) -> Result<(), OutOfMemory>
-    ensures { OnOk result (string_bytes text.new ≡ string_bytes text.old ++ lost_row form tail standing.now kind size stamp path.now place.now) }
+    ensures { (s : Standing) (most : ℕ) → loss.now ≡ loss_of most s → OnOk result (string_bytes text.new ≡ string_bytes text.old ++ lost_row form tail s kind size stamp path.now place.now) }
 {
-    push_lost_columns(text, form, standing, kind, size, stamp)?;
+    push_lost_columns(text, form, loss, kind, size, stamp)?;
     text.push_str(path)?;
     push_tail(text, form, tail)?;
     text.push_str(place)
@@ -269,20 +271,20 @@ pub(crate) fn push_lost_line(
     text: &mut String,
     form: ListForm,
     tail: bool,
-    standing: &Standing,
+    loss: &Loss,
     kind: Kind,
     size: Option<u64>,
     stamp: Option<Stamp>,
     path: String,
     place: &str,
 ) -> Result<(), OutOfMemory>
-    ensures { OnOk result (string_bytes text.new ≡ string_bytes text.old ++ lost_line form tail standing.now kind size stamp (string_bytes path) place.now) }
+    ensures { (s : Standing) (most : ℕ) → loss.now ≡ loss_of most s → OnOk result (string_bytes text.new ≡ string_bytes text.old ++ lost_line form tail s kind size stamp (string_bytes path) place.now) }
 {
     if form.json {
-        push_lost_object(text, form, tail, standing, kind, size, stamp, path, place)?;
+        push_lost_object(text, form, tail, loss, kind, size, stamp, path, place)?;
         return push_end(text, form);
     }
-    push_lost_row(text, form, tail, standing, kind, size, stamp, &path, place)?;
+    push_lost_row(text, form, tail, loss, kind, size, stamp, &path, place)?;
     push_end(text, form)
 }
 
@@ -299,28 +301,29 @@ pub(crate) fn push_node_line<B: BlockStore>(
     alloc: Global,
     text: &mut String,
     form: ListForm,
-    view: StoreView<'_, B>,
+    losses: &mut Losses<'_, B>,
     word: &str,
     place: &str,
     named: bool,
     node: &Node,
 ) -> Result<(), GaveUp>
-    ensures line { OnOk result (B.tells → string_bytes text.new ≡ string_bytes text.old ++ node_line form (view_by B.states view.entry) word.now place.now named (full_node (view_by B.states view.entry) node.now)) }
+    ensures line { OnOk result (B.tells → string_bytes text.new ≡ string_bytes text.old ++ node_line form losses.old.view word.now place.now named (full_node losses.old.view node.now)) }
+    ensures view { losses.new ≡ losses.old }
     ensures fails { IsErrOf result GaveUp.Unread → B.fails }
 {
     if is_own(named, &node.path) {
         return Ok(());
     }
-    let full = full_standing_by(alloc, view, node.icb, &node.standing)?;
-    if form.torn && is_whole(&full) {
+    let loss = losses.loss(alloc, node.icb, &node.standing)?;
+    if form.torn && is_whole(&loss.standing) {
         return Ok(());
     }
-    let tail = tail_by(alloc, view, node.icb)?;
+    let tail = tail_by(alloc, losses.view(), node.icb)?;
     let mut path = String::new(alloc);
     push_lost_path(&mut path, word, &node.path)?;
     let place = own_place(&node.path, place);
     push_lost_line(
-        text, form, tail, &full, node.kind, node.size, node.stamp, path, place,
+        text, form, tail, &loss, node.kind, node.size, node.stamp, path, place,
     )?;
     Ok(())
 }
@@ -331,26 +334,27 @@ pub(crate) fn push_file_line<B: BlockStore>(
     alloc: Global,
     text: &mut String,
     form: ListForm,
-    view: StoreView<'_, B>,
+    losses: &mut Losses<'_, B>,
     two: bool,
     named: &Met,
     file: &Unnamed,
 ) -> Result<(), GaveUp>
-    ensures line { OnOk result (B.tells → string_bytes text.new ≡ string_bytes text.old ++ file_line form (view_by B.states view.entry) two (λ icb. list_any (is_icb icb) named.now) (full_entry (view_by B.states view.entry) file.now)) }
+    ensures line { OnOk result (B.tells → string_bytes text.new ≡ string_bytes text.old ++ file_line form losses.old.view two (λ icb. list_any (is_icb icb) named.now) (full_entry losses.old.view file.now)) }
+    ensures view { losses.new ≡ losses.old }
     ensures fails { IsErrOf result GaveUp.Unread → B.fails }
 {
     if named.contains(file.address()) {
         return Ok(());
     }
-    let full = full_standing_by(alloc, view, file.icb(), &file.standing)?;
-    if form.torn && is_whole(&full) {
+    let loss = losses.loss(alloc, file.icb(), &file.standing)?;
+    if form.torn && is_whole(&loss.standing) {
         return Ok(());
     }
-    let tail = tail_by(alloc, view, file.icb())?;
+    let tail = tail_by(alloc, losses.view(), file.icb())?;
     let mut path = String::new(alloc);
     push_lost_word(&mut path, two, file.address())?;
     let size = Some(file.size);
     let stamp = Some(file.stamp);
-    push_lost_line(text, form, tail, &full, file.kind, size, stamp, path, "")?;
+    push_lost_line(text, form, tail, &loss, file.kind, size, stamp, path, "")?;
     Ok(())
 }

@@ -23,7 +23,7 @@ use udfs_lost::{LostTree, Met, found_entries, lost_files_by, unplaced_by};
 use udfs_reading::Sink;
 use udfs_salvage::{PrintError, Survey, Volume, flush, has_two_partitions, pass_on};
 use udfs_space::StoreView;
-use udfs_walk::{Node, Unnamed};
+use udfs_walk::{Losses, Node, Unnamed};
 
 /// The line of a node of a lost tree, if it is asked for.
 fn put_node<B: BlockStore, W: Sink>(
@@ -31,17 +31,18 @@ fn put_node<B: BlockStore, W: Sink>(
     text: &mut String,
     sink: &mut W,
     form: ListForm,
-    view: StoreView<'_, B>,
+    losses: &mut Losses<'_, B>,
     word: &str,
     place: &str,
     named: bool,
     node: &Node,
 ) -> Result<(), PrintError>
     ensures printed { B.tells → PassesOnBy (W.stream sink.old) (W.stream sink.new) (string_bytes text.old) (string_bytes text.new)
-        (node_line form (view_by B.states view.entry) word.now place.now named (full_node (view_by B.states view.entry) node.now)) result }
+        (node_line form losses.old.view word.now place.now named (full_node losses.old.view node.now)) result }
+    ensures view { losses.new ≡ losses.old }
     ensures fails { IsErrOf result PrintError.Unread → B.fails }
 {
-    push_node_line(alloc, text, form, view, word, place, named, node)?;
+    push_node_line(alloc, text, form, losses, word, place, named, node)?;
     pass_on(text, sink)?;
     Ok(())
 }
@@ -52,18 +53,19 @@ fn put_nodes<B: BlockStore, W: Sink>(
     text: &mut String,
     sink: &mut W,
     form: ListForm,
-    view: StoreView<'_, B>,
+    losses: &mut Losses<'_, B>,
     word: &str,
     place: &str,
     named: bool,
     nodes: &[Node],
 ) -> Result<(), PrintError>
     ensures printed { B.tells → PassesOnBy (W.stream sink.old) (W.stream sink.new) (string_bytes text.old) (string_bytes text.new)
-        (flat_map (node_line form (view_by B.states view.entry) word.now place.now named) (map (full_node (view_by B.states view.entry)) nodes.now)) result }
+        (flat_map (node_line form losses.old.view word.now place.now named) (map (full_node losses.old.view) nodes.now)) result }
+    ensures view { losses.new ≡ losses.old }
     ensures fails { IsErrOf result PrintError.Unread → B.fails }
 {
     for node in nodes {
-        put_node(alloc, text, sink, form, view, word, place, named, node)?;
+        put_node(alloc, text, sink, form, losses, word, place, named, node)?;
     }
     Ok(())
 }
@@ -75,26 +77,27 @@ fn put_tree<B: BlockStore, W: Sink>(
     text: &mut String,
     sink: &mut W,
     form: ListForm,
-    view: StoreView<'_, B>,
+    losses: &mut Losses<'_, B>,
     two: bool,
     named: &Met,
     nodes: &[Node],
     tree: &LostTree,
 ) -> Result<(), PrintError>
     ensures printed { B.tells → PassesOnBy (W.stream sink.old) (W.stream sink.new) (string_bytes text.old) (string_bytes text.new)
-        (tree_lines form (view_by B.states view.entry) two (λ icb. list_any (is_icb icb) named.now) nodes.now tree.now) result }
+        (tree_lines form losses.old.view two (λ icb. list_any (is_icb icb) named.now) nodes.now tree.now) result }
+    ensures view { losses.new ≡ losses.old }
     ensures fails { IsErrOf result PrintError.Unread → B.fails }
 {
     let mut word = String::new(alloc);
     push_lost_word(&mut word, two, tree.folder)?;
-    let place = place_column(alloc, form, view, nodes, tree.folder)?;
+    let place = place_column(alloc, form, losses.view(), nodes, tree.folder)?;
     let named = named.contains(tree.folder);
     put_nodes(
         alloc,
         text,
         sink,
         form,
-        view,
+        losses,
         &word,
         &place,
         named,
@@ -108,18 +111,19 @@ fn put_trees<B: BlockStore, W: Sink>(
     text: &mut String,
     sink: &mut W,
     form: ListForm,
-    view: StoreView<'_, B>,
+    losses: &mut Losses<'_, B>,
     two: bool,
     named: &Met,
     nodes: &[Node],
     trees: &[LostTree],
 ) -> Result<(), PrintError>
     ensures printed { B.tells → PassesOnBy (W.stream sink.old) (W.stream sink.new) (string_bytes text.old) (string_bytes text.new)
-        (flat_map (tree_lines form (view_by B.states view.entry) two (λ icb. list_any (is_icb icb) named.now) nodes.now) trees.now) result }
+        (flat_map (tree_lines form losses.old.view two (λ icb. list_any (is_icb icb) named.now) nodes.now) trees.now) result }
+    ensures view { losses.new ≡ losses.old }
     ensures fails { IsErrOf result PrintError.Unread → B.fails }
 {
     for tree in trees {
-        put_tree(alloc, text, sink, form, view, two, named, nodes, tree)?;
+        put_tree(alloc, text, sink, form, losses, two, named, nodes, tree)?;
     }
     Ok(())
 }
@@ -130,16 +134,17 @@ fn put_file<B: BlockStore, W: Sink>(
     text: &mut String,
     sink: &mut W,
     form: ListForm,
-    view: StoreView<'_, B>,
+    losses: &mut Losses<'_, B>,
     two: bool,
     named: &Met,
     file: &Unnamed,
 ) -> Result<(), PrintError>
     ensures printed { B.tells → PassesOnBy (W.stream sink.old) (W.stream sink.new) (string_bytes text.old) (string_bytes text.new)
-        (file_line form (view_by B.states view.entry) two (λ icb. list_any (is_icb icb) named.now) (full_entry (view_by B.states view.entry) file.now)) result }
+        (file_line form losses.old.view two (λ icb. list_any (is_icb icb) named.now) (full_entry losses.old.view file.now)) result }
+    ensures view { losses.new ≡ losses.old }
     ensures fails { IsErrOf result PrintError.Unread → B.fails }
 {
-    push_file_line(alloc, text, form, view, two, named, file)?;
+    push_file_line(alloc, text, form, losses, two, named, file)?;
     pass_on(text, sink)?;
     Ok(())
 }
@@ -150,17 +155,18 @@ fn put_files<B: BlockStore, W: Sink>(
     text: &mut String,
     sink: &mut W,
     form: ListForm,
-    view: StoreView<'_, B>,
+    losses: &mut Losses<'_, B>,
     two: bool,
     named: &Met,
     files: &[&Unnamed],
 ) -> Result<(), PrintError>
     ensures printed { B.tells → PassesOnBy (W.stream sink.old) (W.stream sink.new) (string_bytes text.old) (string_bytes text.new)
-        (flat_map (file_line form (view_by B.states view.entry) two (λ icb. list_any (is_icb icb) named.now)) (map (λ file. full_entry (view_by B.states view.entry) file.now) files.now)) result }
+        (flat_map (file_line form losses.old.view two (λ icb. list_any (is_icb icb) named.now)) (map (λ file. full_entry losses.old.view file.now) files.now)) result }
+    ensures view { losses.new ≡ losses.old }
     ensures fails { IsErrOf result PrintError.Unread → B.fails }
 {
     for file in files {
-        put_file(alloc, text, sink, form, view, two, named, file)?;
+        put_file(alloc, text, sink, form, losses, two, named, file)?;
     }
     Ok(())
 }
@@ -193,7 +199,7 @@ fn put_by_block<B: BlockStore, W: Sink>(
     sink: &mut W,
     form: ListForm,
     deleted: bool,
-    view: StoreView<'_, B>,
+    losses: &mut Losses<'_, B>,
     two: bool,
     named: &Met,
     nodes: &[Node],
@@ -201,12 +207,13 @@ fn put_by_block<B: BlockStore, W: Sink>(
     trees: &[LostTree],
 ) -> Result<(), PrintError>
     ensures printed { B.tells → PassesOnBy (W.stream sink.old) (W.stream sink.new) (string_bytes text.old) (string_bytes text.new)
-        (lost_lines form deleted (view_by B.states view.entry) two (λ icb. list_any (is_icb icb) named.now) nodes.now (map (full_entry (view_by B.states view.entry)) entries.now) trees.now) result }
+        (lost_lines form deleted losses.old.view two (λ icb. list_any (is_icb icb) named.now) nodes.now (map (full_entry losses.old.view) entries.now) trees.now) result }
+    ensures view { losses.new ≡ losses.old }
     ensures fails { IsErrOf result PrintError.Unread → B.fails }
 {
-    let files = lost_files_by(alloc, view, deleted, trees, entries)?;
-    put_trees(alloc, text, sink, form, view, two, named, nodes, trees)?;
-    put_files(alloc, text, sink, form, view, two, named, &files)
+    let files = lost_files_by(alloc, losses.view(), deleted, trees, entries)?;
+    put_trees(alloc, text, sink, form, losses, two, named, nodes, trees)?;
+    put_files(alloc, text, sink, form, losses, two, named, &files)
 }
 
 /// All lines of lost trees and lost files in a view, of a volume that has these nodes, and of names that are found behind holes: each entry by the names that are found
@@ -228,11 +235,31 @@ fn put_lost_in<B: BlockStore, W: Sink>(
     ensures fails { IsErrOf result PrintError.Unread → B.fails }
 {
     let named = named_in(alloc, form, deleted, view, nodes, entries, trees)?;
+    let mut losses = Losses::new(alloc, view, 0);
     put_by_block(
-        alloc, text, sink, form, deleted, view, two, &named, nodes, entries, trees,
+        alloc,
+        text,
+        sink,
+        form,
+        deleted,
+        &mut losses,
+        two,
+        &named,
+        nodes,
+        entries,
+        trees,
     )?;
     put_found(
-        alloc, text, sink, form, deleted, view, two, nodes, entries, trees,
+        alloc,
+        text,
+        sink,
+        form,
+        deleted,
+        &mut losses,
+        two,
+        nodes,
+        entries,
+        trees,
     )
 }
 

@@ -5,13 +5,15 @@ ghost use Rattle.std.specs.String.{string_bytes};
 ghost use Rattle.udfs_osta.specs.StampTexts.{stamp_text};
 ghost use Rattle.udfs_salvage.specs.NodeTexts.{node_fault_number};
 ghost use Rattle.udfs_walk.specs.Unsettled.{is_whole};
-ghost use Rattle.udfs_overview.specs.NodeLists.{column, kind_word, lost_bytes, lost_of, number_text, safe_path, short_time, standing_word, time_text, told_columns};
+ghost use Rattle.udfs_walk.specs.Losses.{loss_of};
+ghost use Rattle.udfs_walk.specs.declared.standings.Standing.{Standing};
+ghost use Rattle.udfs_overview.specs.NodeLists.{column, kind_word, lost_of, number_text, safe_path, short_time, standing_word, time_text, told_columns};
 
 use crate::safe_names::push_safe_name;
 use std::fmt::Write;
 use udfs_file::{Kind, NodeFault};
 use udfs_osta::{Name, OutOfMemory, Stamp};
-use udfs_walk::{Path, Standing};
+use udfs_walk::{Loss, Path, Standing};
 
 /// Whether a standing is whole.
 pub(crate) fn is_whole(standing: &Standing) -> bool
@@ -23,27 +25,15 @@ pub(crate) fn is_whole(standing: &Standing) -> bool
     }
 }
 
-/// How many bytes all holes have.
-fn lost_bytes(holes: &[(u64, u64)]) -> u128
-    ensures { result ≡ lost_bytes holes.now }
-{
-    let mut lost = 0;
-    for hole in holes {
-        let (_, length) = *hole;
-        lost += u128::from(length);
-    }
-    lost
-}
-
 /// How many bytes of a node are lost: 0 for a whole one; `None` (not known) for a torn one that was not read, a loop or a fault.
-pub fn lost_of(standing: &Standing, kind: Kind) -> Option<u128>
-    ensures { result ≡ lost_of standing.now kind }
+pub fn lost_of(loss: &Loss, kind: Kind) -> Option<u128>
+    ensures { (s : Standing) (most : ℕ) → loss.now ≡ loss_of most s → result ≡ lost_of s kind }
 {
-    match standing {
+    match loss.standing {
         Standing::Whole => Some(0),
-        Standing::Torn(torn) => match kind {
+        Standing::Torn(_) => match kind {
             Kind::Unread => None,
-            _ => Some(lost_bytes(&torn.holes)),
+            _ => Some(u128::from(loss.lost)),
         },
         _ => None,
     }
@@ -145,16 +135,16 @@ fn push_time(text: &mut String, stamp: Option<Stamp>) -> Result<(), OutOfMemory>
 #[tactic(auto, unfolding(crate::specs::NodeLists::told_columns))]
 pub(crate) fn push_told(
     text: &mut String,
-    standing: &Standing,
+    loss: &Loss,
     kind: Kind,
     size: Option<u64>,
     stamp: Option<Stamp>,
 ) -> Result<(), OutOfMemory>
-    ensures { OnOk result (string_bytes text.new ≡ string_bytes text.old ++ told_columns standing.now kind size stamp) }
+    ensures { (s : Standing) (most : ℕ) → loss.now ≡ loss_of most s → OnOk result (string_bytes text.new ≡ string_bytes text.old ++ told_columns s kind size stamp) }
 {
-    push_standing(text, standing)?;
+    push_standing(text, &loss.standing)?;
     push_kind(text, kind)?;
-    push_lost(text, lost_of(standing, kind))?;
+    push_lost(text, lost_of(loss, kind))?;
     push_size(text, size)?;
     push_time(text, stamp)
 }

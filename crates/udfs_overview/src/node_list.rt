@@ -1,8 +1,10 @@
 //! The list of nodes, a line for each but the root.
 
-ghost use Rattle.std.specs.Prelude.{◌≡◌, ◌++◌, IsErrOf, OnOk, drop, false, flat_map, map};
+ghost use Rattle.std.specs.Prelude.{◌≡◌, ◌++◌, IsErrOf, OnOk, drop, false, flat_map, map, ℕ};
 ghost use Rattle.std.specs.String.{string_bytes};
 ghost use Rattle.udfs_space.specs.Views.{view_by};
+ghost use Rattle.udfs_walk.specs.Losses.{loss_of};
+ghost use Rattle.udfs_walk.specs.declared.standings.Standing.{Standing};
 ghost use Rattle.udfs_walk.specs.Bare.{full_node, node_with};
 ghost use Rattle.udfs_salvage.specs.Found.{volume_now};
 ghost use Rattle.udfs_salvage.specs.Listings.{listing_by};
@@ -19,7 +21,7 @@ use udfs_osta::OutOfMemory;
 use udfs_reading::Sink;
 use udfs_salvage::{Listing, PrintError, RunError, Survey, Volume, flush, pass_on};
 use udfs_space::StoreView;
-use udfs_walk::{Node, Standing, full_standing_by, tail_by};
+use udfs_walk::{Loss, Losses, Node, tail_by};
 
 /// What a list shows of nodes, and how.
 #[derive(Clone, Copy, Debug, PartialEq, Eq)]
@@ -52,14 +54,14 @@ fn push_front(
     text: &mut String,
     form: ListForm,
     node: &Node,
-    standing: &Standing,
+    loss: &Loss,
 ) -> Result<(), OutOfMemory>
-    ensures { OnOk result (string_bytes text.new ≡ string_bytes text.old ++ front_columns form (node_with node.now standing.now)) }
+    ensures { (s : Standing) (most : ℕ) → loss.now ≡ loss_of most s → OnOk result (string_bytes text.new ≡ string_bytes text.old ++ front_columns form (node_with node.now s)) }
 {
     if form.paths {
         return Ok(());
     }
-    push_told(text, standing, node.kind, node.size, node.stamp)
+    push_told(text, loss, node.kind, node.size, node.stamp)
 }
 
 /// The word behind the path of a node whose body is read by the tail of its last extent.
@@ -80,11 +82,11 @@ fn push_columns(
     form: ListForm,
     tail: bool,
     node: &Node,
-    standing: &Standing,
+    loss: &Loss,
 ) -> Result<(), OutOfMemory>
-    ensures { OnOk result (string_bytes text.new ≡ string_bytes text.old ++ columns form tail (node_with node.now standing.now)) }
+    ensures { (s : Standing) (most : ℕ) → loss.now ≡ loss_of most s → OnOk result (string_bytes text.new ≡ string_bytes text.old ++ columns form tail (node_with node.now s)) }
 {
-    push_front(text, form, node, standing)?;
+    push_front(text, form, node, loss)?;
     push_safe_path(text, &node.path)?;
     push_tail(text, form, tail)
 }
@@ -96,15 +98,15 @@ fn push_line(
     form: ListForm,
     tail: bool,
     node: &Node,
-    standing: &Standing,
+    loss: &Loss,
 ) -> Result<(), OutOfMemory>
-    ensures { OnOk result (string_bytes text.new ≡ string_bytes text.old ++ list_line form tail (node_with node.now standing.now)) }
+    ensures { (s : Standing) (most : ℕ) → loss.now ≡ loss_of most s → OnOk result (string_bytes text.new ≡ string_bytes text.old ++ list_line form tail (node_with node.now s)) }
 {
     if form.json {
-        push_object(text, form, tail, node, standing)?;
+        push_object(text, form, tail, node, loss)?;
         return push_end(text, form);
     }
-    push_columns(text, form, tail, node, standing)?;
+    push_columns(text, form, tail, node, loss)?;
     push_end(text, form)
 }
 
@@ -115,14 +117,14 @@ fn push_listed(
     form: ListForm,
     tail: bool,
     node: &Node,
-    standing: &Standing,
+    loss: &Loss,
 ) -> Result<(), OutOfMemory>
-    ensures { OnOk result (string_bytes text.new ≡ string_bytes text.old ++ listed form tail (node_with node.now standing.now)) }
+    ensures { (s : Standing) (most : ℕ) → loss.now ≡ loss_of most s → OnOk result (string_bytes text.new ≡ string_bytes text.old ++ listed form tail (node_with node.now s)) }
 {
-    if form.torn && is_whole(standing) {
+    if form.torn && is_whole(&loss.standing) {
         return Ok(());
     }
-    push_line(text, form, tail, node, standing)
+    push_line(text, form, tail, node, loss)
 }
 
 /// The line of a node with this standing, if it is asked for.
@@ -132,12 +134,12 @@ fn put_listed<W: Sink>(
     form: ListForm,
     tail: bool,
     node: &Node,
-    standing: &Standing,
+    loss: &Loss,
 ) -> Result<(), RunError>
-    ensures { PassesOn (W.stream sink.old) (W.stream sink.new) (string_bytes text.old) (string_bytes text.new)
-        (listed form tail (node_with node.now standing.now)) result }
+    ensures { (s : Standing) (most : ℕ) → loss.now ≡ loss_of most s → PassesOn (W.stream sink.old) (W.stream sink.new) (string_bytes text.old) (string_bytes text.new)
+        (listed form tail (node_with node.now s)) result }
 {
-    push_listed(text, form, tail, node, standing)?;
+    push_listed(text, form, tail, node, loss)?;
     pass_on(text, sink)
 }
 
@@ -151,32 +153,35 @@ fn put_nodes<W: Sink>(
     ensures { PassesOn (W.stream sink.old) (W.stream sink.new) (string_bytes text.old) (string_bytes text.new)
         (flat_map (listed form false) nodes.now) result }
 {
+    let alloc = *text.allocator();
     for node in nodes {
-        put_listed(text, sink, form, false, node, &node.standing)?;
+        let loss = Loss::listed(alloc, &node.standing, 0)?;
+        put_listed(text, sink, form, false, node, &loss)?;
     }
     Ok(())
 }
 
-/// The line of a node that is given without its blocks and holes. They are found first.
+/// The line of a node that is given without its blocks and holes. How many bytes it lacks is found first.
 fn put_full_node<B: BlockStore, W: Sink>(
     alloc: Global,
     text: &mut String,
     sink: &mut W,
-    view: StoreView<'_, B>,
+    losses: &mut Losses<'_, B>,
     form: ListForm,
     node: &Node,
 ) -> Result<(), PrintError>
     ensures printed { B.tells → PassesOnBy (W.stream sink.old) (W.stream sink.new) (string_bytes text.old) (string_bytes text.new)
-        (listed_in form (view_by B.states view.entry) (full_node (view_by B.states view.entry) node.now)) result }
+        (listed_in form losses.old.view (full_node losses.old.view node.now)) result }
+    ensures view { losses.new ≡ losses.old }
     ensures fails { IsErrOf result PrintError.Unread → B.fails }
 {
-    let full = full_standing_by(alloc, view, node.icb, &node.standing)?;
-    let tail = tail_by(alloc, view, node.icb)?;
-    put_listed(text, sink, form, tail, node, &full)?;
+    let loss = losses.loss(alloc, node.icb, &node.standing)?;
+    let tail = tail_by(alloc, losses.view(), node.icb)?;
+    put_listed(text, sink, form, tail, node, &loss)?;
     Ok(())
 }
 
-/// The lines of nodes that are given without their blocks and holes. They are found first, for one node at a time.
+/// The lines of nodes that are given without their blocks and holes. How many bytes one lacks is found once for all its names, as far as there is room.
 fn put_full_nodes<B: BlockStore, W: Sink>(
     alloc: Global,
     text: &mut String,
@@ -189,8 +194,9 @@ fn put_full_nodes<B: BlockStore, W: Sink>(
         (flat_map (listed_in form (view_by B.states view.entry)) (map (full_node (view_by B.states view.entry)) nodes.now)) result }
     ensures fails { IsErrOf result PrintError.Unread → B.fails }
 {
+    let mut losses = Losses::new(alloc, view, 0);
     for node in nodes {
-        put_full_node(alloc, text, sink, view, form, node)?;
+        put_full_node(alloc, text, sink, &mut losses, form, node)?;
     }
     Ok(())
 }
@@ -218,7 +224,7 @@ fn put_all<W: Sink>(
     put_nodes(text, sink, form, behind_root(nodes))
 }
 
-/// The lines of all nodes after the root, where nodes are given without their blocks and holes. They are found first, for one node at a time.
+/// The lines of all nodes after the root, where nodes are given without their blocks and holes.
 fn put_full_all<B: BlockStore, W: Sink>(
     alloc: Global,
     text: &mut String,
@@ -346,9 +352,9 @@ fn write_parts<B: BlockStore, W: Sink>(
 /// Writes a line for each node after the root of the report that a survey represents, in the report's order: its standing, its
 /// kind, how many of its bytes are lost, its size in bytes, its time and its path, separated by tabs, with `-` for what is not
 /// known. Behind the path of a node whose body is read by the tail of its last extent, as the wide rules do, is the column `tail`. `form` can leave
-/// out whole nodes or all columns but the path, put the columns' names on a first line, or make each line a JSON object with these values. The blocks
-/// and holes of one node are held at a time. For each node its entry is read again, and for a torn one its body's
-/// extents.
+/// out whole nodes or all columns but the path, put the columns' names on a first line, or make each line a JSON object with these values. No blocks
+/// and holes are listed. For each node its entry is read again, and for a torn one its body's extents, once for all its names as far as there is
+/// room.
 ///
 /// # Errors
 ///

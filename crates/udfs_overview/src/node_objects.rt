@@ -5,6 +5,8 @@ ghost use Rattle.std.specs.String.{string_bytes};
 ghost use Rattle.serde_json.specs.Data.{string};
 ghost use Rattle.serde_json.specs.Written.{compact_text};
 ghost use Rattle.udfs_salvage.specs.NodeTexts.{kind_name};
+ghost use Rattle.udfs_walk.specs.Losses.{loss_of};
+ghost use Rattle.udfs_walk.specs.declared.standings.Standing.{Standing};
 ghost use Rattle.udfs_walk.specs.Bare.{node_with};
 ghost use Rattle.udfs_overview.specs.NodeLists.{front_json, kind_json, number_json, object_text, safe_path, standing_json, standing_word, tail_json, time_json, told_json};
 
@@ -14,7 +16,7 @@ use serde_json::Value;
 use std::fmt::Write;
 use udfs_file::Kind;
 use udfs_osta::{OutOfMemory, Stamp};
-use udfs_walk::{Node, Path, Standing};
+use udfs_walk::{Loss, Node, Path, Standing};
 
 /// A standing.
 fn push_standing(text: &mut String, standing: &Standing) -> Result<(), OutOfMemory>
@@ -99,17 +101,17 @@ fn push_named_kind(text: &mut String, kind: Kind) -> Result<(), OutOfMemory>
 #[tactic(auto, unfolding(crate::specs::NodeLists::told_json))]
 pub(crate) fn push_told_json(
     text: &mut String,
-    standing: &Standing,
+    loss: &Loss,
     kind: Kind,
     size: Option<u64>,
     stamp: Option<Stamp>,
 ) -> Result<(), OutOfMemory>
-    ensures { OnOk result (string_bytes text.new ≡ string_bytes text.old ++ told_json standing.now kind size stamp) }
+    ensures { (s : Standing) (most : ℕ) → loss.now ≡ loss_of most s → OnOk result (string_bytes text.new ≡ string_bytes text.old ++ told_json s kind size stamp) }
 {
-    push_named_standing(text, standing)?;
+    push_named_standing(text, &loss.standing)?;
     push_named_kind(text, kind)?;
     text.push_str("\",\"lost\":")?;
-    push_lost(text, lost_of(standing, kind))?;
+    push_lost(text, lost_of(loss, kind))?;
     text.push_str(",\"size\":")?;
     push_size(text, size)?;
     text.push_str(",\"time\":")?;
@@ -122,14 +124,14 @@ fn push_front(
     text: &mut String,
     form: ListForm,
     node: &Node,
-    standing: &Standing,
+    loss: &Loss,
 ) -> Result<(), OutOfMemory>
-    ensures { OnOk result (string_bytes text.new ≡ string_bytes text.old ++ front_json form (node_with node.now standing.now)) }
+    ensures { (s : Standing) (most : ℕ) → loss.now ≡ loss_of most s → OnOk result (string_bytes text.new ≡ string_bytes text.old ++ front_json form (node_with node.now s)) }
 {
     if form.paths {
         return Ok(());
     }
-    push_told_json(text, standing, node.kind, node.size, node.stamp)
+    push_told_json(text, loss, node.kind, node.size, node.stamp)
 }
 
 /// A text, as a JSON string.
@@ -170,12 +172,12 @@ pub(crate) fn push_object(
     form: ListForm,
     tail: bool,
     node: &Node,
-    standing: &Standing,
+    loss: &Loss,
 ) -> Result<(), OutOfMemory>
-    ensures { OnOk result (string_bytes text.new ≡ string_bytes text.old ++ object_text form tail (node_with node.now standing.now)) }
+    ensures { (s : Standing) (most : ℕ) → loss.now ≡ loss_of most s → OnOk result (string_bytes text.new ≡ string_bytes text.old ++ object_text form tail (node_with node.now s)) }
 {
     text.push_str("{")?;
-    push_front(text, form, node, standing)?;
+    push_front(text, form, node, loss)?;
     text.push_str("\"path\":")?;
     push_path(text, &node.path)?;
     text.push_str(tail_member(form, tail))?;

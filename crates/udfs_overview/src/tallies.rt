@@ -1,11 +1,14 @@
 //! What is counted of nodes.
 
-ghost use Rattle.std.specs.Prelude.{◌≡◌, ℕ, List, IfOk, IsErrOf, cond, count_by, map, option_map};
+ghost use Rattle.std.specs.Prelude.{◌≡◌, ℕ, List, IfOk, IsErrOf, cond, count_by, map, option_map, All};
 ghost use Rattle.udfs_space.specs.Views.{view_by};
 ghost use Rattle.udfs_walk.specs.Bare.{full_node, node_with};
+ghost use Rattle.udfs_lattice.specs.Volumes.{Blocks};
+ghost use Rattle.udfs_walk.specs.Losses.{doubt_of, fits_64_bits, loss_of};
 ghost use Rattle.udfs_walk.specs.NodeFields.{NodeFields};
+ghost use Rattle.udfs_walk.specs.declared.standings.Standing.{Standing};
 ghost use Rattle.udfs_salvage.specs.Surveys.{survey_by};
-ghost use Rattle.udfs_overview.specs.Tallies.{at_most_128_bits, bytes_of, count_of, is_aside, is_disputed, is_faulty, is_folder, is_left_out, is_loop, is_of, is_other, is_torn, is_unread, only_conflicts, or_zero, tally_with, torn_file, torn_files, torn_part};
+ghost use Rattle.udfs_overview.specs.Tallies.{at_most_128_bits, bytes_of, count_of, is_aside, is_faulty, is_folder, is_left_out, is_loop, is_of, is_other, is_torn, is_unread, or_zero, tally_with, torn_file, torn_files, torn_part};
 ghost use Rattle.udfs_overview.specs.TornFiles.{bytes_in, damaged_in, disputed_in, lost_in, torn_now};
 ghost use Rattle.udfs_salvage.specs.UnnamedExtraction.{is_file};
 
@@ -18,7 +21,7 @@ use udfs_lattice::{BlockStore, GaveUp};
 use udfs_osta::OutOfMemory;
 use udfs_salvage::{Survey, Volume};
 use udfs_space::StoreView;
-use udfs_walk::{Node, Path, Standing, full_standing_by};
+use udfs_walk::{Loss, Losses, Node, Path, Standing};
 
 /// The sorts of nodes that a summary counts.
 #[derive(Clone, Copy, Debug, PartialEq, Eq)]
@@ -206,54 +209,33 @@ pub(crate) struct TornFile<'a> {
     pub disputed: bool,
 }
 
-/// Whether two readings of each of these blocks differ.
-fn only_conflicts<B: BlockStore>(blocks: &B, missing: &[u32]) -> bool
-    ensures { B.tells → result ≡ only_conflicts (B.states blocks.now) missing.now }
-{
-    for block in missing {
-        if !is_in_conflict(blocks, *block) {
-            return false;
-        }
-    }
-    true
-}
-
-/// Whether nothing is missing but blocks in conflict.
-fn is_disputed<B: BlockStore>(blocks: &B, standing: &Standing) -> bool
-    ensures { B.tells → result ≡ is_disputed (B.states blocks.now) standing.now }
-{
-    match standing {
-        Standing::Torn(torn) => only_conflicts(blocks, &torn.missing),
-        _ => false,
-    }
-}
-
-/// What a node with this standing lacks.
-fn torn_part<'a, B: BlockStore>(blocks: &B, node: &'a Node, standing: &Standing) -> TornFile<'a>
-    ensures { B.tells → torn_now result ≡ torn_part (B.states blocks.now) (node_with node.now standing.now) }
+/// What a node lacks, by these numbers, and by whether nothing is missing but blocks in conflict.
+fn torn_part<'a>(node: &'a Node, loss: &Loss, disputed: bool) -> TornFile<'a>
+    ensures { (blocks : Blocks) (s : Standing) (most : ℕ) → loss.now ≡ loss_of most s → disputed ≡ doubt_of blocks s → torn_now result ≡ torn_part blocks (node_with node.now s) }
 {
     TornFile {
         path: &node.path,
         size: node.size.unwrap_or(0),
-        lost: lost_of(standing, node.kind).unwrap_or(0),
-        disputed: is_disputed(blocks, standing),
+        lost: lost_of(loss, node.kind).unwrap_or(0),
+        disputed,
     }
 }
 
 /// What a node lacks that is given without its blocks and holes, if it is a torn file.
 fn torn_in<'a, B: BlockStore>(
     alloc: Global,
-    view: StoreView<'_, B>,
+    losses: &mut Losses<'_, B>,
     node: &'a Node,
 ) -> Result<Option<TornFile<'a>>, GaveUp>
-    ensures value { IfOk result (λ file. B.tells → option_map torn_now file ≡ torn_file (view_by B.states view.entry).blocks (full_node (view_by B.states view.entry) node.now)) }
+    ensures value { IfOk result (λ file. B.tells → option_map torn_now file ≡ torn_file losses.old.view.blocks (full_node losses.old.view node.now)) }
+    ensures view { losses.new ≡ losses.old }
     ensures fails { IsErrOf result GaveUp.Unread → B.fails }
 {
     if !NodeSort::TornFile.has(&node.standing, node.kind) {
         return Ok(None);
     }
-    let full = full_standing_by(alloc, view, node.icb, &node.standing)?;
-    Ok(Some(torn_part(view.blocks, node, &full)))
+    let (loss, disputed) = losses.loss_and_doubt(alloc, node.icb, &node.standing)?;
+    Ok(Some(torn_part(node, &loss, disputed)))
 }
 
 /// The torn files among nodes that are given without their blocks and holes.
@@ -266,9 +248,10 @@ fn full_torn_files<'a, B: BlockStore>(
     ensures value { IfOk result (λ files. B.tells → map torn_now files.items ≡ torn_files (view_by B.states view.entry).blocks (map (full_node (view_by B.states view.entry)) nodes.now)) }
     ensures fails { IsErrOf result GaveUp.Unread → B.fails }
 {
+    let mut losses = Losses::new(alloc, view, 0);
     let mut files = Vec::new(alloc);
     for node in nodes {
-        let found = torn_in(alloc, view, node)?;
+        let found = torn_in(alloc, &mut losses, node)?;
         if let Some(file) = found {
             files.push(file)?;
         }
@@ -276,15 +259,34 @@ fn full_torn_files<'a, B: BlockStore>(
     Ok(files)
 }
 
-/// What a node lacks, if it is a torn file.
-fn torn_file<'a, B: BlockStore>(blocks: &B, node: &'a Node) -> Option<TornFile<'a>>
-    ensures { B.tells → option_map torn_now result ≡ torn_file (B.states blocks.now) node.now }
+/// Whether nothing is missing but blocks in conflict.
+fn is_disputed<B: BlockStore>(blocks: &B, standing: &Standing) -> bool
+    ensures { B.tells → result ≡ doubt_of (B.states blocks.now) standing.now }
 {
-    if NodeSort::TornFile.has(&node.standing, node.kind) {
-        Some(torn_part(blocks, node, &node.standing))
-    } else {
-        None
+    let Standing::Torn(torn) = standing else {
+        return false;
+    };
+    for block in &torn.missing {
+        if !is_in_conflict(blocks, *block) {
+            return false;
+        }
     }
+    true
+}
+
+/// What a node lacks, if it is a torn file.
+fn torn_file<'a, B: BlockStore>(
+    alloc: Global,
+    blocks: &B,
+    node: &'a Node,
+) -> Result<Option<TornFile<'a>>, OutOfMemory>
+    ensures { IfOk result (λ file. B.tells → fits_64_bits node.now.standing → option_map torn_now file ≡ torn_file (B.states blocks.now) node.now) }
+{
+    if !NodeSort::TornFile.has(&node.standing, node.kind) {
+        return Ok(None);
+    }
+    let loss = Loss::listed(alloc, &node.standing, 0)?;
+    Ok(Some(torn_part(node, &loss, is_disputed(blocks, &node.standing))))
 }
 
 /// The torn files among nodes.
@@ -294,18 +296,19 @@ fn torn_files<'a, B: BlockStore>(
     blocks: &B,
     nodes: &'a [Node],
 ) -> Result<Vec<TornFile<'a>>, OutOfMemory>
-    ensures { IfOk result (λ files. B.tells → map torn_now files.items ≡ torn_files (B.states blocks.now) nodes.now) }
+    ensures { IfOk result (λ files. B.tells → All (λ n. fits_64_bits n.standing) nodes.now → map torn_now files.items ≡ torn_files (B.states blocks.now) nodes.now) }
 {
     let mut files = Vec::new(alloc);
     for node in nodes {
-        if let Some(file) = torn_file(blocks, node) {
+        let found = torn_file(alloc, blocks, node)?;
+        if let Some(file) = found {
             files.push(file)?;
         }
     }
     Ok(files)
 }
 
-/// The torn files of the report that a survey represents. The blocks and holes of one node are held at a time.
+/// The torn files of the report that a survey represents. No blocks and holes are listed.
 pub(crate) fn survey_torn<'a, B: BlockStore>(
     alloc: Global,
     survey: &'a Survey<'_, B>,

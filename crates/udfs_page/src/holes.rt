@@ -1,6 +1,6 @@
 //! The lost bytes of a node, and the ends of folders. Each function appends to a text; if memory runs out, a part may be appended.
 
-ghost use Rattle.std.specs.Prelude.{◌≡◌, ◌++◌, OnOk, flat_map, take};
+ghost use Rattle.std.specs.Prelude.{◌≡◌, ◌++◌, OnOk, flat_map, take, List, ℕ, length};
 ghost use Rattle.std.specs.String.{string_bytes};
 ghost use Rattle.udfs_page.specs.Holes.{closings, more_ranges, range_html, ranges_html, shown_ranges};
 
@@ -8,7 +8,7 @@ use crate::markups::{push_figure, push_markup};
 use udfs_osta::OutOfMemory;
 
 /// How many runs of lost bytes are shown of a node.
-const SHOWN_RANGES: usize = 50;
+pub(crate) const SHOWN_RANGES: usize = 50;
 
 /// A run of lost bytes, by its offset and length: its first and its last byte.
 #[tactic(auto, unfolding(crate::specs::Holes::range_html))]
@@ -34,33 +34,27 @@ fn push_all_ranges(text: &mut String, holes: &[(u64, u64)]) -> Result<(), OutOfM
 }
 
 /// How many runs are not shown.
-fn push_more_ranges(text: &mut String, more: usize) -> Result<(), OutOfMemory>
+fn push_more_ranges(text: &mut String, more: u64) -> Result<(), OutOfMemory>
     ensures { OnOk result (string_bytes text.new ≡ string_bytes text.old ++ more_ranges more) }
 {
     if more == 0 {
         return Ok(());
     }
     push_markup(text, " and ")?;
-    push_figure(text, more as u128)?;
+    push_figure(text, u128::from(more))?;
     push_markup(text, " more")
 }
 
-/// The runs that are shown.
-fn first_ranges(holes: &[(u64, u64)]) -> &[(u64, u64)]
-    ensures { result.now ≡ take shown_ranges holes.now }
+/// The first runs of lost bytes, as many as are shown, and how many more of `places` there are.
+pub fn push_ranges(
+    text: &mut String,
+    first: &[(u64, u64)],
+    places: u64,
+) -> Result<(), OutOfMemory>
+    ensures { (holes : List (ℕ × ℕ)) → first.now ≡ take shown_ranges holes → places ≡ length holes → OnOk result (string_bytes text.new ≡ string_bytes text.old ++ ranges_html holes) }
 {
-    if holes.len() <= SHOWN_RANGES {
-        return holes;
-    }
-    &holes[..SHOWN_RANGES]
-}
-
-/// The runs of lost bytes that are shown, and how many more there are.
-pub fn push_ranges(text: &mut String, holes: &[(u64, u64)]) -> Result<(), OutOfMemory>
-    ensures { OnOk result (string_bytes text.new ≡ string_bytes text.old ++ ranges_html holes.now) }
-{
-    push_all_ranges(text, first_ranges(holes))?;
-    push_more_ranges(text, holes.len().saturating_sub(SHOWN_RANGES))
+    push_all_ranges(text, first)?;
+    push_more_ranges(text, places.saturating_sub(SHOWN_RANGES as u64))
 }
 
 /// The ends of `count` folders.

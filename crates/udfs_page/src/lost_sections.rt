@@ -1,10 +1,12 @@
 //! What is lost of a volume: the trees of its lost folders, and its lost files. A function `push_..` appends to a text; if memory runs out, a part may be
 //! appended. A function `put_..` also hands the text to a sink in pieces.
 
-ghost use Rattle.std.specs.Prelude.{◌≡◌, ◌++◌, IsErrOf, OnOk, false, flat_map, map, option_map};
+ghost use Rattle.std.specs.Prelude.{◌≡◌, ◌++◌, IsErrOf, OnOk, false, flat_map, map, option_map, ℕ};
 ghost use Rattle.std.specs.String.{string_bytes};
 ghost use Rattle.udfs_space.specs.Places.{View};
 ghost use Rattle.udfs_space.specs.Views.{view_by};
+ghost use Rattle.udfs_walk.specs.Losses.{loss_of};
+ghost use Rattle.udfs_walk.specs.declared.standings.Standing.{Standing};
 ghost use Rattle.udfs_walk.specs.Bare.{full_entry, full_node, node_with, with_standing};
 ghost use Rattle.udfs_walk.specs.NodeBodies.{has_tail};
 ghost use Rattle.udfs_salvage.specs.Printing.{PassesOn};
@@ -14,6 +16,7 @@ ghost use Rattle.udfs_lost.specs.LostFiles.{lost_files};
 ghost use Rattle.udfs_overview.specs.LostLists.{place_of};
 ghost use Rattle.udfs_overview.specs.Repeating.{given_now};
 ghost use Rattle.udfs_overview.specs.Searched.{looked_in, rootless_now};
+ghost use Rattle.udfs_page.specs.Holes.{shown_ranges};
 ghost use Rattle.udfs_page.specs.LostSections.{file_html, in_html, lost_command, lost_file_html, lost_files_html, lost_from, lost_front, lost_html, lost_in, lost_tree_html, place_html, root_end, root_html, some_files_html};
 ghost use Rattle.udfs_page.specs.NextSteps.{commands_html};
 ghost use Rattle.udfs_page.specs.Trees.{nodes_html};
@@ -21,6 +24,7 @@ ghost use Rattle.udfs_page.specs.Trees.{nodes_html};
 use crate::markups::push_markup;
 use crate::next_steps::push_commands;
 use crate::overviews::push_path;
+use crate::holes::SHOWN_RANGES;
 use crate::trees::{push_class, push_leaf_front, push_note, put_nodes};
 use std::alloc::Global;
 use udfs_lattice::{BlockStore, ReadFault};
@@ -34,7 +38,7 @@ use udfs_salvage::{PrintError, RunError, Survey, Volume, has_two_partitions, pas
 use udfs_space::StoreView;
 use udfs_tag::LbAddr;
 use udfs_volume::Profile;
-use udfs_walk::{Node, Path, Standing, Unnamed, full_standing_by, tail_by};
+use udfs_walk::{Loss, Losses, Node, Path, Unnamed, tail_by};
 
 /// The command that writes what is whole of what is lost, beside the files.
 #[tactic(auto, unfolding(crate::specs::LostSections::lost_command))]
@@ -118,17 +122,17 @@ fn push_root(
     place: Option<&Path>,
     folder: LbAddr,
     node: &Node,
-    standing: &Standing,
+    loss: &Loss,
 ) -> Result<(), OutOfMemory>
-    ensures { OnOk result (string_bytes text.new ≡ string_bytes text.old
-        ++ root_html tail two (option_map (λ path. path.now) place.entry) folder (node_with node.now standing.now)) }
+    ensures { (s : Standing) → loss.now ≡ loss_of shown_ranges s → OnOk result (string_bytes text.new ≡ string_bytes text.old
+        ++ root_html tail two (option_map (λ path. path.now) place.entry) folder (node_with node.now s)) }
 {
     push_markup(text, "<details class=")?;
-    push_class(text, standing)?;
+    push_class(text, &loss.standing)?;
     push_markup(text, "><summary><bdi>")?;
     push_lost_word(text, two, folder)?;
     push_markup(text, "/</bdi>")?;
-    push_note(text, tail, standing, node.kind, node.size)?;
+    push_note(text, tail, loss, node.kind, node.size)?;
     push_in(alloc, text, place)?;
     push_markup(text, "</summary>\n")
 }
@@ -143,12 +147,12 @@ fn put_root_as<W: Sink>(
     place: Option<&Path>,
     folder: LbAddr,
     node: &Node,
-    standing: &Standing,
+    loss: &Loss,
 ) -> Result<(), RunError>
-    ensures { PassesOn (W.stream sink.old) (W.stream sink.new) (string_bytes text.old) (string_bytes text.new)
-        (root_html tail two (option_map (λ path. path.now) place.entry) folder (node_with node.now standing.now)) result }
+    ensures { (s : Standing) → loss.now ≡ loss_of shown_ranges s → PassesOn (W.stream sink.old) (W.stream sink.new) (string_bytes text.old) (string_bytes text.new)
+        (root_html tail two (option_map (λ path. path.now) place.entry) folder (node_with node.now s)) result }
 {
-    push_root(alloc, text, tail, two, place, folder, node, standing)?;
+    push_root(alloc, text, tail, two, place, folder, node, loss)?;
     pass_on(text, sink)
 }
 
@@ -157,23 +161,25 @@ fn put_root<B: BlockStore, W: Sink>(
     alloc: Global,
     text: &mut String,
     sink: &mut W,
-    view: StoreView<'_, B>,
+    losses: &mut Losses<'_, B>,
     two: bool,
     nodes: &[Node],
     folder: LbAddr,
     node: &Node,
 ) -> Result<(), PrintError>
+    requires { losses.old.most ≡ shown_ranges }
     ensures printed { B.tells → PassesOnBy (W.stream sink.old) (W.stream sink.new) (string_bytes text.old) (string_bytes text.new)
-        (root_html (has_tail (view_by B.states view.entry) node.now.icb) two (place_of (view_by B.states view.entry) nodes.now folder) folder (full_node (view_by B.states view.entry) node.now)) result }
+        (root_html (has_tail losses.old.view node.now.icb) two (place_of losses.old.view nodes.now folder) folder (full_node losses.old.view node.now)) result }
+    ensures view { losses.new ≡ losses.old }
     ensures fails { IsErrOf result PrintError.Unread → B.fails }
 {
-    let full = full_standing_by(alloc, view, node.icb, &node.standing)?;
-    let tail = tail_by(alloc, view, node.icb)?;
-    let place = match place_of_by(view, nodes, folder) {
+    let loss = losses.loss(alloc, node.icb, &node.standing)?;
+    let tail = tail_by(alloc, losses.view(), node.icb)?;
+    let place = match place_of_by(losses.view(), nodes, folder) {
         Ok(place) => place,
         Err(ReadFault) => return Err(PrintError::Unread),
     };
-    put_root_as(alloc, text, sink, tail, two, place, folder, node, &full)?;
+    put_root_as(alloc, text, sink, tail, two, place, folder, node, &loss)?;
     Ok(())
 }
 
@@ -192,20 +198,22 @@ fn put_rooted<B: BlockStore, W: Sink>(
     alloc: Global,
     text: &mut String,
     sink: &mut W,
-    view: StoreView<'_, B>,
+    losses: &mut Losses<'_, B>,
     two: bool,
     nodes: &[Node],
     folder: LbAddr,
     node: &Node,
     inside: &[Node],
 ) -> Result<(), PrintError>
+    requires { losses.old.most ≡ shown_ranges }
     ensures printed { B.tells → PassesOnBy (W.stream sink.old) (W.stream sink.new) (string_bytes text.old) (string_bytes text.new)
-        (root_html (has_tail (view_by B.states view.entry) node.now.icb) two (place_of (view_by B.states view.entry) nodes.now folder) folder (full_node (view_by B.states view.entry) node.now)
-        ++ nodes_html (view_by B.states view.entry) (map (full_node (view_by B.states view.entry)) inside.now) ++ root_end (map (full_node (view_by B.states view.entry)) inside.now)) result }
+        (root_html (has_tail losses.old.view node.now.icb) two (place_of losses.old.view nodes.now folder) folder (full_node losses.old.view node.now)
+        ++ nodes_html losses.old.view (map (full_node losses.old.view) inside.now) ++ root_end (map (full_node losses.old.view) inside.now)) result }
+    ensures view { losses.new ≡ losses.old }
     ensures fails { IsErrOf result PrintError.Unread → B.fails }
 {
-    put_root(alloc, text, sink, view, two, nodes, folder, node)?;
-    put_nodes(alloc, text, sink, view, inside)?;
+    put_root(alloc, text, sink, losses, two, nodes, folder, node)?;
+    put_nodes(alloc, text, sink, losses, inside)?;
     push_root_end(text, inside)?;
     Ok(())
 }
@@ -215,13 +223,15 @@ fn put_tree<B: BlockStore, W: Sink>(
     alloc: Global,
     text: &mut String,
     sink: &mut W,
-    view: StoreView<'_, B>,
+    losses: &mut Losses<'_, B>,
     two: bool,
     nodes: &[Node],
     tree: &LostTree,
 ) -> Result<(), PrintError>
+    requires { losses.old.most ≡ shown_ranges }
     ensures printed { B.tells → PassesOnBy (W.stream sink.old) (W.stream sink.new) (string_bytes text.old) (string_bytes text.new)
-        (lost_tree_html (view_by B.states view.entry) two nodes.now tree.now) result }
+        (lost_tree_html losses.old.view two nodes.now tree.now) result }
+    ensures view { losses.new ≡ losses.old }
     ensures fails { IsErrOf result PrintError.Unread → B.fails }
 {
     match tree.nodes.split_first() {
@@ -230,7 +240,7 @@ fn put_tree<B: BlockStore, W: Sink>(
             alloc,
             text,
             sink,
-            view,
+            losses,
             two,
             nodes,
             tree.folder,
@@ -245,17 +255,19 @@ fn put_trees<B: BlockStore, W: Sink>(
     alloc: Global,
     text: &mut String,
     sink: &mut W,
-    view: StoreView<'_, B>,
+    losses: &mut Losses<'_, B>,
     two: bool,
     nodes: &[Node],
     trees: &[LostTree],
 ) -> Result<(), PrintError>
+    requires { losses.old.most ≡ shown_ranges }
     ensures printed { B.tells → PassesOnBy (W.stream sink.old) (W.stream sink.new) (string_bytes text.old) (string_bytes text.new)
-        (flat_map (lost_tree_html (view_by B.states view.entry) two nodes.now) trees.now) result }
+        (flat_map (lost_tree_html losses.old.view two nodes.now) trees.now) result }
+    ensures view { losses.new ≡ losses.old }
     ensures fails { IsErrOf result PrintError.Unread → B.fails }
 {
     for tree in trees {
-        put_tree(alloc, text, sink, view, two, nodes, tree)?;
+        put_tree(alloc, text, sink, losses, two, nodes, tree)?;
     }
     Ok(())
 }
@@ -267,15 +279,15 @@ fn push_file(
     tail: bool,
     two: bool,
     file: &Unnamed,
-    standing: &Standing,
+    loss: &Loss,
 ) -> Result<(), OutOfMemory>
-    ensures { OnOk result (string_bytes text.new ≡ string_bytes text.old ++ file_html tail two (with_standing file.now standing.now)) }
+    ensures { (s : Standing) → loss.now ≡ loss_of shown_ranges s → OnOk result (string_bytes text.new ≡ string_bytes text.old ++ file_html tail two (with_standing file.now s)) }
 {
-    push_leaf_front(text, standing)?;
+    push_leaf_front(text, &loss.standing)?;
     push_markup(text, "<bdi>")?;
     push_lost_word(text, two, file.address())?;
     push_markup(text, "</bdi>")?;
-    push_note(text, tail, standing, file.kind, Some(file.size))?;
+    push_note(text, tail, loss, file.kind, Some(file.size))?;
     push_markup(text, "</div>\n")
 }
 
@@ -286,12 +298,12 @@ fn put_file_as<W: Sink>(
     tail: bool,
     two: bool,
     file: &Unnamed,
-    standing: &Standing,
+    loss: &Loss,
 ) -> Result<(), RunError>
-    ensures { PassesOn (W.stream sink.old) (W.stream sink.new) (string_bytes text.old) (string_bytes text.new)
-        (file_html tail two (with_standing file.now standing.now)) result }
+    ensures { (s : Standing) → loss.now ≡ loss_of shown_ranges s → PassesOn (W.stream sink.old) (W.stream sink.new) (string_bytes text.old) (string_bytes text.new)
+        (file_html tail two (with_standing file.now s)) result }
 {
-    push_file(text, tail, two, file, standing)?;
+    push_file(text, tail, two, file, loss)?;
     pass_on(text, sink)
 }
 
@@ -300,17 +312,19 @@ fn put_file<B: BlockStore, W: Sink>(
     alloc: Global,
     text: &mut String,
     sink: &mut W,
-    view: StoreView<'_, B>,
+    losses: &mut Losses<'_, B>,
     two: bool,
     file: &Unnamed,
 ) -> Result<(), PrintError>
+    requires { losses.old.most ≡ shown_ranges }
     ensures printed { B.tells → PassesOnBy (W.stream sink.old) (W.stream sink.new) (string_bytes text.old) (string_bytes text.new)
-        (lost_file_html (view_by B.states view.entry) two (full_entry (view_by B.states view.entry) file.now)) result }
+        (lost_file_html losses.old.view two (full_entry losses.old.view file.now)) result }
+    ensures view { losses.new ≡ losses.old }
     ensures fails { IsErrOf result PrintError.Unread → B.fails }
 {
-    let full = full_standing_by(alloc, view, file.icb(), &file.standing)?;
-    let tail = tail_by(alloc, view, file.icb())?;
-    put_file_as(text, sink, tail, two, file, &full)?;
+    let loss = losses.loss(alloc, file.icb(), &file.standing)?;
+    let tail = tail_by(alloc, losses.view(), file.icb())?;
+    put_file_as(text, sink, tail, two, file, &loss)?;
     Ok(())
 }
 
@@ -319,16 +333,18 @@ fn put_each<B: BlockStore, W: Sink>(
     alloc: Global,
     text: &mut String,
     sink: &mut W,
-    view: StoreView<'_, B>,
+    losses: &mut Losses<'_, B>,
     two: bool,
     files: &[&Unnamed],
 ) -> Result<(), PrintError>
+    requires { losses.old.most ≡ shown_ranges }
     ensures printed { B.tells → PassesOnBy (W.stream sink.old) (W.stream sink.new) (string_bytes text.old) (string_bytes text.new)
-        (flat_map (lost_file_html (view_by B.states view.entry) two) (map (λ file. full_entry (view_by B.states view.entry) file.now) files.now)) result }
+        (flat_map (lost_file_html losses.old.view two) (map (λ file. full_entry losses.old.view file.now) files.now)) result }
+    ensures view { losses.new ≡ losses.old }
     ensures fails { IsErrOf result PrintError.Unread → B.fails }
 {
     for file in files {
-        put_file(alloc, text, sink, view, two, file)?;
+        put_file(alloc, text, sink, losses, two, file)?;
     }
     Ok(())
 }
@@ -338,19 +354,21 @@ fn put_some<B: BlockStore, W: Sink>(
     alloc: Global,
     text: &mut String,
     sink: &mut W,
-    view: StoreView<'_, B>,
+    losses: &mut Losses<'_, B>,
     two: bool,
     files: &[&Unnamed],
 ) -> Result<(), PrintError>
+    requires { losses.old.most ≡ shown_ranges }
     ensures printed { B.tells → PassesOnBy (W.stream sink.old) (W.stream sink.new) (string_bytes text.old) (string_bytes text.new)
-        (some_files_html (view_by B.states view.entry) two (map (λ file. full_entry (view_by B.states view.entry) file.now) files.now)) result }
+        (some_files_html losses.old.view two (map (λ file. full_entry losses.old.view file.now) files.now)) result }
+    ensures view { losses.new ≡ losses.old }
     ensures fails { IsErrOf result PrintError.Unread → B.fails }
 {
     push_markup(
         text,
         "<details class=w><summary>Files without a folder</summary>\n",
     )?;
-    put_each(alloc, text, sink, view, two, files)?;
+    put_each(alloc, text, sink, losses, two, files)?;
     push_markup(text, "</details>\n")?;
     Ok(())
 }
@@ -360,18 +378,20 @@ fn put_files<B: BlockStore, W: Sink>(
     alloc: Global,
     text: &mut String,
     sink: &mut W,
-    view: StoreView<'_, B>,
+    losses: &mut Losses<'_, B>,
     two: bool,
     files: &[&Unnamed],
 ) -> Result<(), PrintError>
+    requires { losses.old.most ≡ shown_ranges }
     ensures printed { B.tells → PassesOnBy (W.stream sink.old) (W.stream sink.new) (string_bytes text.old) (string_bytes text.new)
-        (lost_files_html (view_by B.states view.entry) two (map (λ file. full_entry (view_by B.states view.entry) file.now) files.now)) result }
+        (lost_files_html losses.old.view two (map (λ file. full_entry losses.old.view file.now) files.now)) result }
+    ensures view { losses.new ≡ losses.old }
     ensures fails { IsErrOf result PrintError.Unread → B.fails }
 {
     if files.is_empty() {
         return Ok(());
     }
-    put_some(alloc, text, sink, view, two, files)
+    put_some(alloc, text, sink, losses, two, files)
 }
 
 /// The lost files among entries that no name leads to, which these trees do not name.
@@ -379,17 +399,19 @@ fn put_lost_files<B: BlockStore, W: Sink>(
     alloc: Global,
     text: &mut String,
     sink: &mut W,
-    view: StoreView<'_, B>,
+    losses: &mut Losses<'_, B>,
     two: bool,
     entries: &[Unnamed],
     trees: &[LostTree],
 ) -> Result<(), PrintError>
+    requires { losses.old.most ≡ shown_ranges }
     ensures printed { B.tells → PassesOnBy (W.stream sink.old) (W.stream sink.new) (string_bytes text.old) (string_bytes text.new)
-        (lost_files_html (view_by B.states view.entry) two (lost_files (view_by B.states view.entry) false trees.now (map (full_entry (view_by B.states view.entry)) entries.now))) result }
+        (lost_files_html losses.old.view two (lost_files losses.old.view false trees.now (map (full_entry losses.old.view) entries.now))) result }
+    ensures view { losses.new ≡ losses.old }
     ensures fails { IsErrOf result PrintError.Unread → B.fails }
 {
-    let files = lost_files_by(alloc, view, false, trees, entries)?;
-    put_files(alloc, text, sink, view, two, &files)
+    let files = lost_files_by(alloc, losses.view(), false, trees, entries)?;
+    put_files(alloc, text, sink, losses, two, &files)
 }
 
 /// What is lost among entries that no name leads to, of a volume that has these nodes.
@@ -407,8 +429,9 @@ fn put_lost_in<B: BlockStore, W: Sink>(
         (lost_in (view_by B.states view.entry) two nodes.now (map (full_entry (view_by B.states view.entry)) entries.now) trees.now) result }
     ensures fails { IsErrOf result PrintError.Unread → B.fails }
 {
-    put_trees(alloc, text, sink, view, two, nodes, trees)?;
-    put_lost_files(alloc, text, sink, view, two, entries, trees)
+    let mut losses = Losses::new(alloc, view, SHOWN_RANGES);
+    put_trees(alloc, text, sink, &mut losses, two, nodes, trees)?;
+    put_lost_files(alloc, text, sink, &mut losses, two, entries, trees)
 }
 
 /// What is lost of a volume that does not open.

@@ -1,18 +1,21 @@
 //! The files and folders, each inside its folder. A function `push_..` appends to a text; if memory runs out, a part may be appended. A function `put_..`
 //! also hands the text to a sink in pieces.
 
-ghost use Rattle.std.specs.Prelude.{◌≡◌, ◌++◌, ◌-◌, ℕ, List, IsErrOf, OnOk, drop, length, map};
+ghost use Rattle.std.specs.Prelude.{◌≡◌, ◌++◌, ◌-◌, ℕ, List, IsErrOf, OnOk, drop, length, map, take};
 ghost use Rattle.std.specs.String.{string_bytes};
 ghost use Rattle.udfs_space.specs.Views.{view_by};
+ghost use Rattle.udfs_walk.specs.Losses.{loss_of};
+ghost use Rattle.udfs_walk.specs.declared.standings.Standing.{Standing};
 ghost use Rattle.udfs_walk.specs.Bare.{full_node, node_with};
 ghost use Rattle.udfs_walk.specs.NodeFields.{NodeFields};
 ghost use Rattle.udfs_salvage.specs.Printing.{PassesOn};
 ghost use Rattle.udfs_salvage.specs.StorePrinting.{PassesOnBy};
+ghost use Rattle.udfs_page.specs.Holes.{shown_ranges};
 ghost use Rattle.udfs_page.specs.Markups.{markup, shown_name};
 ghost use Rattle.udfs_page.specs.Nestings.{IsStepwise, open_after};
 ghost use Rattle.udfs_page.specs.Trees.{class_of, details_front, fault_html, first_depth, folder_front, folder_html, kind_html, known_lost, leaf_front, leaf_html, lost_html, node_html, node_in, nodes_html, note_html, other_html, own_name, size_html, standing_html, tail_html, told_html, tree_html};
 
-use crate::holes::{push_closings, push_ranges};
+use crate::holes::{SHOWN_RANGES, push_closings, push_ranges};
 use crate::markups::{push_figure, push_markup, push_shown};
 use std::alloc::Global;
 use udfs_file::{Kind, NodeFault};
@@ -22,7 +25,7 @@ use udfs_overview::{lost_of, push_safe_name, push_size};
 use udfs_reading::Sink;
 use udfs_salvage::{PrintError, RunError, pass_on};
 use udfs_space::StoreView;
-use udfs_walk::{Node, Path, Standing, full_standing_by, tail_by};
+use udfs_walk::{Loss, Losses, Node, Path, Standing, tail_by};
 
 /// How whole a node is, as the style knows it.
 pub(crate) fn push_class(text: &mut String, standing: &Standing) -> Result<(), OutOfMemory>
@@ -87,22 +90,32 @@ fn push_kind(text: &mut String, kind: Kind, size: Option<u64>) -> Result<(), Out
 }
 
 /// How many bytes are lost, and where.
-fn push_known_lost(text: &mut String, lost: u128, holes: &[(u64, u64)]) -> Result<(), OutOfMemory>
-    ensures { OnOk result (string_bytes text.new ≡ string_bytes text.old ++ known_lost lost holes.now) }
+fn push_known_lost(
+    text: &mut String,
+    lost: u128,
+    first: &[(u64, u64)],
+    places: u64,
+) -> Result<(), OutOfMemory>
+    ensures { (holes : List (ℕ × ℕ)) → first.now ≡ take shown_ranges holes → places ≡ length holes → OnOk result (string_bytes text.new ≡ string_bytes text.old ++ known_lost lost holes) }
 {
     push_markup(text, ", torn: ")?;
     push_size(lost, text)?;
     push_markup(text, " lost, bytes")?;
-    push_ranges(text, holes)
+    push_ranges(text, first, places)
 }
 
 /// What is lost of a torn node, and where.
-fn push_lost(text: &mut String, lost: Option<u128>, holes: &[(u64, u64)]) -> Result<(), OutOfMemory>
-    ensures { OnOk result (string_bytes text.new ≡ string_bytes text.old ++ lost_html lost holes.now) }
+fn push_lost(
+    text: &mut String,
+    lost: Option<u128>,
+    first: &[(u64, u64)],
+    places: u64,
+) -> Result<(), OutOfMemory>
+    ensures { (holes : List (ℕ × ℕ)) → first.now ≡ take shown_ranges holes → places ≡ length holes → OnOk result (string_bytes text.new ≡ string_bytes text.old ++ lost_html lost holes) }
 {
     match lost {
         None => Ok(()),
-        Some(bytes) => push_known_lost(text, bytes, holes),
+        Some(bytes) => push_known_lost(text, bytes, first, places),
     }
 }
 
@@ -115,15 +128,14 @@ fn push_fault(text: &mut String, fault: NodeFault) -> Result<(), OutOfMemory>
 }
 
 /// How whole a node is.
-fn push_standing(text: &mut String, standing: &Standing, kind: Kind) -> Result<(), OutOfMemory>
-    ensures { OnOk result (string_bytes text.new ≡ string_bytes text.old ++ standing_html standing.now kind) }
+fn push_standing(text: &mut String, loss: &Loss, kind: Kind) -> Result<(), OutOfMemory>
+    ensures { (s : Standing) → loss.now ≡ loss_of shown_ranges s → OnOk result (string_bytes text.new ≡ string_bytes text.old ++ standing_html s kind) }
 {
-    let lost = lost_of(standing, kind);
-    match standing {
+    match loss.standing {
         Standing::Whole => Ok(()),
-        Standing::Torn(torn) => push_lost(text, lost, &torn.holes),
+        Standing::Torn(_) => push_lost(text, lost_of(loss, kind), &loss.first, loss.places),
         Standing::Loop => push_markup(text, ", a loop: it is inside itself"),
-        Standing::Fault(fault) => push_fault(text, *fault),
+        Standing::Fault(fault) => push_fault(text, fault),
     }
 }
 
@@ -145,16 +157,16 @@ fn push_tail(text: &mut String, tail: bool) -> Result<(), OutOfMemory>
 pub(crate) fn push_note(
     text: &mut String,
     tail: bool,
-    standing: &Standing,
+    loss: &Loss,
     kind: Kind,
     size: Option<u64>,
 ) -> Result<(), OutOfMemory>
-    ensures { OnOk result (string_bytes text.new ≡ string_bytes text.old ++ note_html tail standing.now kind size) }
+    ensures { (s : Standing) → loss.now ≡ loss_of shown_ranges s → OnOk result (string_bytes text.new ≡ string_bytes text.old ++ note_html tail s kind size) }
 {
     push_markup(text, "<small>")?;
     push_kind(text, kind, size)?;
     push_tail(text, tail)?;
-    push_standing(text, standing, kind)?;
+    push_standing(text, loss, kind)?;
     push_markup(text, "</small>")
 }
 
@@ -165,12 +177,12 @@ fn push_told(
     text: &mut String,
     tail: bool,
     node: &Node,
-    standing: &Standing,
+    loss: &Loss,
 ) -> Result<(), OutOfMemory>
-    ensures { OnOk result (string_bytes text.new ≡ string_bytes text.old ++ told_html tail (node_with node.now standing.now)) }
+    ensures { (s : Standing) → loss.now ≡ loss_of shown_ranges s → OnOk result (string_bytes text.new ≡ string_bytes text.old ++ told_html tail (node_with node.now s)) }
 {
     push_name(alloc, text, &node.path)?;
-    push_note(text, tail, standing, node.kind, node.size)
+    push_note(text, tail, loss, node.kind, node.size)
 }
 
 /// What a folder begins with: that of the root is open.
@@ -206,12 +218,12 @@ fn push_folder(
     text: &mut String,
     tail: bool,
     node: &Node,
-    standing: &Standing,
+    loss: &Loss,
 ) -> Result<(), OutOfMemory>
-    ensures { OnOk result (string_bytes text.new ≡ string_bytes text.old ++ folder_html tail (node_with node.now standing.now)) }
+    ensures { (s : Standing) → loss.now ≡ loss_of shown_ranges s → OnOk result (string_bytes text.new ≡ string_bytes text.old ++ folder_html tail (node_with node.now s)) }
 {
-    push_folder_front(text, node, standing)?;
-    push_told(alloc, text, tail, node, standing)?;
+    push_folder_front(text, node, &loss.standing)?;
+    push_told(alloc, text, tail, node, loss)?;
     push_markup(text, "</summary>\n")
 }
 
@@ -230,13 +242,13 @@ fn push_leaf(
     text: &mut String,
     tail: bool,
     node: &Node,
-    standing: &Standing,
+    loss: &Loss,
     ended: usize,
 ) -> Result<(), OutOfMemory>
-    ensures { OnOk result (string_bytes text.new ≡ string_bytes text.old ++ leaf_html tail (node_with node.now standing.now) ended) }
+    ensures { (s : Standing) → loss.now ≡ loss_of shown_ranges s → OnOk result (string_bytes text.new ≡ string_bytes text.old ++ leaf_html tail (node_with node.now s) ended) }
 {
-    push_leaf_front(text, standing)?;
-    push_told(alloc, text, tail, node, standing)?;
+    push_leaf_front(text, &loss.standing)?;
+    push_told(alloc, text, tail, node, loss)?;
     push_markup(text, "</div>\n")?;
     push_closings(text, ended)
 }
@@ -248,16 +260,16 @@ fn push_node(
     text: &mut String,
     tail: bool,
     node: &Node,
-    standing: &Standing,
+    loss: &Loss,
     next: usize,
 ) -> Result<(), OutOfMemory>
-    ensures { OnOk result (string_bytes text.new ≡ string_bytes text.old ++ node_html tail (node_with node.now standing.now) next) }
+    ensures { (s : Standing) → loss.now ≡ loss_of shown_ranges s → OnOk result (string_bytes text.new ≡ string_bytes text.old ++ node_html tail (node_with node.now s) next) }
 {
     let depth = node.path.len();
     if depth < next {
-        push_folder(alloc, text, tail, node, standing)
+        push_folder(alloc, text, tail, node, loss)
     } else {
-        push_leaf(alloc, text, tail, node, standing, depth - next)
+        push_leaf(alloc, text, tail, node, loss, depth - next)
     }
 }
 
@@ -278,13 +290,13 @@ fn put_node<W: Sink>(
     sink: &mut W,
     tail: bool,
     node: &Node,
-    standing: &Standing,
+    loss: &Loss,
     next: usize,
 ) -> Result<(), RunError>
-    ensures { PassesOn (W.stream sink.old) (W.stream sink.new) (string_bytes text.old) (string_bytes text.new)
-        (node_html tail (node_with node.now standing.now) next) result }
+    ensures { (s : Standing) → loss.now ≡ loss_of shown_ranges s → PassesOn (W.stream sink.old) (W.stream sink.new) (string_bytes text.old) (string_bytes text.new)
+        (node_html tail (node_with node.now s) next) result }
 {
-    push_node(alloc, text, tail, node, standing, next)?;
+    push_node(alloc, text, tail, node, loss, next)?;
     pass_on(text, sink)
 }
 
@@ -293,36 +305,41 @@ fn put_full_node<B: BlockStore, W: Sink>(
     alloc: Global,
     text: &mut String,
     sink: &mut W,
-    view: StoreView<'_, B>,
+    losses: &mut Losses<'_, B>,
     node: &Node,
     next: usize,
 ) -> Result<(), PrintError>
+    requires { losses.old.most ≡ shown_ranges }
     ensures printed { B.tells → PassesOnBy (W.stream sink.old) (W.stream sink.new) (string_bytes text.old) (string_bytes text.new)
-        (node_in (view_by B.states view.entry) (full_node (view_by B.states view.entry) node.now, next)) result }
+        (node_in losses.old.view (full_node losses.old.view node.now, next)) result }
+    ensures view { losses.new ≡ losses.old }
     ensures fails { IsErrOf result PrintError.Unread → B.fails }
 {
-    let full = full_standing_by(alloc, view, node.icb, &node.standing)?;
-    let tail = tail_by(alloc, view, node.icb)?;
-    put_node(alloc, text, sink, tail, node, &full, next)?;
+    let loss = losses.loss(alloc, node.icb, &node.standing)?;
+    let tail = tail_by(alloc, losses.view(), node.icb)?;
+    put_node(alloc, text, sink, tail, node, &loss, next)?;
     Ok(())
 }
 
-/// Nodes that are given without their blocks and holes. Those of one node are held at a time, and no more text than one piece and that of one node.
+/// Nodes that are given without their blocks and holes. What one lacks is found once for all its names, as far as there is room, and no more text is held than one piece and that
+/// of one node.
 pub(crate) fn put_nodes<B: BlockStore, W: Sink>(
     alloc: Global,
     text: &mut String,
     sink: &mut W,
-    view: StoreView<'_, B>,
+    losses: &mut Losses<'_, B>,
     nodes: &[Node],
 ) -> Result<(), PrintError>
+    requires { losses.old.most ≡ shown_ranges }
     ensures printed { B.tells → PassesOnBy (W.stream sink.old) (W.stream sink.new) (string_bytes text.old) (string_bytes text.new)
-        (nodes_html (view_by B.states view.entry) (map (full_node (view_by B.states view.entry)) nodes.now)) result }
+        (nodes_html losses.old.view (map (full_node losses.old.view) nodes.now)) result }
+    ensures view { losses.new ≡ losses.old }
     ensures fails { IsErrOf result PrintError.Unread → B.fails }
 {
     let count = nodes.len();
     for index in 0..count {
         let next = depth_at(nodes, index + 1);
-        put_full_node(alloc, text, sink, view, &nodes[index], next)?;
+        put_full_node(alloc, text, sink, losses, &nodes[index], next)?;
     }
     Ok(())
 }
@@ -340,7 +357,8 @@ pub(crate) fn put_tree<B: BlockStore, W: Sink>(
     ensures fails { IsErrOf result PrintError.Unread → B.fails }
 {
     push_markup(text, "<h2>All files</h2>\n")?;
-    put_nodes(alloc, text, sink, view, nodes)
+    let mut losses = Losses::new(alloc, view, SHOWN_RANGES);
+    put_nodes(alloc, text, sink, &mut losses, nodes)
 }
 
 /// If the first node is the root and no node is more than one folder deeper than the one before it, then each node is inside as many folders

@@ -7,19 +7,23 @@ ghost use Rattle.serde_json.specs.Written.{compact_text, has_float};
 ghost use Rattle.udfs_salvage.specs.Printing.{PassesOn};
 ghost use Rattle.udfs_salvage.specs.JsonNodes.{count, hole_data, list_data};
 ghost use Rattle.udfs_salvage.specs.JsonPieces.{kind_piece, more_values, told_piece};
+ghost use Rattle.udfs_walk.specs.Bare.{lists_of};
+ghost use Rattle.udfs_walk.specs.declared.standings.Standing.{Standing};
 ghost use Rattle.udfs_salvage.specs.JsonReports.{reread_data};
+ghost use Rattle.udfs_salvage.specs.KeptLists.{lacks_lists};
 
 use crate::errors::RunError;
 use crate::json_nodes::hole_value;
 use crate::json_pieces::{push_count, push_kind, push_value};
 use crate::json_reports::reread_value;
+use crate::kept_lists::Lacks;
 use crate::printing::pass_on;
 use serde_json::Value;
 use std::alloc::Global;
 use udfs_file::Kind;
 use udfs_lattice::BlockStore;
 use udfs_reading::Sink;
-use udfs_walk::Standing;
+use udfs_walk::{Extents, Holes};
 
 /// A text between values.
 pub(crate) fn put_words<W: Sink>(
@@ -219,18 +223,74 @@ fn put_lists<W: Sink>(
     put_counts(alloc, text, sink, missing)
 }
 
-/// The holes, the kind, and the missing blocks, by the standing: the lists are empty where it is not torn.
-pub(crate) fn put_told<W: Sink>(
+/// Further holes, each after a comma.
+fn put_more_found<B: BlockStore, W: Sink>(
     alloc: Global,
     text: &mut String,
     sink: &mut W,
-    standing: &Standing,
+    holes: Holes<'_, B>,
+) -> Result<(), RunError>
+    ensures { B.tells → PassesOn (W.stream sink.old) (W.stream sink.new) (string_bytes text.old) (string_bytes text.new) (more_values hole_data holes.entry) result }
+{
+    let mut left = holes;
+    'holes: while let Some(hole) = left.next() {
+        put_hole(alloc, text, sink, ",", hole)?;
+    }
+    Ok(())
+}
+
+/// The holes that are left as a list.
+fn put_found_holes<B: BlockStore, W: Sink>(
+    alloc: Global,
+    text: &mut String,
+    sink: &mut W,
+    holes: Holes<'_, B>,
+) -> Result<(), RunError>
+    ensures { B.tells → PassesOn (W.stream sink.old) (W.stream sink.new) (string_bytes text.old) (string_bytes text.new) (compact_text (list_data hole_data holes.entry)) result }
+{
+    let mut left = holes;
+    let Some(first) = left.next() else {
+        return put_words(text, sink, "[]");
+    };
+    put_hole(alloc, text, sink, "[", first)?;
+    put_more_found(alloc, text, sink, left)?;
+    put_words(text, sink, "]")
+}
+
+/// These holes, the kind, and these missing blocks.
+fn put_found<B: BlockStore, W: Sink>(
+    alloc: Global,
+    text: &mut String,
+    sink: &mut W,
+    holes: Holes<'_, B>,
+    kind: Kind,
+    missing: &[u32],
+) -> Result<(), RunError>
+    ensures { B.tells → PassesOn (W.stream sink.old) (W.stream sink.new) (string_bytes text.old) (string_bytes text.new)
+        (compact_text (list_data hole_data holes.entry) ++ (kind_piece kind ++ compact_text (list_data count missing.now))) result }
+{
+    put_found_holes(alloc, text, sink, holes)?;
+    put_kind(alloc, text, sink, kind)?;
+    put_counts(alloc, text, sink, missing)
+}
+
+/// The holes, the kind, and the missing blocks of what a node lacks.
+pub(crate) fn put_lacks<B: BlockStore, W: Sink>(
+    alloc: Global,
+    text: &mut String,
+    sink: &mut W,
+    extents: &Extents<'_, B>,
+    lacks: &Lacks,
     kind: Kind,
 ) -> Result<(), RunError>
-    ensures { PassesOn (W.stream sink.old) (W.stream sink.new) (string_bytes text.old) (string_bytes text.new) (told_piece standing.now kind) result }
+    ensures { B.tells → (standing : Standing) → lists_of standing ≡ lacks_lists extents.now lacks.now
+        → PassesOn (W.stream sink.old) (W.stream sink.new) (string_bytes text.old) (string_bytes text.new) (told_piece standing kind) result }
 {
-    match standing {
-        Standing::Torn(torn) => put_lists(alloc, text, sink, &torn.holes, kind, &torn.missing),
-        _ => put_lists(alloc, text, sink, &[], kind, &[]),
+    match lacks {
+        Lacks::Listed(torn) => put_lists(alloc, text, sink, &torn.holes, kind, &torn.missing),
+        Lacks::Long(blocks, lacking) => {
+            let holes = lacking.holes(extents);
+            put_found(alloc, text, sink, holes, kind, blocks)
+        }
     }
 }

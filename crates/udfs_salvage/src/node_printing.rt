@@ -1,21 +1,21 @@
 //! Nodes are printed, and entries that no name leads to.
 
-ghost use Rattle.std.specs.Prelude.{◌++◌, IfOk, IsErrOf, map};
+ghost use Rattle.std.specs.Prelude.{◌≡◌, ◌++◌, IsErrOf, map};
 ghost use Rattle.udfs_space.specs.Views.{view_by};
 ghost use Rattle.udfs_walk.specs.Bare.{full_entry, full_node, lists_at, with_lists};
 ghost use Rattle.udfs_reading.specs.Puts.{Puts};
-ghost use Rattle.udfs_salvage.specs.KeptLists.{AreKeptLists};
+ghost use Rattle.udfs_salvage.specs.KeptLists.{lacks_lists};
 ghost use Rattle.udfs_salvage.specs.Printing.{PutsMost};
 ghost use Rattle.udfs_salvage.specs.NodeTexts.{gap_lines, hole_lines, missing_lines, node_text, nodes_text, unnamed_text, unnamed_texts};
 
-use crate::kept_lists::KeptLists;
+use crate::kept_lists::{KeptLists, Lacks};
 use crate::node_lines::{put_hole, put_missing, put_node_line, put_unnamed_line};
 use std::alloc::Global;
 use udfs_lattice::{BlockStore, GaveUp};
 use udfs_reading::{Printer, Sink};
 use udfs_space::StoreView;
 use udfs_tag::LongAd;
-use udfs_walk::{Node, Standing, Unnamed, full_standing_by};
+use udfs_walk::{Extents, Holes, Node, Standing, Unnamed};
 
 /// The lines of missing blocks.
 fn put_missings<W: Sink>(out: &mut Printer, sink: &mut W, blocks: &[u32])
@@ -93,23 +93,56 @@ pub(crate) fn put_all_unnamed<W: Sink>(
     }
 }
 
+/// The lines of the holes that are left. They are not gone through where the sink has failed.
+fn put_found_holes<B: BlockStore, W: Sink>(out: &mut Printer, sink: &mut W, holes: Holes<'_, B>)
+    ensures { B.tells → Puts (W.stream sink.old) (W.stream sink.new) out.old out.new (hole_lines holes.entry) }
+{
+    let mut left = holes;
+    'holes: while let Some(hole) = left.next() {
+        if out.has_failed() {
+            return;
+        }
+        put_hole(out, sink, hole);
+    }
+}
+
+/// The lines of what a node lacks.
+fn put_lacks<B: BlockStore, W: Sink>(
+    out: &mut Printer,
+    sink: &mut W,
+    extents: &Extents<'_, B>,
+    lacks: &Lacks,
+)
+    ensures { B.tells → Puts (W.stream sink.old) (W.stream sink.new) out.old out.new
+        (missing_lines (lacks_lists extents.now lacks.now).missing ++ hole_lines (lacks_lists extents.now lacks.now).holes) }
+{
+    match lacks {
+        Lacks::Listed(torn) => put_torn(out, sink, &torn.missing, &torn.holes),
+        Lacks::Long(blocks, lacking) => {
+            put_missings(out, sink, blocks);
+            put_found_holes(out, sink, lacking.holes(extents));
+        }
+    }
+}
+
 /// The lines of what is missing of the body at an address, if anything is. Where the sink has failed, it is not looked for.
-fn put_full_gaps<B: BlockStore, W: Sink>(
+fn put_once_gaps<B: BlockStore, W: Sink>(
     alloc: Global,
     out: &mut Printer,
     sink: &mut W,
-    view: StoreView<'_, B>,
+    kept: &mut KeptLists<'_, B>,
     address: LongAd,
     standing: &Standing,
 ) -> Result<(), GaveUp>
-    ensures text { B.tells → PutsMost (W.stream sink.old) (W.stream sink.new) out.old out.new (gap_lines (with_lists (lists_at (view_by B.states view.entry) address) standing.now)) result }
+    ensures text { B.tells → PutsMost (W.stream sink.old) (W.stream sink.new) out.old out.new (gap_lines (with_lists (lists_at kept.old address) standing.now)) result }
+    ensures view { kept.new ≡ kept.old }
     ensures fails { IsErrOf result GaveUp.Unread → B.fails }
 {
     if out.has_failed() {
         return Ok(());
     }
-    let full = full_standing_by(alloc, view, address, standing)?;
-    put_gaps(out, sink, &full);
+    let lacks = kept.lacks_once(alloc, address, standing)?;
+    put_lacks(out, sink, kept.extents(), &lacks);
     Ok(())
 }
 
@@ -119,21 +152,19 @@ fn put_kept_gaps<B: BlockStore, W: Sink>(
     alloc: Global,
     out: &mut Printer,
     sink: &mut W,
-    view: StoreView<'_, B>,
-    kept: &mut KeptLists,
+    kept: &mut KeptLists<'_, B>,
     address: LongAd,
     standing: &Standing,
 ) -> Result<(), GaveUp>
-    requires { B.tells → AreKeptLists (view_by B.states view) kept.old.lists }
-    ensures text { B.tells → PutsMost (W.stream sink.old) (W.stream sink.new) out.old out.new (gap_lines (with_lists (lists_at (view_by B.states view.entry) address) standing.now)) result }
-    ensures lists { IfOk result (λ done. B.tells → AreKeptLists (view_by B.states view.entry) kept.new.lists) }
+    ensures text { B.tells → PutsMost (W.stream sink.old) (W.stream sink.new) out.old out.new (gap_lines (with_lists (lists_at kept.old address) standing.now)) result }
+    ensures view { kept.new ≡ kept.old }
     ensures fails { IsErrOf result GaveUp.Unread → B.fails }
 {
     if out.has_failed() {
         return Ok(());
     }
-    let full = kept.full_standing(alloc, view, address, standing)?;
-    put_gaps(out, sink, &full);
+    let lacks = kept.lacks(alloc, address, standing)?;
+    put_lacks(out, sink, kept.extents(), &lacks);
     Ok(())
 }
 
@@ -142,18 +173,16 @@ fn put_full_node<B: BlockStore, W: Sink>(
     alloc: Global,
     out: &mut Printer,
     sink: &mut W,
-    view: StoreView<'_, B>,
-    kept: &mut KeptLists,
+    kept: &mut KeptLists<'_, B>,
     number: usize,
     node: &Node,
 ) -> Result<(), GaveUp>
-    requires { B.tells → AreKeptLists (view_by B.states view) kept.old.lists }
-    ensures text { B.tells → PutsMost (W.stream sink.old) (W.stream sink.new) out.old out.new (node_text number (full_node (view_by B.states view.entry) node.now)) result }
-    ensures lists { IfOk result (λ done. B.tells → AreKeptLists (view_by B.states view.entry) kept.new.lists) }
+    ensures text { B.tells → PutsMost (W.stream sink.old) (W.stream sink.new) out.old out.new (node_text number (full_node kept.old node.now)) result }
+    ensures view { kept.new ≡ kept.old }
     ensures fails { IsErrOf result GaveUp.Unread → B.fails }
 {
     put_node_line(out, sink, number, node);
-    put_kept_gaps(alloc, out, sink, view, kept, node.icb, &node.standing)
+    put_kept_gaps(alloc, out, sink, kept, node.icb, &node.standing)
 }
 
 /// The lines of all nodes, which are without their blocks and holes, with those.
@@ -167,9 +196,9 @@ pub(crate) fn put_full_nodes<B: BlockStore, W: Sink>(
     ensures text { B.tells → PutsMost (W.stream sink.old) (W.stream sink.new) out.old out.new (nodes_text 0 (map (full_node (view_by B.states view.entry)) nodes.now)) result }
     ensures fails { IsErrOf result GaveUp.Unread → B.fails }
 {
-    let mut kept = KeptLists::new(alloc);
+    let mut kept = KeptLists::new(alloc, view);
     for (index, node) in nodes.iter().enumerate() {
-        put_full_node(alloc, out, sink, view, &mut kept, index, node)?;
+        put_full_node(alloc, out, sink, &mut kept, index, node)?;
     }
     Ok(())
 }
@@ -179,16 +208,17 @@ fn put_full_unnamed<B: BlockStore, W: Sink>(
     alloc: Global,
     out: &mut Printer,
     sink: &mut W,
-    view: StoreView<'_, B>,
+    kept: &mut KeptLists<'_, B>,
     two: bool,
     entry: &Unnamed,
 ) -> Result<(), GaveUp>
-    ensures text { B.tells → PutsMost (W.stream sink.old) (W.stream sink.new) out.old out.new (unnamed_text two (full_entry (view_by B.states view.entry) entry.now)) result }
+    ensures text { B.tells → PutsMost (W.stream sink.old) (W.stream sink.new) out.old out.new (unnamed_text two (full_entry kept.old entry.now)) result }
+    ensures view { kept.new ≡ kept.old }
     ensures fails { IsErrOf result GaveUp.Unread → B.fails }
 {
     put_unnamed_line(out, sink, two, entry);
     let address = entry.icb();
-    put_full_gaps(alloc, out, sink, view, address, &entry.standing)
+    put_once_gaps(alloc, out, sink, kept, address, &entry.standing)
 }
 
 /// The lines of all entries that no name leads to, which are without their blocks and holes, with those.
@@ -203,8 +233,9 @@ pub(crate) fn put_full_entries<B: BlockStore, W: Sink>(
     ensures text { B.tells → PutsMost (W.stream sink.old) (W.stream sink.new) out.old out.new (unnamed_texts two (map (full_entry (view_by B.states view.entry)) entries.now)) result }
     ensures fails { IsErrOf result GaveUp.Unread → B.fails }
 {
+    let mut kept = KeptLists::new(alloc, view);
     for entry in entries {
-        put_full_unnamed(alloc, out, sink, view, two, entry)?;
+        put_full_unnamed(alloc, out, sink, &mut kept, two, entry)?;
     }
     Ok(())
 }

@@ -1,17 +1,18 @@
 //! Writes the JSON of the report that a survey represents in pieces: what is missing of a node is found when the node is written.
 
-ghost use Rattle.std.specs.Prelude.{◌++◌, IfOk, IsErrOf, codes};
+ghost use Rattle.std.specs.Prelude.{◌≡◌, ◌++◌, IsErrOf, codes};
 ghost use Rattle.std.specs.String.{string_bytes};
 ghost use Rattle.serde_json.specs.Written.{compact_text};
 ghost use Rattle.udfs_lattice.specs.Tables.{Table};
 ghost use Rattle.udfs_space.specs.Views.{view_by};
-ghost use Rattle.udfs_walk.specs.Bare.{full_entry, full_node};
+ghost use Rattle.udfs_walk.specs.Bare.{full_entry, full_node, lists_of};
+ghost use Rattle.udfs_walk.specs.declared.standings.Standing.{Standing};
 ghost use Rattle.udfs_salvage.specs.Found.{volume_now};
 ghost use Rattle.udfs_salvage.specs.Printing.{PassesOn, Prints};
 ghost use Rattle.udfs_salvage.specs.JsonNodes.{list_data, node_in, unnamed_data};
 ghost use Rattle.udfs_salvage.specs.JsonPieces.{entry_end, entry_front, more_values, node_end, node_front, report_end, report_front, reread_words, told_piece};
 ghost use Rattle.udfs_salvage.specs.JsonReports.{json_text_by, nodes_data, reread_data};
-ghost use Rattle.udfs_salvage.specs.KeptLists.{AreKeptLists};
+ghost use Rattle.udfs_salvage.specs.KeptLists.{lacks_lists};
 ghost use Rattle.udfs_salvage.specs.StorePrinting.{PassesOnBy, PrintsBy};
 ghost use Rattle.udfs_salvage.specs.Surveys.{survey_by, survey_now};
 ghost use Rattle.udfs_salvage.specs.Texts.{has_two, line};
@@ -22,8 +23,8 @@ use crate::json_pieces::{
     push_entry_end, push_entry_front, push_node_end, push_node_front, push_report_end,
     push_report_front, reread_words,
 };
-use crate::json_printing::{put_rereads, put_told, put_value, put_words};
-use crate::kept_lists::KeptLists;
+use crate::json_printing::{put_lacks, put_rereads, put_value, put_words};
+use crate::kept_lists::{KeptLists, Lacks};
 use crate::lines::has_two;
 use crate::printing::{flush, pass_on};
 use crate::stores::ReportStore;
@@ -34,7 +35,7 @@ use udfs_lattice::BlockStore;
 use udfs_reading::Sink;
 use udfs_space::StoreView;
 use udfs_volume::Profile;
-use udfs_walk::{Node, Standing, Unnamed, full_standing_by};
+use udfs_walk::{Extents, Node, Unnamed};
 
 /// `front`, and then the object of a node up to its holes.
 fn put_node_front<W: Sink>(
@@ -64,21 +65,23 @@ fn put_node_end<W: Sink>(
     pass_on(text, sink)
 }
 
-/// `front`, and then the object of a node of which `full` is the standing with its missing blocks and holes.
-fn put_told_node<W: Sink>(
+/// `front`, and then the object of a node that lacks this.
+fn put_told_node<B: BlockStore, W: Sink>(
     alloc: Global,
     text: &mut String,
     sink: &mut W,
+    extents: &Extents<'_, B>,
     tail: bool,
     front: &str,
     node: &Node,
-    full: &Standing,
+    lacks: &Lacks,
 ) -> Result<(), RunError>
-    ensures { PassesOn (W.stream sink.old) (W.stream sink.new) (string_bytes text.old) (string_bytes text.new)
-        ((front.now ++ node_front node.now.hidden) ++ (told_piece full.now node.now.kind ++ node_end tail node.now)) result }
+    ensures { B.tells → (full : Standing) → lists_of full ≡ lacks_lists extents.now lacks.now
+        → PassesOn (W.stream sink.old) (W.stream sink.new) (string_bytes text.old) (string_bytes text.new)
+        ((front.now ++ node_front node.now.hidden) ++ (told_piece full node.now.kind ++ node_end tail node.now)) result }
 {
     put_node_front(text, sink, front, node.hidden)?;
-    put_told(alloc, text, sink, full, node.kind)?;
+    put_lacks(alloc, text, sink, extents, lacks, node.kind)?;
     put_node_end(alloc, text, sink, tail, node)
 }
 
@@ -88,19 +91,17 @@ fn put_node<B: BlockStore, W: Sink>(
     text: &mut String,
     sink: &mut W,
     profile: Profile,
-    view: StoreView<'_, B>,
-    kept: &mut KeptLists,
+    kept: &mut KeptLists<'_, B>,
     front: &str,
     node: &Node,
 ) -> Result<(), PrintError>
-    requires { B.tells → AreKeptLists (view_by B.states view) kept.old.lists }
-    ensures text { B.tells → PassesOnBy (W.stream sink.old) (W.stream sink.new) (string_bytes text.old) (string_bytes text.new) (front.now ++ compact_text (node_in profile (view_by B.states view.entry) (full_node (view_by B.states view.entry) node.now))) result }
-    ensures lists { IfOk result (λ done. B.tells → AreKeptLists (view_by B.states view.entry) kept.new.lists) }
+    ensures text { B.tells → PassesOnBy (W.stream sink.old) (W.stream sink.new) (string_bytes text.old) (string_bytes text.new) (front.now ++ compact_text (node_in profile kept.old (full_node kept.old node.now))) result }
+    ensures view { kept.new ≡ kept.old }
     ensures fails { IsErrOf result PrintError.Unread → B.fails }
 {
-    let full = kept.full_standing(alloc, view, node.icb, &node.standing)?;
-    let tail = tail_in(alloc, profile, view, node.icb)?;
-    put_told_node(alloc, text, sink, tail, front, node, &full)?;
+    let lacks = kept.lacks(alloc, node.icb, &node.standing)?;
+    let tail = tail_in(alloc, profile, kept.view(), node.icb)?;
+    put_told_node(alloc, text, sink, kept.extents(), tail, front, node, &lacks)?;
     Ok(())
 }
 
@@ -110,16 +111,15 @@ fn put_more_nodes<B: BlockStore, W: Sink>(
     text: &mut String,
     sink: &mut W,
     profile: Profile,
-    view: StoreView<'_, B>,
-    kept: &mut KeptLists,
+    kept: &mut KeptLists<'_, B>,
     nodes: &[Node],
 ) -> Result<(), PrintError>
-    requires { B.tells → AreKeptLists (view_by B.states view) kept.old.lists }
-    ensures text { B.tells → PassesOnBy (W.stream sink.old) (W.stream sink.new) (string_bytes text.old) (string_bytes text.new) (more_values (λ n. node_in profile (view_by B.states view.entry) (full_node (view_by B.states view.entry) n)) nodes.now) result }
+    ensures text { B.tells → PassesOnBy (W.stream sink.old) (W.stream sink.new) (string_bytes text.old) (string_bytes text.new) (more_values (λ n. node_in profile kept.old (full_node kept.old n)) nodes.now) result }
+    ensures view { kept.new ≡ kept.old }
     ensures fails { IsErrOf result PrintError.Unread → B.fails }
 {
     for node in nodes {
-        put_node(alloc, text, sink, profile, view, kept, ",", node)?;
+        put_node(alloc, text, sink, profile, kept, ",", node)?;
     }
     Ok(())
 }
@@ -140,9 +140,9 @@ fn put_nodes<B: BlockStore, W: Sink>(
         put_words(text, sink, "[]")?;
         return Ok(());
     };
-    let mut kept = KeptLists::new(alloc);
-    put_node(alloc, text, sink, profile, view, &mut kept, "[", first)?;
-    put_more_nodes(alloc, text, sink, profile, view, &mut kept, rest)?;
+    let mut kept = KeptLists::new(alloc, view);
+    put_node(alloc, text, sink, profile, &mut kept, "[", first)?;
+    put_more_nodes(alloc, text, sink, profile, &mut kept, rest)?;
     put_words(text, sink, "]")?;
     Ok(())
 }
@@ -176,21 +176,23 @@ fn put_entry_end<W: Sink>(
     pass_on(text, sink)
 }
 
-/// `front`, and then the object of an entry of which `full` is the standing with its missing blocks and holes.
-fn put_told_entry<W: Sink>(
+/// `front`, and then the object of an entry that lacks this.
+fn put_told_entry<B: BlockStore, W: Sink>(
     alloc: Global,
     text: &mut String,
     sink: &mut W,
+    extents: &Extents<'_, B>,
     two: bool,
     front: &str,
     entry: &Unnamed,
-    full: &Standing,
+    lacks: &Lacks,
 ) -> Result<(), RunError>
-    ensures { PassesOn (W.stream sink.old) (W.stream sink.new) (string_bytes text.old) (string_bytes text.new)
-        ((front.now ++ entry_front entry.now.block) ++ (told_piece full.now entry.now.kind ++ entry_end two entry.now)) result }
+    ensures { B.tells → (full : Standing) → lists_of full ≡ lacks_lists extents.now lacks.now
+        → PassesOn (W.stream sink.old) (W.stream sink.new) (string_bytes text.old) (string_bytes text.new)
+        ((front.now ++ entry_front entry.now.block) ++ (told_piece full entry.now.kind ++ entry_end two entry.now)) result }
 {
     put_entry_front(alloc, text, sink, front, entry.block)?;
-    put_told(alloc, text, sink, full, entry.kind)?;
+    put_lacks(alloc, text, sink, extents, lacks, entry.kind)?;
     put_entry_end(alloc, text, sink, two, entry)
 }
 
@@ -199,17 +201,18 @@ fn put_entry<B: BlockStore, W: Sink>(
     alloc: Global,
     text: &mut String,
     sink: &mut W,
-    view: StoreView<'_, B>,
+    kept: &mut KeptLists<'_, B>,
     two: bool,
     front: &str,
     entry: &Unnamed,
 ) -> Result<(), PrintError>
-    ensures text { B.tells → PassesOnBy (W.stream sink.old) (W.stream sink.new) (string_bytes text.old) (string_bytes text.new) (front.now ++ compact_text (unnamed_data two (full_entry (view_by B.states view.entry) entry.now))) result }
+    ensures text { B.tells → PassesOnBy (W.stream sink.old) (W.stream sink.new) (string_bytes text.old) (string_bytes text.new) (front.now ++ compact_text (unnamed_data two (full_entry kept.old entry.now))) result }
+    ensures view { kept.new ≡ kept.old }
     ensures fails { IsErrOf result PrintError.Unread → B.fails }
 {
     let address = entry.icb();
-    let full = full_standing_by(alloc, view, address, &entry.standing)?;
-    put_told_entry(alloc, text, sink, two, front, entry, &full)?;
+    let lacks = kept.lacks_once(alloc, address, &entry.standing)?;
+    put_told_entry(alloc, text, sink, kept.extents(), two, front, entry, &lacks)?;
     Ok(())
 }
 
@@ -218,15 +221,16 @@ fn put_more_entries<B: BlockStore, W: Sink>(
     alloc: Global,
     text: &mut String,
     sink: &mut W,
-    view: StoreView<'_, B>,
+    kept: &mut KeptLists<'_, B>,
     two: bool,
     entries: &[Unnamed],
 ) -> Result<(), PrintError>
-    ensures text { B.tells → PassesOnBy (W.stream sink.old) (W.stream sink.new) (string_bytes text.old) (string_bytes text.new) (more_values (λ u. unnamed_data two (full_entry (view_by B.states view.entry) u)) entries.now) result }
+    ensures text { B.tells → PassesOnBy (W.stream sink.old) (W.stream sink.new) (string_bytes text.old) (string_bytes text.new) (more_values (λ u. unnamed_data two (full_entry kept.old u)) entries.now) result }
+    ensures view { kept.new ≡ kept.old }
     ensures fails { IsErrOf result PrintError.Unread → B.fails }
 {
     for entry in entries {
-        put_entry(alloc, text, sink, view, two, ",", entry)?;
+        put_entry(alloc, text, sink, kept, two, ",", entry)?;
     }
     Ok(())
 }
@@ -247,8 +251,9 @@ fn put_entries<B: BlockStore, W: Sink>(
         put_words(text, sink, "[]")?;
         return Ok(());
     };
-    put_entry(alloc, text, sink, view, two, "[", first)?;
-    put_more_entries(alloc, text, sink, view, two, rest)?;
+    let mut kept = KeptLists::new(alloc, view);
+    put_entry(alloc, text, sink, &mut kept, two, "[", first)?;
+    put_more_entries(alloc, text, sink, &mut kept, two, rest)?;
     put_words(text, sink, "]")?;
     Ok(())
 }
@@ -399,8 +404,8 @@ fn put_survey<B: ReportStore, W: Sink>(
 }
 
 /// Writes the JSON of the report that a survey represents, and a line feed: the text that [`report_json`](crate::report_json)
-/// returns for the report. It holds the blocks and holes of one node at a time, and at most 16,000,000 bytes of them that it keeps for
-/// other names of the same bodies, but no value of the whole report.
+/// returns for the report. It holds the missing blocks of one node at a time, and at most 16,000,000 bytes of
+/// blocks and holes that it keeps for other names of the same bodies, but no value of the whole report.
 ///
 /// # Errors
 ///

@@ -94,8 +94,8 @@ fn put_survey<B: ReportStore, W: Sink>(
     Ok(())
 }
 
-/// Writes the text of the report that a survey represents. It holds the blocks and holes of one node at a time, and at most 16,000,000 bytes
-/// of them that it keeps for other names of the same bodies.
+/// Writes the text of the report that a survey represents. It holds the missing blocks of one node at a time, and at most 16,000,000 bytes
+/// of blocks and holes that it keeps for other names of the same bodies.
 ///
 /// # Errors
 ///

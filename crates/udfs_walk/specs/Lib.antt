@@ -32,3 +32,7 @@ pub mod Cells
 pub mod TreeLaws
 pub mod KnownLaws
 pub mod TreeSample
+pub mod Lacking
+pub mod Sums
+pub mod Missed
+pub mod Losses

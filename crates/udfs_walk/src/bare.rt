@@ -1,21 +1,19 @@
 //! Nodes and entries without the blocks and the holes of torn ones, which are found again where they are reported.
 
-ghost use Rattle.std.specs.Prelude.{◌≡◌, ◌∷◌, [], IfOk, IsErrOf, map};
+ghost use Rattle.std.specs.Prelude.{◌≡◌, IfOk, IsErrOf, map};
 ghost use Rattle.udfs_space.specs.Views.{view_by, view_now};
-ghost use Rattle.udfs_file.specs.Bodies.{body};
-ghost use Rattle.udfs_file.specs.Entries.{entry_of};
-ghost use Rattle.udfs_file.specs.Stretches.{IsStanding};
-ghost use Rattle.udfs_walk.specs.Bare.{body_lists, full_entry, full_node, lists_at, lists_of, no_lists, with_lists};
+ghost use Rattle.udfs_walk.specs.Bare.{full_entry, full_node, lists_at, no_lists, with_lists};
+ghost use Rattle.udfs_walk.specs.Lacking.{lacking_lists};
 
 use crate::answers::{Node, Unnamed};
-use crate::gaps::cells_standing;
+use crate::extents::Extents;
+use crate::lacking::{Lacking, lacking_at};
+use crate::missed::Missed;
 use crate::standings::{Standing, Torn};
-use crate::targets::{Target, target_at};
 use std::alloc::{AllocError, Global};
-use udfs_file::{Body, Entry, WalkError};
 use udfs_lattice::{BlockStore, GaveUp};
 use udfs_space::{StoreView, View};
-use udfs_tag::{LbAddr, LongAd};
+use udfs_tag::LongAd;
 
 /// Nothing that is missing.
 pub(crate) fn no_lists(alloc: Global) -> Torn
@@ -27,48 +25,42 @@ pub(crate) fn no_lists(alloc: Global) -> Torn
     }
 }
 
-/// What is missing where the block of an entry is not known.
-fn one_block(alloc: Global, n: u32) -> Result<Torn, AllocError>
-    ensures { IfOk result (λ torn. torn ≡ record { missing = n ∷ []; holes = [] }) }
+/// The holes of what an address leads to, listed, of which there are so many. It takes no more memory than they do.
+///
+/// # Errors
+///
+/// `AllocError` where memory runs out.
+pub fn listed_holes<B: BlockStore>(
+    alloc: Global,
+    extents: &Extents<'_, B>,
+    lacking: &Lacking,
+    places: u64,
+) -> Result<Vec<(u64, u64)>, AllocError>
+    ensures { IfOk result (λ holes. B.tells → holes.items ≡ (lacking_lists extents.now lacking.now).holes) }
 {
-    let missing = vec![in alloc; n]?;
-    let holes = Vec::new(alloc);
-    Ok(Torn { missing, holes })
-}
-
-/// What is missing, where something is.
-fn lists_of(alloc: Global, standing: Standing) -> Torn
-    ensures { result ≡ lists_of standing }
-{
-    match standing {
-        Standing::Whole => no_lists(alloc),
-        Standing::Torn(torn) => torn,
-        Standing::Loop => no_lists(alloc),
-        Standing::Fault(_) => no_lists(alloc),
+    let mut holes = Vec::with_capacity(alloc, places as usize)?;
+    let mut left = lacking.holes(extents);
+    'holes: while let Some(hole) = left.next() {
+        holes.push(hole)?;
     }
+    Ok(holes)
 }
 
-/// What is missing of the body of the entry at an address.
-fn entry_lists<B: BlockStore>(
+/// What is missing of what an address leads to, listed.
+fn lists<B: BlockStore>(
     alloc: Global,
     view: StoreView<'_, B>,
-    entry: &Entry<'_>,
-    address: LbAddr,
-) -> Result<Torn, GaveUp>
-    requires { B.tells → IsStanding (view_by B.states view) address.reference address.block entry.now }
-    ensures value { IfOk result (λ torn. B.tells → torn ≡ body_lists (body (view_by B.states view.entry) address.reference address.block (entry_of entry.now))) }
-    ensures fails { IsErrOf result GaveUp.Unread → B.fails }
+    lacking: &Lacking,
+) -> Result<Torn, AllocError>
+    ensures { IfOk result (λ torn. B.tells → torn ≡ lacking_lists (view_by B.states view.entry) lacking.now) }
 {
-    match Body::read_by(alloc, view, entry, address.reference, address.block)? {
-        Err(WalkError::OutOfMemory) => Err(GaveUp::OutOfMemory),
-        Err(WalkError::Fault(_)) => Ok(no_lists(alloc)),
-        Ok(body) => {
-            // The body has as many cells as this number of 64 bits says.
-            let _size = entry.size();
-            let standing = cells_standing(alloc, view, &body)?;
-            Ok(lists_of(alloc, standing))
-        }
-    }
+    let mut missed = Missed::new(alloc, view);
+    missed.join(alloc, lacking)?;
+    let missing = missed.into_blocks(alloc)?;
+    let mut extents = Extents::new(alloc, view);
+    let places = extents.sum(lacking)?.places;
+    let holes = listed_holes(alloc, &extents, lacking, places)?;
+    Ok(Torn { missing, holes })
 }
 
 /// What is missing of what an address leads to.
@@ -80,15 +72,9 @@ fn lists_at<B: BlockStore>(
     ensures value { IfOk result (λ torn. B.tells → torn ≡ lists_at (view_by B.states view.entry) address) }
     ensures fails { IsErrOf result GaveUp.Unread → B.fails }
 {
-    let mut room = [0; 2048];
-    match target_at(view, address, &mut room)? {
-        Target::Fault(_) => Ok(no_lists(alloc)),
-        Target::Unread(n) => {
-            let torn = one_block(alloc, n)?;
-            Ok(torn)
-        }
-        Target::Entry(entry) => entry_lists(alloc, view, &entry, address.address()),
-    }
+    let lacking = lacking_at(alloc, view, address)?;
+    let torn = lists(alloc, view, &lacking)?;
+    Ok(torn)
 }
 
 /// A standing, with the blocks and the holes of the body of the entry at `address` if it is torn. They are found anew, so

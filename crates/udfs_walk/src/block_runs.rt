@@ -58,12 +58,20 @@ fn spelled(alloc: Global, runs: &[BlockRun]) -> Result<Vec<u32>, AllocError>
     Ok(numbers)
 }
 
+/// Sorts runs, and joins those that touch or overlap.
+pub(crate) fn sorted(alloc: Global, runs: &mut Vec<BlockRun>) -> Result<(), AllocError>
+    ensures { IfOk result (λ done. blocks_of runs.new.items ≡ ascending (blocks_of runs.old.items)) }
+{
+    runs.sort_unstable_by_key(|run| run.first);
+    *runs = joined(alloc, runs.as_slice())?;
+    Ok(())
+}
+
 /// The blocks of runs, ascending and each once.
 pub(crate) fn ascending(alloc: Global, mut runs: Vec<BlockRun>) -> Result<Vec<u32>, AllocError>
     ensures { IfOk result (λ numbers. numbers.items ≡ ascending (blocks_of runs.items)) }
 {
-    runs.sort_unstable_by_key(|run| run.first);
-    let runs = joined(alloc, &runs)?;
+    sorted(alloc, &mut runs)?;
     let numbers = spelled(alloc, &runs)?;
     Ok(numbers)
 }

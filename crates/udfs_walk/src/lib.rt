@@ -12,12 +12,17 @@ mod bare;
 mod block_runs;
 mod children;
 pub mod counting;
+pub mod extents;
 mod forests;
 mod gaps;
+mod holes;
 mod kinds;
 pub mod known_laws;
+mod lacking;
 pub mod laws;
+pub mod losses;
 mod memos;
+mod missed;
 mod node_bodies;
 pub mod paths;
 mod rereads;
@@ -33,8 +38,14 @@ mod walks;
 pub use answers::{Node, NodesError, NodesGaveUp, Unnamed};
 pub use bare::{
     full_entries, full_entries_by, full_nodes, full_nodes_by, full_standing, full_standing_by,
+    listed_holes,
 };
+pub use extents::{Extents, Sum};
 pub use forests::{counted_forest_by, forest_by};
+pub use holes::Holes;
+pub use lacking::{Lacking, lacking_at, lacking_by};
+pub use losses::{Loss, Losses};
+pub use missed::Missed;
 pub use node_bodies::{body_at, body_by, tail_at, tail_by};
 pub use paths::Path;
 pub use rereads::{bare_reread, bare_reread_by, reread};

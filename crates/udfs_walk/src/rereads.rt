@@ -1,15 +1,17 @@
 //! What has to be read again.
 
-ghost use Rattle.std.specs.Prelude.{◌≡◌, ◌++◌, IfOk, IsErrOf, length, map, nat_lt};
+ghost use Rattle.std.specs.Prelude.{◌≡◌, ◌++◌, IfOk, IsErrOf, map};
 ghost use Rattle.udfs_lattice.specs.Volumes.{ascending};
 ghost use Rattle.udfs_space.specs.Views.{view_by, view_now};
 ghost use Rattle.udfs_walk.specs.Bare.{full_node};
 ghost use Rattle.udfs_walk.specs.Gathering.{AreGathered, missing_at};
+ghost use Rattle.udfs_walk.specs.Losses.{is_torn};
 ghost use Rattle.udfs_walk.specs.Rereads.{missing_of, reread};
 
 use crate::answers::Node;
 use crate::ascending::sort_once;
-use crate::bare::full_standing_by;
+use crate::lacking::{Lacking, lacking_at};
+use crate::missed::Missed;
 use crate::standings::Standing;
 use std::alloc::{AllocError, Global};
 use std::collections::BTreeSet;
@@ -46,55 +48,42 @@ pub fn reread(alloc: Global, nodes: &[Node]) -> Result<Vec<u32>, OutOfMemory>
     Ok(blocks)
 }
 
-/// The least number of gathered blocks at which repeated ones are dropped.
-const MOST_GATHERED: usize = 1_048_576;
-
-/// Drops repeated blocks if there are at least `most` blocks, and returns the least number at which to do so the next time.
-#[tactic(auto, using(crate::proofs::BareRereads::once_again))]
-fn settle(blocks: &mut Vec<u32>, most: usize) -> usize
-    ensures { ascending blocks.new.items ≡ ascending blocks.old.items }
+/// Whether something is missing.
+fn is_torn(standing: &Standing) -> bool
+    ensures { result ≡ is_torn standing.now }
 {
-    if blocks.len() < most {
-        return most;
-    }
-    sort_once(blocks);
-    blocks.len().saturating_mul(2).max(MOST_GATHERED)
+    matches!(standing, Standing::Torn(_))
 }
 
-/// Whether blocks are missing.
-fn lacks_blocks(standing: &Standing) -> bool
-    ensures { result ≡ nat_lt 0 (length (missing_of standing.now)) }
-{
-    match standing {
-        Standing::Torn(torn) => torn.missing.len() > 0,
-        _ => false,
-    }
-}
-
-/// Appends the blocks that are missing in a node, unless those at its ICB were appended already, and keeps the number of an
-/// ICB at which some are missing.
+/// The blocks too that are missing in a node, unless those at its ICB are among them already, and keeps the number of a torn one's ICB.
 fn gather<B: BlockStore>(
     alloc: Global,
-    view: StoreView<'_, B>,
     node: &Node,
     gathered: &mut BTreeSet<u64>,
-    blocks: &mut Vec<u32>,
+    missed: &mut Missed<'_, B>,
 ) -> Result<(), GaveUp>
-    requires { B.tells → AreGathered (view_by B.states view) gathered.old blocks.old.items }
-    ensures more { IfOk result (λ done. B.tells → ascending blocks.new.items ≡ ascending (blocks.old.items ++ missing_at (view_by B.states view.entry) node.now)) }
-    ensures gathered { IfOk result (λ done. B.tells → AreGathered (view_by B.states view.entry) gathered.new blocks.new.items) }
+    requires { B.tells → AreGathered missed.old.view gathered.old missed.old.blocks }
+    ensures view { missed.new.view ≡ missed.old.view }
+    ensures more { IfOk result (λ done. B.tells → ascending missed.new.blocks ≡ ascending (missed.old.blocks ++ missing_at missed.old.view node.now)) }
+    ensures gathered { IfOk result (λ done. B.tells → AreGathered missed.new.view gathered.new missed.new.blocks) }
     ensures fails { IsErrOf result GaveUp.Unread → B.fails }
 {
+    if !is_torn(&node.standing) {
+        return Ok(());
+    }
     let number = node.icb.address().number();
     if gathered.contains(&number) {
         return Ok(());
     }
-    let standing = full_standing_by(alloc, view, node.icb, &node.standing)?;
-    push_missing(blocks, &standing)?;
-    if lacks_blocks(&standing) {
-        gathered.insert(number)?;
+    let lacking = lacking_at(alloc, missed.view(), node.icb)?;
+    missed.join(alloc, &lacking)?;
+    match lacking {
+        Lacking::Nothing => Ok(()),
+        Lacking::Block(_) | Lacking::Body(_) => {
+            gathered.insert(number)?;
+            Ok(())
+        }
     }
-    Ok(())
 }
 
 /// The blocks that are missing in torn nodes, ascending and each once, as [`reread`] lists them, of nodes without their
@@ -130,13 +119,11 @@ pub fn bare_reread_by<B: BlockStore>(
     ensures value { IfOk result (λ blocks. B.tells → blocks.items ≡ reread (map (full_node (view_by B.states view.entry)) nodes.now)) }
     ensures fails { IsErrOf result GaveUp.Unread → B.fails }
 {
-    let mut blocks = Vec::new(alloc);
-    let mut most = MOST_GATHERED;
+    let mut missed = Missed::new(alloc, view);
     let mut gathered = BTreeSet::new(alloc);
     for node in nodes {
-        gather(alloc, view, node, &mut gathered, &mut blocks)?;
-        most = settle(&mut blocks, most);
+        gather(alloc, node, &mut gathered, &mut missed)?;
     }
-    sort_once(&mut blocks);
+    let blocks = missed.into_blocks(alloc)?;
     Ok(blocks)
 }
