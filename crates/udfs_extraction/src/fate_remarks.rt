@@ -47,7 +47,7 @@ enum Sort {
 /// What is missing of a torn body: how many bytes, in how many places, and where the first of these begins, if there is one.
 #[derive(Clone, Copy)]
 struct Missing {
-    bytes: u64,
+    bytes: u128,
     places: u64,
     first: Option<u64>,
 }
@@ -185,7 +185,7 @@ fn push_missing<B: BlockStore>(
         return Ok(());
     };
     text.push_str(": ")?;
-    push_size(u128::from(missing.bytes), text)?;
+    push_size(missing.bytes, text)?;
     write!(text, " {what} at {offset}")?;
     match missing.places {
         0 | 1 => Ok(()),

@@ -33,7 +33,7 @@ pub fn lost_of(loss: &Loss, kind: Kind) -> Option<u128>
         Standing::Whole => Some(0),
         Standing::Torn(_) => match kind {
             Kind::Unread => None,
-            _ => Some(u128::from(loss.lost)),
+            _ => Some(loss.lost),
         },
         _ => None,
     }

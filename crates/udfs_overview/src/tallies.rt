@@ -1,10 +1,10 @@
 //! What is counted of nodes.
 
-ghost use Rattle.std.specs.Prelude.{◌≡◌, ℕ, List, IfOk, IsErrOf, cond, count_by, map, option_map, All};
+ghost use Rattle.std.specs.Prelude.{◌≡◌, ℕ, List, IfOk, IsErrOf, cond, count_by, map, option_map};
 ghost use Rattle.udfs_space.specs.Views.{view_by};
 ghost use Rattle.udfs_walk.specs.Bare.{full_node, node_with};
 ghost use Rattle.udfs_lattice.specs.Volumes.{Blocks};
-ghost use Rattle.udfs_walk.specs.Losses.{doubt_of, fits_64_bits, loss_of};
+ghost use Rattle.udfs_walk.specs.Losses.{doubt_of, loss_of};
 ghost use Rattle.udfs_walk.specs.NodeFields.{NodeFields};
 ghost use Rattle.udfs_walk.specs.declared.standings.Standing.{Standing};
 ghost use Rattle.udfs_salvage.specs.Surveys.{survey_by};
@@ -280,7 +280,7 @@ fn torn_file<'a, B: BlockStore>(
     blocks: &B,
     node: &'a Node,
 ) -> Result<Option<TornFile<'a>>, OutOfMemory>
-    ensures { IfOk result (λ file. B.tells → fits_64_bits node.now.standing → option_map torn_now file ≡ torn_file (B.states blocks.now) node.now) }
+    ensures { IfOk result (λ file. B.tells → option_map torn_now file ≡ torn_file (B.states blocks.now) node.now) }
 {
     if !NodeSort::TornFile.has(&node.standing, node.kind) {
         return Ok(None);
@@ -296,7 +296,7 @@ fn torn_files<'a, B: BlockStore>(
     blocks: &B,
     nodes: &'a [Node],
 ) -> Result<Vec<TornFile<'a>>, OutOfMemory>
-    ensures { IfOk result (λ files. B.tells → All (λ n. fits_64_bits n.standing) nodes.now → map torn_now files.items ≡ torn_files (B.states blocks.now) nodes.now) }
+    ensures { IfOk result (λ files. B.tells → map torn_now files.items ≡ torn_files (B.states blocks.now) nodes.now) }
 {
     let mut files = Vec::new(alloc);
     for node in nodes {

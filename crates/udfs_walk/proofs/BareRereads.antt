@@ -32,16 +32,16 @@ use Rattle.udfs_walk.proofs.NamedLemmas.{take_whole}
 use Rattle.udfs_walk.proofs.MemoLemmas.{same_icb}
 use Rattle.udfs_walk.proofs.Rising.{rising_same}
 
-in_front : (xs ys : List ℕ) (n : ℕ) → Includes xs n → Includes (xs ++ ys) n
+pub in_front : (xs ys : List ℕ) (n : ℕ) → Includes xs n → Includes (xs ++ ys) n
 in_front [] ys n i = absurd i
 in_front (x ∷ xs) ys n (inl e) = inl e
 in_front (x ∷ xs) ys n (inr i) = inr (in_front xs ys n i)
 
-in_back : (xs ys : List ℕ) (n : ℕ) → Includes ys n → Includes (xs ++ ys) n
+pub in_back : (xs ys : List ℕ) (n : ℕ) → Includes ys n → Includes (xs ++ ys) n
 in_back [] ys n i = i
 in_back (x ∷ xs) ys n i = inr (in_back xs ys n i)
 
-same_numbers : (xs ys : List ℕ) → ((n : ℕ) → Includes xs n → Includes ys n) → ((n : ℕ) → Includes ys n → Includes xs n) → ascending xs ≡ ascending ys
+pub same_numbers : (xs ys : List ℕ) → ((n : ℕ) → Includes xs n → Includes ys n) → ((n : ℕ) → Includes ys n → Includes xs n) → ascending xs ≡ ascending ys
 same_numbers xs ys f g = rising_same (ascending xs) (ascending ys) (ascending_rises xs) (ascending_rises ys)
     (λ n i. (ascending_includes ys n).1 (f n ((ascending_includes xs n).0 i))) (λ n i. (ascending_includes xs n).1 (g n ((ascending_includes ys n).0 i)))
 
@@ -56,8 +56,8 @@ goes_on xs ys more e n i = go (either xs more n i)
     go (inl j) = in_front ys more n ((ascending_includes ys n).0 (subst (λ z. Includes z n) e ((ascending_includes xs n).1 j)))
     go (inr j) = in_back ys more n j
 
-more_numbers : (xs ys more : List ℕ) → ascending xs ≡ ascending ys → ascending (xs ++ more) ≡ ascending (ys ++ more)
-more_numbers xs ys more e = same_numbers (xs ++ more) (ys ++ more) (goes_on xs ys more e) (goes_on ys xs more (sym e))
+pub more_numbers : (xs ys more : List ℕ) → ascending xs ≡ ascending ys → ascending (xs ++ more) ≡ ascending (ys ++ more)
+pub more_numbers xs ys more e = same_numbers (xs ++ more) (ys ++ more) (goes_on xs ys more e) (goes_on ys xs more (sym e))
 
 -- what a node lacks is missing at its address
 lacks_there : (lists : TornFields) (s : Standing) (n : ℕ) → Includes (missing_of (with_lists lists s)) n → Includes lists.missing n
@@ -87,45 +87,42 @@ same_lists v a d (bad f) r b = refl
 same_lists v a d (unread n) r b = refl
 same_lists v a d (entry e) r b = (λ i. body_lists (body v (sym r i) (sym b i) e))
 
--- where something is missing at one address of an ICB, no more is missing at another
-same_missing : (v : View) (a d : LongAd) → a.reference ≡ d.reference → a.block ≡ d.block → 0 < length (lists_at v a).missing
+-- the same blocks, some of them let go where they stand twice
+pub gathered_settled : (v : View) (icbs : BTreeSet ℕ) (old new : List ℕ) → ascending new ≡ ascending old → AreGathered v icbs old → AreGathered v icbs new
+gathered_settled v icbs old new e h = λ a l c n i. subst (λ (z : List ℕ). Contains z n) (sym e) (h a l c n i)
+
+-- at one address of an ICB that has no fault as much is missing as at any other
+same_found : (v : View) (a d : LongAd) → a.reference ≡ d.reference → a.block ≡ d.block → address_fault v a ≡ None
     → (n : ℕ) → Includes (lists_at v d).missing n → Includes (lists_at v a).missing n
-same_missing v a d r b h n i = go (address_fault v a) (address_fault v d) refl refl
+same_found v a d r b p n i = go (address_fault v d) refl
   where
-    go : (f g : Option NodeFault) → address_fault v a ≡ f → address_fault v d ≡ g → Includes (lists_at v a).missing n
-    go (Some f) g p q = absurd (let z : 0 < 0 = subst (λ (x : TornFields). 0 < length x.missing) (lists_by v a (Some f) p) h in let w : ⊥ = omega (arith, z) in w)
-    go None (Some g) p q = absurd (subst (λ (x : TornFields). Includes x.missing n) (lists_by v d (Some g) q) i)
-    go None None p q = subst (λ (x : TornFields). Includes x.missing n)
+    go : (g : Option NodeFault) → address_fault v d ≡ g → Includes (lists_at v a).missing n
+    go (Some g) q = absurd (subst (λ (x : TornFields). Includes x.missing n) (lists_by v d (Some g) q) i)
+    go None q = subst (λ (x : TornFields). Includes x.missing n)
         (lists_by v d None q ∙ same_lists v a d (target_at None d.block (block_at v d.reference d.block)) r b
         ∙ (λ j. target_lists v a (target_at None (sym b j) (block_at v (sym r j) (sym b j)))) ∙ sym (lists_by v a None p)) i
 
--- what is missing at an address was put behind the others
-pub gathered_now : (v : View) (a : LongAd) (icbs more_icbs : BTreeSet ℕ) (old more : List ℕ) → a.block < 4294967296 → AreGathered v icbs old
-    → Updates nat_cmp icbs more_icbs (number_of (icb_of a)) true → more ≡ (lists_at v a).missing → 0 < length more → AreGathered v more_icbs (old ++ more)
-gathered_now v a icbs more_icbs old more l h u e z = λ d k c n i. go d k c n i (is_eq (nat_cmp (number_of (icb_of a)) (number_of (icb_of d)))) refl
+-- what is missing at an address without a fault was joined with the others
+pub gathered_found : (v : View) (a : LongAd) (icbs more_icbs : BTreeSet ℕ) (old new : List ℕ) → a.block < 4294967296 → address_fault v a ≡ None → AreGathered v icbs old
+    → Updates nat_cmp icbs more_icbs (number_of (icb_of a)) true → ascending new ≡ ascending (old ++ (lists_at v a).missing) → AreGathered v more_icbs new
+gathered_found v a icbs more_icbs old new l p h u e = gathered_settled v more_icbs (old ++ (lists_at v a).missing) new e
+    (λ d k c n i. go d k c n i (is_eq (nat_cmp (number_of (icb_of a)) (number_of (icb_of d)))) refl)
   where
+    more : List ℕ
+    more = (lists_at v a).missing
+
     go : (d : LongAd) → d.block < 4294967296 → contains nat_cmp more_icbs (number_of (icb_of d)) ≡ true → (n : ℕ) → Contains (lists_at v d).missing n
         → (t : Bool) → is_eq (nat_cmp (number_of (icb_of a)) (number_of (icb_of d))) ≡ t → Contains (ascending (old ++ more)) n
     go d k c n i true q =
         let icb : icb_of a ≡ icb_of d = same_icb (icb_of a) (icb_of d) l k q in
-        let m : Includes (lists_at v a).missing n = same_missing v a d (ap (λ x. x.reference) icb) (ap (λ x. x.block) icb) (subst (λ (x : List ℕ). 0 < length x) e z) n (included (lists_at v d).missing n i) in
-        (ascending_contains (old ++ more) n).1 (contained (old ++ more) n (in_back old more n (subst (λ x. Includes x n) (sym e) m)))
+        let m : Includes more n = same_found v a d (ap (λ x. x.reference) icb) (ap (λ x. x.block) icb) p n (included (lists_at v d).missing n i) in
+        (ascending_contains (old ++ more) n).1 (contained (old ++ more) n (in_back old more n m))
     go d k c n i false q = gathered_still v icbs old more h d k
         (sym (u.0 (number_of (icb_of d)) ∙ ap (λ t. cond t true (contains nat_cmp icbs (number_of (icb_of d)))) q) ∙ c) n i
 
--- where something is missing, it is what is missing at the address
-pub lacks_all : (lists : TornFields) (full standing : Standing) → full ≡ with_lists lists standing → 0 < length (missing_of full) → missing_of full ≡ lists.missing
-lacks_all lists full standing e h = ap missing_of e ∙ go standing (subst (λ (z : Standing). 0 < length (missing_of z)) e h)
-  where
-    go : (s : Standing) → 0 < length (missing_of (with_lists lists s)) → missing_of (with_lists lists s) ≡ lists.missing
-    go Whole z = absurd (let w : ⊥ = omega (arith, z) in w)
-    go (Torn torn) z = refl
-    go Loop z = absurd (let w : ⊥ = omega (arith, z) in w)
-    go (Fault f) z = absurd (let w : ⊥ = omega (arith, z) in w)
-
--- the same blocks, some of them let go where they stand twice
-pub gathered_settled : (v : View) (icbs : BTreeSet ℕ) (old new : List ℕ) → ascending new ≡ ascending old → AreGathered v icbs old → AreGathered v icbs new
-gathered_settled v icbs old new e h = λ a l c n i. subst (λ (z : List ℕ). Contains z n) (sym e) (h a l c n i)
+-- more blocks do no harm
+pub gathered_joined : (v : View) (icbs : BTreeSet ℕ) (old more new : List ℕ) → AreGathered v icbs old → ascending new ≡ ascending (old ++ more) → AreGathered v icbs new
+gathered_joined v icbs old more new h e = gathered_settled v icbs (old ++ more) new e (gathered_still v icbs old more h)
 
 pub gathered_none : (v : View) (icbs : BTreeSet ℕ) (blocks : List ℕ) → IsEmpty icbs → AreGathered v icbs blocks
 gathered_none v icbs blocks e = λ a l c n i. absurd (let z : false ≡ true = sym (ap (list_any (is_at (nat_cmp (number_of (icb_of a))))) e) ∙ c in let w : ⊥ = cc in w)

@@ -14,6 +14,9 @@ pub mod KnownGaps
 pub mod BlockOrder
 pub mod BareNodes
 pub mod BareRereads
+pub mod SumLemmas
+pub mod HoleLemmas
+pub mod MissedLemmas
 pub mod KindLemmas
 pub mod MemoLemmas
 pub mod SettleLemmas

@@ -71,13 +71,13 @@ gaps_runs n s [] rest h = refl
 gaps_runs n s (Byte x b ∷ cs) rest h = absurd h.0
 gaps_runs n s (Gap m ∷ cs) rest h = ap (with_hole s) (gaps_runs n (s + 1) cs rest h.1)
 
-open_more : (n s k : ℕ) (cs rest : List Cell) → AreGapsOf n cs → runs_open s k (cs ++ rest) ≡ runs_open s (k + length cs) rest
+pub open_more : (n s k : ℕ) (cs rest : List Cell) → AreGapsOf n cs → runs_open s k (cs ++ rest) ≡ runs_open s (k + length cs) rest
 open_more n s zero cs rest h = gaps_runs n s cs rest h ∙ ap (λ m. runs_open s m rest) (let e : length cs ≡ 0 + length cs = omega arith in e)
 open_more n s (suc k) cs rest h = ap (with_hole s) (open_more n (s + 1) k cs rest h)
     ∙ ap (λ m. runs_open s m rest) (let e : suc (k + length cs) ≡ suc k + length cs = omega arith in e)
 
 -- runs begin at this place at the earliest
-abbrev StartFrom : ℕ → List (ℕ × ℕ) → Type 0
+abbrev pub StartFrom : ℕ → List (ℕ × ℕ) → Type 0
 StartFrom s [] = ⊤
 StartFrom s (run ∷ runs) = s ≤ run.0
 
@@ -93,7 +93,7 @@ start_with s (run ∷ runs) = go (nat_eq run.0 (s + 1))
     go true = omega arith
     go false = omega arith
 
-start_runs : (s : ℕ) (cs : List Cell) → StartFrom s (runs_from s cs)
+pub start_runs : (s : ℕ) (cs : List Cell) → StartFrom s (runs_from s cs)
 start_runs s [] = tt
 start_runs s (Byte x b ∷ cs) = start_later s (s + 1) (runs_from (s + 1) cs) (omega arith) (start_runs (s + 1) cs)
 start_runs s (Gap n ∷ cs) = start_with s (runs_from (s + 1) cs)
@@ -135,7 +135,7 @@ missing_passes n cs old new k h l m r s o whole later p = record {
       ∙ (λ i. sym r i ++ runs_open (sym s i) (sym o i) later);
 }
 
-closes : (s k : ℕ) (cs later : List Cell) (j : ℕ) → AreKnownCells cs → length cs ≡ suc j → runs_open s k (cs ++ later) ≡ closed s k (runs_from (s + (k + suc j)) later)
+pub closes : (s k : ℕ) (cs later : List Cell) (j : ℕ) → AreKnownCells cs → length cs ≡ suc j → runs_open s k (cs ++ later) ≡ closed s k (runs_from (s + (k + suc j)) later)
 closes s k [] later j h l = absurd (let z : ⊥ = omega (arith, l) in z)
 closes s k (Byte x b ∷ cs) later j h l = close s k x b (cs ++ later)
     ∙ ap (closed s k) (bytes_runs (s + k + 1) cs later h.1 ∙ ap (λ n. runs_from n later) (let e : s + k + 1 + length cs ≡ s + (k + suc j) = omega (arith, l) in e))

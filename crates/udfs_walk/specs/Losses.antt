@@ -2,7 +2,7 @@
 --     loss_of most standing        what a node with this standing lacks
 --     doubt_of blocks standing     whether it is torn for blocks in conflict alone
 --     AreKept view most kept       what is kept of bodies is what they lack
-use Rattle.std.specs.Prelude.{◌≡◌, ℕ, ◌<◌, ◌^◌, Bool, true, false, List, length, take, None, Some}
+use Rattle.std.specs.Prelude.{◌≡◌, ℕ, ◌<◌, Bool, true, false, List, length, take, None, Some}
 use Rattle.std.specs.BTreeMap.{BTreeMap, get}
 use Rattle.std.specs.Ordering.{nat_cmp}
 use Rattle.udfs_lattice.specs.States.{State}
@@ -29,10 +29,6 @@ pub record LossFields : Type 0 where
 -- what a node with this standing lacks, with at most so many holes
 abbrev pub loss_of : ℕ → Standing → LossFields
 loss_of most s = record { standing = bare_standing s; lost = hole_bytes (holes_of s); places = length (holes_of s); first = take most (holes_of s) }
-
--- a number of 64 bits says how many bytes the holes have
-abbrev pub fits_64_bits : Standing → Type 0
-fits_64_bits s = hole_bytes (holes_of s) < 2 ^ 64
 
 -- whether something is missing
 abbrev pub is_torn : Standing → Bool

@@ -60,6 +60,7 @@ impl Sum {
     }
 
     /// Of these bytes and those behind them. A run that ends these and one that begins the others are one.
+    #[tactic(auto, using(crate::proofs::SumLemmas::sum_joined, crate::proofs::SumLemmas::sum_first_empty, crate::proofs::SumLemmas::sum_second_empty, crate::proofs::SumLemmas::gaps_few, crate::proofs::SumLemmas::runs_few))]
     pub(crate) fn then(self, next: Sum) -> Sum
         requires { self.count + next.count < 2 ^ 64 }
         ensures { (view : View) (xs ys : List Cell) → IsSum view self xs → IsSum view next ys → IsSum view result (xs ++ ys) }
@@ -255,6 +256,7 @@ impl<'a, B: BlockStore> Extents<'a, B> {
     }
 
     /// All bytes of a stretch, where they are all known or all missing as far as that is kept; `None` where it has to be gone through.
+    #[tactic(auto, using(crate::proofs::SumLemmas::none_lost, crate::proofs::SumLemmas::all_lost))]
     pub(crate) fn step(&self, stretch: Stretch) -> Option<Step>
         ensures step { IfSome result (λ step. B.tells → IsStep step (stretch_cells self.now stretch)) }
         ensures count { IfSome result (λ step. step_count step ≡ stretch_count stretch) }

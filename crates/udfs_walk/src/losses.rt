@@ -5,6 +5,7 @@ ghost use Rattle.udfs_space.specs.Views.{view_by};
 ghost use Rattle.udfs_walk.specs.Bare.{bare_standing, lists_at, with_lists};
 ghost use Rattle.udfs_walk.specs.Lacking.{lacking_lists};
 ghost use Rattle.udfs_walk.specs.Losses.{doubt_of, loss_of};
+ghost use Rattle.udfs_walk.specs.Sums.{hole_bytes};
 
 use crate::bare::no_lists;
 use crate::extents::Extents;
@@ -30,7 +31,7 @@ pub struct Loss {
     /// How whole it is, without the blocks and the holes.
     pub standing: Standing,
     /// How many bytes all holes have.
-    pub lost: u64,
+    pub lost: u128,
     /// How many holes there are.
     pub places: u64,
     /// The first of them, as many as were asked for.
@@ -57,12 +58,14 @@ fn bare(alloc: Global, standing: &Standing) -> Standing
     }
 }
 
-/// How many bytes holes have: at most the greatest number of 64 bits.
-fn hole_bytes(holes: &[(u64, u64)]) -> u64 {
-    let mut lost = 0u64;
+/// How many bytes holes have.
+fn hole_bytes(holes: &[(u64, u64)]) -> u128
+    ensures { result ≡ hole_bytes holes.now }
+{
+    let mut lost = 0;
     for hole in holes {
         let (_, length) = *hole;
-        lost = lost.saturating_add(length);
+        lost += u128::from(length);
     }
     lost
 }
@@ -83,7 +86,7 @@ fn first_of(alloc: Global, holes: &[(u64, u64)], most: usize) -> Result<Vec<(u64
 
 impl Loss {
     ghost use Rattle.std.specs.Prelude.{◌≡◌, IfOk};
-    ghost use Rattle.udfs_walk.specs.Losses.{fits_64_bits, loss_of};
+    ghost use Rattle.udfs_walk.specs.Losses.{loss_of};
 
     /// What a node with these lists lacks.
     ///
@@ -91,7 +94,7 @@ impl Loss {
     ///
     /// `AllocError` where memory runs out.
     pub fn listed(alloc: Global, standing: &Standing, most: usize) -> Result<Loss, AllocError>
-        ensures { IfOk result (λ loss. fits_64_bits standing.now → loss ≡ loss_of most standing.now) }
+        ensures { IfOk result (λ loss. loss ≡ loss_of most standing.now) }
     {
         match standing {
             Standing::Torn(torn) => Ok(Loss {
@@ -113,7 +116,7 @@ impl Loss {
 /// What is kept of a torn body.
 #[derive(Drop)]
 struct Kept {
-    lost: u64,
+    lost: u128,
     places: u64,
     first: Vec<(u64, u64)>,
     /// Whether nothing is missing but blocks in conflict.
@@ -199,7 +202,7 @@ impl<'a, B: BlockStore> Losses<'a, B> {
         let sum = self.extents.sum(&lacking)?;
         let first = self.first(alloc, &lacking)?;
         Ok(Kept {
-            lost: sum.lost,
+            lost: u128::from(sum.lost),
             places: sum.places,
             first,
             disputed: sum.disputed,

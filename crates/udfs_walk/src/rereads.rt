@@ -10,11 +10,12 @@ ghost use Rattle.udfs_walk.specs.Rereads.{missing_of, reread};
 
 use crate::answers::Node;
 use crate::ascending::sort_once;
-use crate::lacking::{Lacking, lacking_at};
+use crate::lacking::lacking_at;
 use crate::missed::Missed;
 use crate::standings::Standing;
 use std::alloc::{AllocError, Global};
 use std::collections::BTreeSet;
+use udfs_file::file_sets::address_fault;
 use udfs_lattice::{BlockStore, GaveUp};
 use udfs_osta::OutOfMemory;
 use udfs_space::{StoreView, View};
@@ -55,7 +56,7 @@ fn is_torn(standing: &Standing) -> bool
     matches!(standing, Standing::Torn(_))
 }
 
-/// The blocks too that are missing in a node, unless those at its ICB are among them already, and keeps the number of a torn one's ICB.
+/// The blocks too that are missing in a node, unless those at its ICB are among them already, and keeps the number of the ICB of a torn one.
 fn gather<B: BlockStore>(
     alloc: Global,
     node: &Node,
@@ -77,13 +78,10 @@ fn gather<B: BlockStore>(
     }
     let lacking = lacking_at(alloc, missed.view(), node.icb)?;
     missed.join(alloc, &lacking)?;
-    match lacking {
-        Lacking::Nothing => Ok(()),
-        Lacking::Block(_) | Lacking::Body(_) => {
-            gathered.insert(number)?;
-            Ok(())
-        }
+    if address_fault(missed.view().space, node.icb).is_none() {
+        gathered.insert(number)?;
     }
+    Ok(())
 }
 
 /// The blocks that are missing in torn nodes, ascending and each once, as [`reread`] lists them, of nodes without their

@@ -1,12 +1,6 @@
-use Rattle.std.proofs.Common.{◌∙◌, sym, ap, subst, rules}
-use Rattle.std.proofs.lemmas.List.Sorted.{IsNonDecreasingBy-from_sort_by_key}
-use Rattle.udfs_lattice.specs.Volumes.{ascending}
-use Rattle.udfs_walk.specs.BlockRuns.{AreSorted, blocks_of}
-use Rattle.udfs_walk.proofs.BlockOrder.{permuted, sorted}
+use Rattle.std.proofs.Common.{◌∙◌, ap}
+use Rattle.udfs_walk.specs.BlockRuns.{blocks_of}
 use Rattle.udfs_walk.proofs.block_runs.ascending.Goals as goal
 
-pub joined-requires : goal.joined-requires
-joined-requires c = subst AreSorted (sym c.deref.ensures.value) (sorted _ (IsNonDecreasingBy-from_sort_by_key (λ r. r.first) _ c.sort_unstable_by_key.ensures.sorted (λ a r q k. search rules)))
-
 pub returns : goal.returns
-returns c = c.in_ok-numbers.ensures ∙ ap blocks_of c.deref-2.ensures.value ∙ c.in_ok-runs.ensures ∙ ap (λ z. ascending (blocks_of z)) c.deref.ensures.value ∙ permuted _ _ c.sort_unstable_by_key.ensures.permutation
+returns c = c.in_ok-numbers.ensures ∙ ap blocks_of c.deref.ensures.value ∙ c.in_ok-sorted.ensures
