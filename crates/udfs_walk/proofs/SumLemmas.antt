@@ -14,7 +14,7 @@ use Rattle.udfs_file.specs.declared.cells.Cell.{Cell}
 use Rattle.udfs_file.specs.declared.cells.Cell.TheVariants.{Byte, Gap}
 use Rattle.udfs_walk.specs.Bare.{lists_of}
 use Rattle.udfs_walk.specs.Standings.{cells_standing, missing_blocks, runs_from, torn_or_whole, with_hole}
-use Rattle.udfs_walk.specs.Sums.{AreGaps, IsListed, IsSum, are_conflicts, begins, ends, gap_count, hole_bytes, run_count}
+use Rattle.udfs_walk.specs.Sums.{AreGaps, IsListed, IsSum, are_conflicts, begins_gap, ends_gap, gap_count, hole_bytes, run_count}
 use Rattle.udfs_walk.specs.TornFields.{TornFields}
 use Rattle.udfs_walk.specs.declared.extents.Sum.{Sum}
 use Rattle.udfs_walk.proofs.RunLemmas.{StartFrom, start_runs}
@@ -25,47 +25,47 @@ gaps_joined [] ys = omega arith
 gaps_joined (Byte x b ∷ xs) ys = gaps_joined xs ys
 gaps_joined (Gap n ∷ xs) ys = let e = gaps_joined xs ys in omega (arith, e)
 
-runs_joined : (open : Bool) (xs ys : List Cell) → run_count open (xs ++ ys) ≡ run_count open xs + run_count (ends open xs) ys
-runs_joined open [] ys = omega arith
-runs_joined open (Byte x b ∷ xs) ys = runs_joined false xs ys
-runs_joined open (Gap n ∷ xs) ys = let e = runs_joined true xs ys in omega (arith, e)
+runs_joined : (before : Bool) (xs ys : List Cell) → run_count before (xs ++ ys) ≡ run_count before xs + run_count (ends_gap before xs) ys
+runs_joined before [] ys = omega arith
+runs_joined before (Byte x b ∷ xs) ys = runs_joined false xs ys
+runs_joined before (Gap n ∷ xs) ys = let e = runs_joined true xs ys in omega (arith, e)
 
 -- a run that goes on is not counted again
-opened : (ys : List Cell) → run_count false ys ≡ run_count true ys + cond (begins ys) 1 0
+opened : (ys : List Cell) → run_count false ys ≡ run_count true ys + cond (begins_gap ys) 1 0
 opened [] = refl
 opened (Byte x b ∷ ys) = omega arith
 opened (Gap n ∷ ys) = omega arith
 
-pub places_joined : (xs ys : List Cell) → run_count false (xs ++ ys) + cond (ends false xs && begins ys) 1 0 ≡ run_count false xs + run_count false ys
-places_joined xs ys = go (ends false xs) refl
+pub places_joined : (xs ys : List Cell) → run_count false (xs ++ ys) + cond (ends_gap false xs && begins_gap ys) 1 0 ≡ run_count false xs + run_count false ys
+places_joined xs ys = go (ends_gap false xs) refl
   where
-    go : (b : Bool) → ends false xs ≡ b → run_count false (xs ++ ys) + cond (ends false xs && begins ys) 1 0 ≡ run_count false xs + run_count false ys
+    go : (b : Bool) → ends_gap false xs ≡ b → run_count false (xs ++ ys) + cond (ends_gap false xs && begins_gap ys) 1 0 ≡ run_count false xs + run_count false ys
     go true e = let j = runs_joined false xs ys in let o = opened ys in
-        let k : run_count (ends false xs) ys ≡ run_count true ys = ap (λ b. run_count b ys) e in
-        let c : cond (ends false xs && begins ys) 1 0 ≡ cond (begins ys) 1 0 = ap (λ b. cond (b && begins ys) 1 0) e in
+        let k : run_count (ends_gap false xs) ys ≡ run_count true ys = ap (λ b. run_count b ys) e in
+        let c : cond (ends_gap false xs && begins_gap ys) 1 0 ≡ cond (begins_gap ys) 1 0 = ap (λ b. cond (b && begins_gap ys) 1 0) e in
         omega (arith, j, o, k, c)
     go false e = let j = runs_joined false xs ys in
-        let k : run_count (ends false xs) ys ≡ run_count false ys = ap (λ b. run_count b ys) e in
-        let c : cond (ends false xs && begins ys) 1 0 ≡ 0 = ap (λ b. cond (b && begins ys) 1 0) e in
+        let k : run_count (ends_gap false xs) ys ≡ run_count false ys = ap (λ b. run_count b ys) e in
+        let c : cond (ends_gap false xs && begins_gap ys) 1 0 ≡ 0 = ap (λ b. cond (b && begins_gap ys) 1 0) e in
         omega (arith, j, k, c)
 
-pub begins_joined : (xs ys : List Cell) → 0 < length xs → begins (xs ++ ys) ≡ begins xs
+pub begins_joined : (xs ys : List Cell) → 0 < length xs → begins_gap (xs ++ ys) ≡ begins_gap xs
 begins_joined [] ys l = absurd (let z : ⊥ = omega (arith, l) in z)
 begins_joined (Byte x b ∷ xs) ys l = refl
 begins_joined (Gap n ∷ xs) ys l = refl
 
-ends_after : (open : Bool) (xs ys : List Cell) → ends open (xs ++ ys) ≡ ends (ends open xs) ys
-ends_after open [] ys = refl
-ends_after open (Byte x b ∷ xs) ys = ends_after false xs ys
-ends_after open (Gap n ∷ xs) ys = ends_after true xs ys
+ends_after : (before : Bool) (xs ys : List Cell) → ends_gap before (xs ++ ys) ≡ ends_gap (ends_gap before xs) ys
+ends_after before [] ys = refl
+ends_after before (Byte x b ∷ xs) ys = ends_after false xs ys
+ends_after before (Gap n ∷ xs) ys = ends_after true xs ys
 
-ends_alone : (open : Bool) (ys : List Cell) → 0 < length ys → ends open ys ≡ ends false ys
-ends_alone open [] l = absurd (let z : ⊥ = omega (arith, l) in z)
-ends_alone open (Byte x b ∷ ys) l = refl
-ends_alone open (Gap n ∷ ys) l = refl
+ends_alone : (before : Bool) (ys : List Cell) → 0 < length ys → ends_gap before ys ≡ ends_gap false ys
+ends_alone before [] l = absurd (let z : ⊥ = omega (arith, l) in z)
+ends_alone before (Byte x b ∷ ys) l = refl
+ends_alone before (Gap n ∷ ys) l = refl
 
-pub ends_joined : (xs ys : List Cell) → 0 < length ys → ends false (xs ++ ys) ≡ ends false ys
-ends_joined xs ys l = ends_after false xs ys ∙ ends_alone (ends false xs) ys l
+pub ends_joined : (xs ys : List Cell) → 0 < length ys → ends_gap false (xs ++ ys) ≡ ends_gap false ys
+ends_joined xs ys l = ends_after false xs ys ∙ ends_alone (ends_gap false xs) ys l
 
 pub blocks_joined : (xs ys : List Cell) → missing_blocks (xs ++ ys) ≡ missing_blocks xs ++ missing_blocks ys
 blocks_joined [] ys = refl
@@ -81,9 +81,9 @@ gaps_few [] = omega arith
 gaps_few (Byte x b ∷ cs) = let e = gaps_few cs in omega (arith, e)
 gaps_few (Gap n ∷ cs) = let e = gaps_few cs in omega (arith, e)
 
-pub runs_few : (open : Bool) (cs : List Cell) → run_count open cs ≤ gap_count cs
-runs_few open [] = omega arith
-runs_few open (Byte x b ∷ cs) = runs_few false cs
+pub runs_few : (before : Bool) (cs : List Cell) → run_count before cs ≤ gap_count cs
+runs_few before [] = omega arith
+runs_few before (Byte x b ∷ cs) = runs_few false cs
 runs_few true (Gap n ∷ cs) = let e = runs_few true cs in omega (arith, e)
 runs_few false (Gap n ∷ cs) = let e = runs_few true cs in omega (arith, e)
 
@@ -95,7 +95,7 @@ sum_joined v a b r xs ys p q m n c l s f e d = record {
   count = let x = p.count in let y = q.count in let z : length (xs ++ ys) ≡ length xs + length ys = search rules in omega (arith, c, x, y, z);
   lost = let x = p.lost in let y = q.lost in let z = gaps_joined xs ys in omega (arith, l, x, y, z);
   places = let x = p.places in let y = q.places in let z = places_joined xs ys in
-      let k : cond (a.ends && b.begins) 1 0 ≡ cond (ends false xs && begins ys) 1 0 = (λ i. cond (p.ends i && q.begins i) 1 0) in
+      let k : cond (a.ends && b.begins) 1 0 ≡ cond (ends_gap false xs && begins_gap ys) 1 0 = (λ i. cond (p.ends i && q.begins i) 1 0) in
       omega (arith, s, x, y, z, k);
   begins = f ∙ p.begins ∙ sym (begins_joined xs ys (let x = p.count in omega (arith, m, x)));
   ends = e ∙ q.ends ∙ sym (ends_joined xs ys (let y = q.count in omega (arith, n, y)));
@@ -118,17 +118,17 @@ sum_second_empty v a b xs ys p q z = subst (λ cs. IsSum v a (xs ++ cs)) (sym (n
     append_none (c ∷ cs) = ap (λ l. c ∷ l) (append_none cs)
 
 -- ---- cells of which one thing is known
-pub known_gaps : (cs : List Cell) → AreKnownCells cs → (gap_count cs ≡ 0) × (run_count false cs ≡ 0) × (begins cs ≡ false) × (ends false cs ≡ false) × (missing_blocks cs ≡ [])
+pub known_gaps : (cs : List Cell) → AreKnownCells cs → (gap_count cs ≡ 0) × (run_count false cs ≡ 0) × (begins_gap cs ≡ false) × (ends_gap false cs ≡ false) × (missing_blocks cs ≡ [])
 known_gaps [] h = (refl, refl, refl, refl, refl)
 known_gaps (Byte x b ∷ cs) h = let r = known_gaps cs h.1 in (r.0, r.1, refl, r.3, r.4)
 known_gaps (Gap n ∷ cs) h = absurd h.0
 
-gone_on : (cs : List Cell) → AreGaps cs → (gap_count cs ≡ length cs) × (run_count true cs ≡ 0) × (ends true cs ≡ true)
+gone_on : (cs : List Cell) → AreGaps cs → (gap_count cs ≡ length cs) × (run_count true cs ≡ 0) × (ends_gap true cs ≡ true)
 gone_on [] h = (refl, refl, refl)
 gone_on (Byte x b ∷ cs) h = absurd h
 gone_on (Gap n ∷ cs) h = let r = gone_on cs h in (let e = r.0 in omega (arith, e), r.1, r.2)
 
-pub gone_gaps : (cs : List Cell) → AreGaps cs → 0 < length cs → (gap_count cs ≡ length cs) × (run_count false cs ≡ 1) × (begins cs ≡ true) × (ends false cs ≡ true)
+pub gone_gaps : (cs : List Cell) → AreGaps cs → 0 < length cs → (gap_count cs ≡ length cs) × (run_count false cs ≡ 1) × (begins_gap cs ≡ true) × (ends_gap false cs ≡ true)
 gone_gaps [] h l = absurd (let z : ⊥ = omega (arith, l) in z)
 gone_gaps (Byte x b ∷ cs) h l = absurd h
 gone_gaps (Gap n ∷ cs) h l = let r = gone_on cs h in (let e = r.0 in omega (arith, e), (let e = r.1 in omega (arith, e)), refl, r.2)
@@ -180,7 +180,7 @@ with_head at (run ∷ runs) = go (nat_eq run.0 (at + 1))
     go true = eq-eqb at at refl
     go false = eq-eqb at at refl
 
-first_head : (at : ℕ) (cs : List Cell) → heads at (runs_from at cs) (begins cs)
+first_head : (at : ℕ) (cs : List Cell) → heads at (runs_from at cs) (begins_gap cs)
 first_head at [] = refl
 first_head at (Byte x b ∷ cs) = later_head at (runs_from (at + 1) cs) (start_runs (at + 1) cs)
 first_head at (Gap n ∷ cs) = with_head at (runs_from (at + 1) cs)
@@ -194,7 +194,7 @@ longer at (run ∷ runs) false h = ap (λ c. length (cond c ((at, run.1 + 1) ∷
 pub run_places : (at : ℕ) (cs : List Cell) → length (runs_from at cs) ≡ run_count false cs
 run_places at [] = refl
 run_places at (Byte x b ∷ cs) = run_places (at + 1) cs
-run_places at (Gap n ∷ cs) = let l = longer at (runs_from (at + 1) cs) (begins cs) (first_head (at + 1) cs) in
+run_places at (Gap n ∷ cs) = let l = longer at (runs_from (at + 1) cs) (begins_gap cs) (first_head (at + 1) cs) in
     let e = run_places (at + 1) cs in let o = opened cs in omega (arith, l, e, o)
 
 -- ---- what the cells say

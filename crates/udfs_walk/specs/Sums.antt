@@ -30,21 +30,21 @@ gap_count (Gap n ∷ cs) = gap_count cs + 1
 
 -- how many maximal runs of missing cells begin among these, where the cell before them is missing or not
 abbrev pub run_count : Bool → List Cell → ℕ
-run_count open [] = 0
-run_count open (Byte x holder ∷ cs) = run_count false cs
-run_count open (Gap n ∷ cs) = cond open 0 1 + run_count true cs
+run_count before [] = 0
+run_count before (Byte x holder ∷ cs) = run_count false cs
+run_count before (Gap n ∷ cs) = cond before 0 1 + run_count true cs
 
 -- whether the first cell is missing
-abbrev pub begins : List Cell → Bool
-begins [] = false
-begins (Byte x holder ∷ cs) = false
-begins (Gap n ∷ cs) = true
+abbrev pub begins_gap : List Cell → Bool
+begins_gap [] = false
+begins_gap (Byte x holder ∷ cs) = false
+begins_gap (Gap n ∷ cs) = true
 
 -- whether the last cell is missing; where there is none, whether the one before them is
-abbrev pub ends : Bool → List Cell → Bool
-ends open [] = open
-ends open (Byte x holder ∷ cs) = ends false cs
-ends open (Gap n ∷ cs) = ends true cs
+abbrev pub ends_gap : Bool → List Cell → Bool
+ends_gap before [] = before
+ends_gap before (Byte x holder ∷ cs) = ends_gap false cs
+ends_gap before (Gap n ∷ cs) = ends_gap true cs
 
 -- two readings of each of these blocks differ
 abbrev pub are_conflicts : (ℕ → State) → List ℕ → Bool
@@ -59,8 +59,8 @@ pub record IsSum (view : View) (s : Sum) (cs : List Cell) : Type 0 where
   pub count : s.count ≡ length cs
   pub lost : s.lost ≡ gap_count cs
   pub places : s.places ≡ run_count false cs
-  pub begins : s.begins ≡ begins cs
-  pub ends : s.ends ≡ ends false cs
+  pub begins : s.begins ≡ begins_gap cs
+  pub ends : s.ends ≡ ends_gap false cs
   pub disputed : s.disputed ≡ are_conflicts view.blocks (missing_blocks cs)
 
 -- how many bytes the holes have
