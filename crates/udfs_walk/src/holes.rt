@@ -103,10 +103,11 @@ impl Lacking {
     pub fn holes<'a, B: BlockStore>(&'a self, extents: &'a Extents<'a, B>) -> Holes<'a, B>
         ensures { B.tells → result ≡ (lacking_lists extents.now self.now).holes }
     {
+        let none: &[Stretch] = &[];
         Holes {
             extents,
             stretches: self.stretches(),
-            inside: knowledge_of(extents.view(), &[]),
+            inside: knowledge_of(extents.view(), none),
             start: 0,
             grown: 0,
         }

@@ -36,9 +36,10 @@ impl Lacking {
     pub(crate) fn stretches(&self) -> &[Stretch]
         ensures { result.now ≡ stretches_in self.now }
     {
+        let none: &[Stretch] = &[];
         match self {
-            Lacking::Nothing => &[],
-            Lacking::Block(_) => &[],
+            Lacking::Nothing => none,
+            Lacking::Block(_) => none,
             Lacking::Body(body) => body.stretches(),
         }
     }

@@ -227,6 +227,29 @@ $ report --last 600 disc.tab
 status 1
 out UDFREPORT1 last 600\nknown 8 conflict 0\nvolume ok revision 1.50 map type1\nlabel name TEST\nnode 0 whole directory 120 2001-07-04T09:30:00.000000Z /\nnode 1 torn unread - - /A\nmissing 275\nnode 2 whole file 2 2001-07-04T09:30:00.000000Z /B\nreread 275 unknown\nend\n
 
+= an_extent_that_a_file_has_three_times
+# All three extents of A are the 40 blocks from 277 on. What ends one and what begins the next is one hole.
+write 275 56 \0\xc0\x03\0
+write 275 172 \x18
+write 275 176 \0\x40\x01\0\x05\0\0\0\0\x40\x01\0\x05\0\0\0\0\x40\x01\0\x05
+but 277 316
+
+$ report --last 600 disc.tab
+status 1
+out UDFREPORT1 last 600\nknown 599 conflict 0\nvolume ok revision 1.50 map type1\nlabel name TEST\nnode 0 whole directory 120 2001-07-04T09:30:00.000000Z /\nnode 1 torn file 245760 2001-07-04T09:30:00.000000Z /A\nmissing 277\nmissing 316\nhole 0 2048\nhole 79872 4096\nhole 161792 4096\nhole 243712 2048\nnode 2 whole file 2 2001-07-04T09:30:00.000000Z /B\nreread 277 unknown\nreread 316 unknown\nend\n
+
+$ list --torn --last 600 disc.tab
+status 1
+out torn\tfile\t12288\t245760\t2001-07-04T09:30:00Z\t/A\n
+
+$ reread --last 600 disc.tab
+status 1
+out 277\n316\n
+
+$ page --last 600 --out p.html disc.tab
+status 1
+file-has p.html <div class=t><bdi>A</bdi><small>245.8 kB, torn: 12.3 kB lost, bytes 0&ndash;2047 79872&ndash;83967 161792&ndash;165887 243712&ndash;245759</small></div>\n
+
 = what_a_torn_directory_named_is_unnamed
 but 274
 
