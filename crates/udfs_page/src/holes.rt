@@ -46,11 +46,7 @@ fn push_more_ranges(text: &mut String, more: u64) -> Result<(), OutOfMemory>
 }
 
 /// The first runs of lost bytes, as many as are shown, and how many more of `places` there are.
-pub fn push_ranges(
-    text: &mut String,
-    first: &[(u64, u64)],
-    places: u64,
-) -> Result<(), OutOfMemory>
+pub fn push_ranges(text: &mut String, first: &[(u64, u64)], places: u64) -> Result<(), OutOfMemory>
     ensures { (holes : List (ℕ × ℕ)) → first.now ≡ take shown_ranges holes → places ≡ length holes → OnOk result (string_bytes text.new ≡ string_bytes text.old ++ ranges_html holes) }
 {
     push_all_ranges(text, first)?;

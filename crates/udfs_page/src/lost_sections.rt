@@ -1,7 +1,7 @@
 //! What is lost of a volume: the trees of its lost folders, and its lost files. A function `push_..` appends to a text; if memory runs out, a part may be
 //! appended. A function `put_..` also hands the text to a sink in pieces.
 
-ghost use Rattle.std.specs.Prelude.{◌≡◌, ◌++◌, IsErrOf, OnOk, false, flat_map, map, option_map, ℕ};
+ghost use Rattle.std.specs.Prelude.{◌≡◌, ◌++◌, IsErrOf, OnOk, false, flat_map, map, option_map};
 ghost use Rattle.std.specs.String.{string_bytes};
 ghost use Rattle.udfs_space.specs.Places.{View};
 ghost use Rattle.udfs_space.specs.Views.{view_by};
