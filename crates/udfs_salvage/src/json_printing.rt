@@ -10,7 +10,7 @@ ghost use Rattle.udfs_salvage.specs.JsonPieces.{kind_piece, more_values, told_pi
 ghost use Rattle.udfs_walk.specs.Bare.{lists_of};
 ghost use Rattle.udfs_walk.specs.declared.standings.Standing.{Standing};
 ghost use Rattle.udfs_salvage.specs.JsonReports.{reread_data};
-ghost use Rattle.udfs_salvage.specs.KeptLists.{lacks_lists};
+ghost use Rattle.udfs_salvage.specs.KeptLists.{AreSmall, lacks_lists};
 
 use crate::errors::RunError;
 use crate::json_nodes::hole_value;
@@ -283,6 +283,7 @@ pub(crate) fn put_lacks<B: BlockStore, W: Sink>(
     lacks: &Lacks,
     kind: Kind,
 ) -> Result<(), RunError>
+    requires { AreSmall lacks.now }
     ensures { B.tells → (standing : Standing) → lists_of standing ≡ lacks_lists extents.now lacks.now
         → PassesOn (W.stream sink.old) (W.stream sink.new) (string_bytes text.old) (string_bytes text.new) (told_piece standing kind) result }
 {

@@ -4,7 +4,7 @@ ghost use Rattle.std.specs.Prelude.{◌≡◌, IfOk, IfSome, IsErrOf};
 ghost use Rattle.udfs_space.specs.Views.{view_by};
 ghost use Rattle.udfs_walk.specs.Bare.{lists_at, lists_of, with_lists};
 ghost use Rattle.udfs_walk.specs.Lacking.{lacking_lists};
-ghost use Rattle.udfs_salvage.specs.KeptLists.{lacks_lists};
+ghost use Rattle.udfs_salvage.specs.KeptLists.{AreSmall, lacks_lists};
 
 use std::alloc::{AllocError, Global};
 use std::collections::BTreeMap;
@@ -139,6 +139,7 @@ impl<'a, B: BlockStore> KeptLists<'a, B> {
     /// What is missing of the torn body at an address: lists, which are kept, where there is room for them, and else the blocks alone. How long the lists are is
     /// known before the holes are listed.
     fn find(&mut self, alloc: Global, address: LongAd) -> Result<Lacks, GaveUp>
+        ensures small { IfOk result AreSmall }
         ensures lacks { IfOk result (λ lacks. B.tells → lacks_lists self.old lacks ≡ lists_at self.old address) }
         ensures view { self.new ≡ self.old }
         ensures fails { IsErrOf result GaveUp.Unread → B.fails }
@@ -163,6 +164,7 @@ impl<'a, B: BlockStore> KeptLists<'a, B> {
         address: LongAd,
         standing: &Standing,
     ) -> Result<Lacks, GaveUp>
+        ensures small { IfOk result AreSmall }
         ensures lacks { IfOk result (λ lacks. B.tells → lacks_lists self.old lacks ≡ lists_of (with_lists (lists_at self.old address) standing.now)) }
         ensures view { self.new ≡ self.old }
         ensures fails { IsErrOf result GaveUp.Unread → B.fails }
@@ -187,6 +189,7 @@ impl<'a, B: BlockStore> KeptLists<'a, B> {
         address: LongAd,
         standing: &Standing,
     ) -> Result<Lacks, GaveUp>
+        ensures small { IfOk result AreSmall }
         ensures lacks { IfOk result (λ lacks. B.tells → lacks_lists self.old lacks ≡ lists_of (with_lists (lists_at self.old address) standing.now)) }
         ensures view { self.new ≡ self.old }
         ensures fails { IsErrOf result GaveUp.Unread → B.fails }

@@ -4,7 +4,7 @@ ghost use Rattle.std.specs.Prelude.{◌≡◌, ◌++◌, IsErrOf, map};
 ghost use Rattle.udfs_space.specs.Views.{view_by};
 ghost use Rattle.udfs_walk.specs.Bare.{full_entry, full_node, lists_at, with_lists};
 ghost use Rattle.udfs_reading.specs.Puts.{Puts};
-ghost use Rattle.udfs_salvage.specs.KeptLists.{lacks_lists};
+ghost use Rattle.udfs_salvage.specs.KeptLists.{AreSmall, lacks_lists};
 ghost use Rattle.udfs_salvage.specs.Printing.{PutsMost};
 ghost use Rattle.udfs_salvage.specs.NodeTexts.{gap_lines, hole_lines, missing_lines, node_text, nodes_text, unnamed_text, unnamed_texts};
 
@@ -113,6 +113,7 @@ fn put_lacks<B: BlockStore, W: Sink>(
     extents: &Extents<'_, B>,
     lacks: &Lacks,
 )
+    requires { AreSmall lacks.now }
     ensures { B.tells → Puts (W.stream sink.old) (W.stream sink.new) out.old out.new
         (missing_lines (lacks_lists extents.now lacks.now).missing ++ hole_lines (lacks_lists extents.now lacks.now).holes) }
 {

@@ -12,7 +12,7 @@ ghost use Rattle.udfs_salvage.specs.Printing.{PassesOn, Prints};
 ghost use Rattle.udfs_salvage.specs.JsonNodes.{list_data, node_in, unnamed_data};
 ghost use Rattle.udfs_salvage.specs.JsonPieces.{entry_end, entry_front, more_values, node_end, node_front, report_end, report_front, reread_words, told_piece};
 ghost use Rattle.udfs_salvage.specs.JsonReports.{json_text_by, nodes_data, reread_data};
-ghost use Rattle.udfs_salvage.specs.KeptLists.{lacks_lists};
+ghost use Rattle.udfs_salvage.specs.KeptLists.{AreSmall, lacks_lists};
 ghost use Rattle.udfs_salvage.specs.StorePrinting.{PassesOnBy, PrintsBy};
 ghost use Rattle.udfs_salvage.specs.Surveys.{survey_by, survey_now};
 ghost use Rattle.udfs_salvage.specs.Texts.{has_two, line};
@@ -76,6 +76,7 @@ fn put_told_node<B: BlockStore, W: Sink>(
     node: &Node,
     lacks: &Lacks,
 ) -> Result<(), RunError>
+    requires { AreSmall lacks.now }
     ensures { B.tells → (full : Standing) → lists_of full ≡ lacks_lists extents.now lacks.now
         → PassesOn (W.stream sink.old) (W.stream sink.new) (string_bytes text.old) (string_bytes text.new)
         ((front.now ++ node_front node.now.hidden) ++ (told_piece full node.now.kind ++ node_end tail node.now)) result }
@@ -187,6 +188,7 @@ fn put_told_entry<B: BlockStore, W: Sink>(
     entry: &Unnamed,
     lacks: &Lacks,
 ) -> Result<(), RunError>
+    requires { AreSmall lacks.now }
     ensures { B.tells → (full : Standing) → lists_of full ≡ lacks_lists extents.now lacks.now
         → PassesOn (W.stream sink.old) (W.stream sink.new) (string_bytes text.old) (string_bytes text.new)
         ((front.now ++ entry_front entry.now.block) ++ (told_piece full entry.now.kind ++ entry_end two entry.now)) result }

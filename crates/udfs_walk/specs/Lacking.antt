@@ -1,6 +1,7 @@
 -- What an address leads to, of which something is missing, before any of that is listed.
 --     lacking_lists view l       what is missing of it
-use Rattle.std.specs.Prelude.{List, [], ◌∷◌}
+--     IsSmall l                  a number of 64 bits counts the bytes of the body
+use Rattle.std.specs.Prelude.{◌<◌, ◌^◌, List, [], ◌∷◌, length}
 use Rattle.udfs_space.specs.Places.{View}
 use Rattle.udfs_file.specs.Stretches.{cells_of}
 use Rattle.udfs_file.specs.declared.stretches.Stretch.{Stretch}
@@ -21,3 +22,7 @@ abbrev pub lacking_lists : View → Lacking → TornFields
 lacking_lists view Nothing = no_lists
 lacking_lists view (Block n) = record { missing = n ∷ []; holes = [] }
 lacking_lists view (Body stretches) = lists_of (cells_standing (cells_of view stretches))
+
+-- a number of 64 bits counts the bytes of the body, whatever is known of them
+abbrev pub IsSmall : Lacking → Type 0
+IsSmall l = (view : View) → length (cells_of view (stretches_in l)) < 2 ^ 64

@@ -2,6 +2,7 @@
 --     IsSum view sum cells           the numbers say what the cells lack
 --     sum_lists view sum lists       they say what is listed
 --     AreSums view sums              what is kept of extents are their sums
+--     AreCounts sums                 and counts their bytes
 use Rattle.std.specs.Prelude.{◌≡◌, ⊤, ℕ, ◌+◌, ◌-◌, Bool, true, false, ◌&&◌, List, [], ◌∷◌, cond, length, nat_eq, nat_le, sum_by, Option, Some, None}
 use Rattle.std.specs.BTreeMap.{BTreeMap, get}
 use Rattle.std.specs.List.{list_all, range_with_len}
@@ -85,6 +86,10 @@ key_cmp a b = ordering_then (nat_cmp a.0 b.0) (nat_cmp a.1 b.1)
 -- what is kept of an extent is its sum
 abbrev pub AreSums : View → BTreeMap (ℕ × ℕ) Sum → Type 0
 AreSums view sums = (s : Stretch) (k : ℕ × ℕ) (sum : Sum) → key_of s ≡ Some k → get key_cmp sums k ≡ Some sum → IsSum view sum (stretch_cells view s)
+
+-- whatever is known of the blocks, it counts the bytes of the extent
+abbrev pub AreCounts : BTreeMap (ℕ × ℕ) Sum → Type 0
+AreCounts sums = (k : ℕ × ℕ) (sum : Sum) → get key_cmp sums k ≡ Some sum → sum.count ≡ k.1
 
 -- all cells are missing
 abbrev pub AreGaps : List Cell → Type 0

@@ -3,7 +3,7 @@
 ghost use Rattle.std.specs.Prelude.{◌≡◌, IfOk, IsErrOf, map};
 ghost use Rattle.udfs_space.specs.Views.{view_by, view_now};
 ghost use Rattle.udfs_walk.specs.Bare.{full_entry, full_node, lists_at, no_lists, with_lists};
-ghost use Rattle.udfs_walk.specs.Lacking.{lacking_lists};
+ghost use Rattle.udfs_walk.specs.Lacking.{IsSmall, lacking_lists};
 
 use crate::answers::{Node, Unnamed};
 use crate::extents::Extents;
@@ -36,6 +36,7 @@ pub fn listed_holes<B: BlockStore>(
     lacking: &Lacking,
     places: u64,
 ) -> Result<Vec<(u64, u64)>, AllocError>
+    requires { IsSmall lacking.now }
     ensures { IfOk result (λ holes. B.tells → holes.items ≡ (lacking_lists extents.now lacking.now).holes) }
 {
     let mut holes = Vec::with_capacity(alloc, places as usize)?;
@@ -52,6 +53,7 @@ fn lists<B: BlockStore>(
     view: StoreView<'_, B>,
     lacking: &Lacking,
 ) -> Result<Torn, AllocError>
+    requires { IsSmall lacking.now }
     ensures { IfOk result (λ torn. B.tells → torn ≡ lacking_lists (view_by B.states view.entry) lacking.now) }
 {
     let mut missed = Missed::new(alloc, view);

@@ -1,12 +1,13 @@
 //! What extents lack, in numbers, each found once.
 
 ghost use Rattle.std.specs.Prelude.{◌≡◌, ◌<◌, ◌^◌, List, IfOk, IfSome, length};
+ghost use Rattle.udfs_space.specs.Places.{View};
 ghost use Rattle.udfs_space.specs.Views.{view_by};
 ghost use Rattle.udfs_file.specs.declared.cells.Cell.{Cell};
 ghost use Rattle.udfs_file.specs.Stretches.{cells_of, stretch_cells, stretch_count};
 ghost use Rattle.udfs_file.specs.Knowledge.{IsKnowledge, knowledge_count};
 ghost use Rattle.udfs_walk.specs.Sums.{IsListed, IsStep, IsSum, all_conflicts, key_of, step_count};
-ghost use Rattle.udfs_walk.specs.Lacking.{lacking_lists};
+ghost use Rattle.udfs_walk.specs.Lacking.{IsSmall, lacking_lists};
 
 use crate::lacking::Lacking;
 use std::alloc::{AllocError, Global};
@@ -16,7 +17,7 @@ use udfs_file::{Knowledge, Stretch, knowledge_of};
 use udfs_lattice::{BlockStore, Fact};
 use udfs_space::StoreView;
 
-/// How many bytes an extent has at least whose sum is kept: those of the blocks of one look at a store.
+/// How many bytes an extent has at least of which something is kept: those of the blocks of one look at a store.
 const LEAST: u32 = 65_536;
 
 /// Of how many extents the sums are kept.
@@ -63,7 +64,8 @@ impl Sum {
     #[tactic(auto, using(crate::proofs::SumLemmas::sum_joined, crate::proofs::SumLemmas::sum_first_empty, crate::proofs::SumLemmas::sum_second_empty, crate::proofs::SumLemmas::gaps_few, crate::proofs::SumLemmas::runs_few))]
     pub(crate) fn then(self, next: Sum) -> Sum
         requires { self.count + next.count < 2 ^ 64 }
-        ensures { (view : View) (xs ys : List Cell) → IsSum view self xs → IsSum view next ys → IsSum view result (xs ++ ys) }
+        ensures count { result.count ≡ self.count + next.count }
+        ensures sum { (view : View) (xs ys : List Cell) → IsSum view self xs → IsSum view next ys → IsSum view result (xs ++ ys) }
     {
         if self.count == 0 {
             return next;
@@ -110,7 +112,8 @@ fn are_in_conflict<B: BlockStore>(blocks: &B, first: u32, last: u32) -> bool
 
 /// The sum of bytes of which this is known.
 fn known_sum<B: BlockStore>(view: StoreView<'_, B>, told: Knowledge) -> Sum
-    ensures { B.tells → (cs : List Cell) → IsKnowledge told cs → length cs ≡ knowledge_count told → IsSum (view_by B.states view.entry) result cs }
+    ensures count { result.count ≡ knowledge_count told }
+    ensures sum { B.tells → (cs : List Cell) → IsKnowledge told cs → length cs ≡ knowledge_count told → IsSum (view_by B.states view.entry) result cs }
 {
     match told {
         Knowledge::Known(count) => Sum {
@@ -134,7 +137,8 @@ fn known_sum<B: BlockStore>(view: StoreView<'_, B>, told: Knowledge) -> Sum
 
 /// The sum of the bytes of a stretch, which are gone through.
 fn walked_sum<B: BlockStore>(view: StoreView<'_, B>, stretch: Stretch) -> Sum
-    ensures { B.tells → IsSum (view_by B.states view.entry) result (stretch_cells (view_by B.states view.entry) stretch) }
+    ensures count { result.count ≡ stretch_count stretch }
+    ensures sum { B.tells → IsSum (view_by B.states view.entry) result (stretch_cells (view_by B.states view.entry) stretch) }
 {
     let one = [stretch];
     let mut sum = Sum::none();
@@ -145,8 +149,8 @@ fn walked_sum<B: BlockStore>(view: StoreView<'_, B>, stretch: Stretch) -> Sum
     sum
 }
 
-/// What tells extents apart whose sums are kept: where the first block is, and how many bytes there are.
-fn key_of(stretch: Stretch) -> Option<(u64, u32)>
+/// What tells extents apart of which something is kept: where the first block is, and how many bytes there are.
+pub(crate) fn key_of(stretch: Stretch) -> Option<(u64, u32)>
     ensures { result ≡ key_of stretch }
 {
     match stretch {
@@ -174,13 +178,13 @@ pub struct Extents<'a, B: BlockStore> {
 impl<'a, B: BlockStore> Model for Extents<'a, B> {
     ghost use Rattle.udfs_space.specs.Places.{View};
     ghost use Rattle.udfs_space.specs.Views.{view_by};
-    ghost use Rattle.udfs_walk.specs.Sums.{AreSums};
+    ghost use Rattle.udfs_walk.specs.Sums.{AreCounts, AreSums};
 
     ghost Value = { View };
 
     ghost view = { λ e. view_by B.states e.view };
 
-    ghost invariant = { λ e. B.tells → AreSums (view_by B.states e.view) e.sums };
+    ghost invariant = { λ e. AreCounts e.sums × (B.tells → AreSums (view_by B.states e.view) e.sums) };
 }
 
 impl<'a, B: BlockStore> Extents<'a, B> {
@@ -224,7 +228,7 @@ impl<'a, B: BlockStore> Extents<'a, B> {
 
     /// The sum of stretches.
     fn stretches_sum(&mut self, stretches: &[Stretch]) -> Result<Sum, AllocError>
-        requires { length (cells_of self.old stretches.now) < 2 ^ 64 }
+        requires { (view : View) → length (cells_of view stretches.now) < 2 ^ 64 }
         ensures sum { IfOk result (λ sum. B.tells → IsSum self.old sum (cells_of self.old stretches.now)) }
         ensures view { self.new ≡ self.old }
     {
@@ -238,6 +242,7 @@ impl<'a, B: BlockStore> Extents<'a, B> {
     /// What is missing of what an address leads to, in numbers: how many bytes its holes have, how many holes there are, and whether nothing but
     /// blocks in conflict is missing. Each extent is gone through once, as far as there is room to keep what it lacks.
     pub fn sum(&mut self, lacking: &Lacking) -> Result<Sum, AllocError>
+        requires { IsSmall lacking.now }
         ensures sum { IfOk result (λ sum. B.tells → IsListed self.old sum (lacking_lists self.old lacking.now)) }
         ensures view { self.new ≡ self.old }
     {

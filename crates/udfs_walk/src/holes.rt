@@ -97,10 +97,11 @@ impl<'a, B: BlockStore> Holes<'a, B> {
 
 impl Lacking {
     ghost use Rattle.std.specs.Prelude.{◌≡◌};
-    ghost use Rattle.udfs_walk.specs.Lacking.{lacking_lists};
+    ghost use Rattle.udfs_walk.specs.Lacking.{IsSmall, lacking_lists};
 
     /// The holes, one after the other. It takes no memory. An extent of which `extents` knows that it is whole or wholly missing is not gone through.
     pub fn holes<'a, B: BlockStore>(&'a self, extents: &'a Extents<'a, B>) -> Holes<'a, B>
+        requires { IsSmall self.now }
         ensures { B.tells → result ≡ (lacking_lists extents.now self.now).holes }
     {
         let none: &[Stretch] = &[];

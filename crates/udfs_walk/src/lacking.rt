@@ -6,7 +6,7 @@ ghost use Rattle.udfs_file.specs.Bodies.{body};
 ghost use Rattle.udfs_file.specs.Entries.{entry_of};
 ghost use Rattle.udfs_file.specs.Stretches.{IsStanding};
 ghost use Rattle.udfs_walk.specs.Bare.{body_lists, lists_at, lists_of, with_lists};
-ghost use Rattle.udfs_walk.specs.Lacking.{lacking_lists};
+ghost use Rattle.udfs_walk.specs.Lacking.{IsSmall, lacking_lists};
 
 use crate::standings::Standing;
 use crate::targets::{Target, target_at};
@@ -53,13 +53,18 @@ fn entry_lacking<B: BlockStore>(
     address: LbAddr,
 ) -> Result<Lacking, GaveUp>
     requires { B.tells → IsStanding (view_by B.states view) address.reference address.block entry.now }
+    ensures small { IfOk result IsSmall }
     ensures value { IfOk result (λ found. B.tells → lacking_lists (view_by B.states view.entry) found ≡ body_lists (body (view_by B.states view.entry) address.reference address.block (entry_of entry.now))) }
     ensures fails { IsErrOf result GaveUp.Unread → B.fails }
 {
     match Body::read_by(alloc, view, entry, address.reference, address.block)? {
         Err(WalkError::OutOfMemory) => Err(GaveUp::OutOfMemory),
         Err(WalkError::Fault(_)) => Ok(Lacking::Nothing),
-        Ok(body) => Ok(Lacking::Body(body)),
+        Ok(body) => {
+            // The body has as many bytes as this number of 64 bits says.
+            let _size = entry.size();
+            Ok(Lacking::Body(body))
+        }
     }
 }
 
@@ -73,6 +78,7 @@ pub fn lacking_at<B: BlockStore>(
     view: StoreView<'_, B>,
     address: LongAd,
 ) -> Result<Lacking, GaveUp>
+    ensures small { IfOk result IsSmall }
     ensures value { IfOk result (λ found. B.tells → lacking_lists (view_by B.states view.entry) found ≡ lists_at (view_by B.states view.entry) address) }
     ensures fails { IsErrOf result GaveUp.Unread → B.fails }
 {
@@ -95,6 +101,7 @@ pub fn lacking_by<B: BlockStore>(
     address: LongAd,
     standing: &Standing,
 ) -> Result<Lacking, GaveUp>
+    ensures small { IfOk result IsSmall }
     ensures value { IfOk result (λ found. B.tells → lacking_lists (view_by B.states view.entry) found ≡ lists_of (with_lists (lists_at (view_by B.states view.entry) address) standing.now)) }
     ensures fails { IsErrOf result GaveUp.Unread → B.fails }
 {

@@ -1,10 +1,11 @@
 //! What torn bodies lack, in numbers and by their first holes, found once for each.
 
-ghost use Rattle.std.specs.Prelude.{◌≡◌, IfOk, IsErrOf, take};
+ghost use Rattle.std.specs.Prelude.{◌≡◌, IfOk, IsErrOf, None, take};
+ghost use Rattle.udfs_file.specs.Addresses.{address_fault};
 ghost use Rattle.udfs_space.specs.Views.{view_by};
 ghost use Rattle.udfs_walk.specs.Bare.{bare_standing, lists_at, with_lists};
-ghost use Rattle.udfs_walk.specs.Lacking.{lacking_lists};
-ghost use Rattle.udfs_walk.specs.Losses.{doubt_of, loss_of};
+ghost use Rattle.udfs_walk.specs.Lacking.{IsSmall, lacking_lists};
+ghost use Rattle.udfs_walk.specs.Losses.{IsKept, doubt_of, loss_of};
 ghost use Rattle.udfs_walk.specs.Sums.{hole_bytes};
 
 use crate::bare::no_lists;
@@ -124,8 +125,16 @@ struct Kept {
 }
 
 impl Kept {
+    ghost use Rattle.std.specs.Prelude.{◌≡◌, ℕ, IfOk};
+    ghost use Rattle.udfs_space.specs.Places.{View};
+    ghost use Rattle.udfs_walk.specs.Losses.{IsKept, doubt_of, loss_of};
+    ghost use Rattle.udfs_walk.specs.TornFields.{TornFields};
+    ghost use Rattle.udfs_walk.specs.declared.standings.Standing.TheVariants as walk_standing;
+
     /// The same as what a torn node lacks.
-    fn told(&self, alloc: Global) -> Result<(Loss, bool), AllocError> {
+    fn told(&self, alloc: Global) -> Result<(Loss, bool), AllocError>
+        ensures { IfOk result (λ told. (view : View) (most : ℕ) (lists : TornFields) → IsKept view most self.now lists → (told.0 ≡ loss_of most (walk_standing.Torn lists)) × (told.1 ≡ doubt_of view.blocks (walk_standing.Torn lists))) }
+    {
         let first = self.first.clone()?;
         let loss = Loss {
             standing: Standing::Torn(no_lists(alloc)),
@@ -183,6 +192,7 @@ impl<'a, B: BlockStore> Losses<'a, B> {
 
     /// The first holes of what an address leads to.
     fn first(&self, alloc: Global, lacking: &Lacking) -> Result<Vec<(u64, u64)>, AllocError>
+        requires { IsSmall lacking.now }
         ensures { IfOk result (λ first. B.tells → first.items ≡ take self.now.most (lacking_lists self.now.view lacking.now).holes) }
     {
         let mut first = Vec::new(alloc);
@@ -197,7 +207,11 @@ impl<'a, B: BlockStore> Losses<'a, B> {
     }
 
     /// What is missing of what an address leads to.
-    fn find(&mut self, alloc: Global, address: LongAd) -> Result<Kept, GaveUp> {
+    fn find(&mut self, alloc: Global, address: LongAd) -> Result<Kept, GaveUp>
+        ensures found { IfOk result (λ found. B.tells → IsKept self.old.view self.old.most found (lists_at self.old.view address)) }
+        ensures view { self.new ≡ self.old }
+        ensures fails { IsErrOf result GaveUp.Unread → B.fails }
+    {
         let lacking = lacking_at(alloc, self.view(), address)?;
         let sum = self.extents.sum(&lacking)?;
         let first = self.first(alloc, &lacking)?;
@@ -209,14 +223,18 @@ impl<'a, B: BlockStore> Losses<'a, B> {
         })
     }
 
-    /// Keeps what was found of a body, if there is room.
-    fn keep(&mut self, number: u64, found: Kept) -> Result<(), AllocError> {
+    /// Keeps what was found of the body at an address without a fault, if there is room.
+    fn keep(&mut self, address: LongAd, found: Kept) -> Result<(), AllocError>
+        requires sound { address_fault self.old.view address ≡ None }
+        requires found { B.tells → IsKept self.old.view self.old.most found (lists_at self.old.view address) }
+        ensures { self.new ≡ self.old }
+    {
         let size = found.first.len().saturating_mul(16).saturating_add(BESIDE);
         if size > self.room {
             return Ok(());
         }
         self.room -= size;
-        self.kept.insert(number, found)?;
+        self.kept.insert(address.address().number(), found)?;
         Ok(())
     }
 
@@ -252,7 +270,7 @@ impl<'a, B: BlockStore> Losses<'a, B> {
         let found = self.find(alloc, address)?;
         let told = found.told(alloc)?;
         if sound {
-            self.keep(number, found)?;
+            self.keep(address, found)?;
         }
         Ok(told)
     }

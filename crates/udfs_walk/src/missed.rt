@@ -10,6 +10,7 @@ ghost use Rattle.udfs_walk.specs.Missed.{IsCovered};
 ghost use Rattle.udfs_walk.specs.Standings.{missing_blocks};
 
 use crate::block_runs::{BlockRun, ascending, sorted};
+use crate::extents::key_of;
 use crate::lacking::Lacking;
 use std::alloc::{AllocError, Global};
 use std::collections::BTreeMap;
@@ -21,25 +22,8 @@ use udfs_space::StoreView;
 /// The least number of runs at which those that touch or overlap are joined.
 const MOST_RUNS: usize = 65_536;
 
-/// How many bytes an extent has at least that is not gone through again.
-const LEAST: u32 = 65_536;
-
-/// How many such extents are kept.
+/// Of how many extents it is kept that they are not gone through again.
 const MOST_EXTENTS: usize = 65_536;
-
-/// Where the first block of an extent is that is not gone through again, and how many bytes the extent has.
-fn extent_of(stretch: Stretch) -> Option<(u64, u32)> {
-    match stretch {
-        Stretch::Recorded(run, count) => {
-            if run.offset == 0 && count >= LEAST {
-                Some((run.address.number(), count))
-            } else {
-                None
-            }
-        }
-        _ => None,
-    }
-}
 
 /// Blocks of a volume that are missing, as a set. In contracts they are that view of the volume and those blocks, of which only the set counts.
 #[derive(Drop)]
@@ -115,7 +99,7 @@ impl<'a, B: BlockStore> Missed<'a, B> {
     fn covers(&self, stretch: Stretch) -> bool
         ensures { result ≡ true → B.tells → IsCovered self.now (missing_blocks (stretch_cells self.now.view stretch)) }
     {
-        let Some((number, count)) = extent_of(stretch) else {
+        let Some((number, count)) = key_of(stretch) else {
             return false;
         };
         match self.met.get(&number) {
@@ -129,7 +113,7 @@ impl<'a, B: BlockStore> Missed<'a, B> {
         requires { B.tells → IsCovered self.old (missing_blocks (stretch_cells self.old.view stretch)) }
         ensures { self.new ≡ self.old }
     {
-        let Some((number, count)) = extent_of(stretch) else {
+        let Some((number, count)) = key_of(stretch) else {
             return Ok(());
         };
         if self.room == 0 {
