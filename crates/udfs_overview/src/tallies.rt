@@ -8,7 +8,7 @@ ghost use Rattle.udfs_walk.specs.Losses.{doubt_of, loss_of};
 ghost use Rattle.udfs_walk.specs.NodeFields.{NodeFields};
 ghost use Rattle.udfs_walk.specs.declared.standings.Standing.{Standing};
 ghost use Rattle.udfs_salvage.specs.Surveys.{survey_by};
-ghost use Rattle.udfs_overview.specs.Tallies.{at_most_128_bits, bytes_of, count_of, is_aside, is_faulty, is_folder, is_left_out, is_loop, is_of, is_other, is_torn, is_unread, or_zero, tally_with, torn_file, torn_files, torn_part};
+ghost use Rattle.udfs_overview.specs.Tallies.{at_most_128_bits, bytes_of, count_of, is_aside, is_faulty, is_folder, is_left_out, is_loop, is_of, is_other, is_torn, is_unread, only_conflicts, or_zero, tally_with, torn_file, torn_files, torn_part};
 ghost use Rattle.udfs_overview.specs.TornFiles.{bytes_in, damaged_in, disputed_in, lost_in, torn_now};
 ghost use Rattle.udfs_salvage.specs.UnnamedExtraction.{is_file};
 
@@ -259,19 +259,26 @@ fn full_torn_files<'a, B: BlockStore>(
     Ok(files)
 }
 
-/// Whether nothing is missing but blocks in conflict.
-fn is_disputed<B: BlockStore>(blocks: &B, standing: &Standing) -> bool
-    ensures { B.tells → result ≡ doubt_of (B.states blocks.now) standing.now }
+/// Whether two readings of each of these blocks differ.
+fn only_conflicts<B: BlockStore>(blocks: &B, missing: &[u32]) -> bool
+    ensures { B.tells → result ≡ only_conflicts (B.states blocks.now) missing.now }
 {
-    let Standing::Torn(torn) = standing else {
-        return false;
-    };
-    for block in &torn.missing {
+    for block in missing {
         if !is_in_conflict(blocks, *block) {
             return false;
         }
     }
     true
+}
+
+/// Whether nothing is missing but blocks in conflict.
+fn is_disputed<B: BlockStore>(blocks: &B, standing: &Standing) -> bool
+    ensures { B.tells → result ≡ doubt_of (B.states blocks.now) standing.now }
+{
+    match standing {
+        Standing::Torn(torn) => only_conflicts(blocks, &torn.missing),
+        _ => false,
+    }
 }
 
 /// What a node lacks, if it is a torn file.

@@ -78,11 +78,11 @@ pub gathered_still : (v : View) (icbs : BTreeSet ℕ) (old more : List ℕ) → 
 gathered_still v icbs old more h = λ a l c n i. (ascending_contains (old ++ more) n).1 (Contains-append_left old more n ((ascending_contains old n).0 (h a l c n i)))
 
 -- what is missing where an address has this fault, if any
-lists_by : (v : View) (a : LongAd) (f : Option NodeFault) → address_fault v a ≡ f → lists_at v a ≡ target_lists v a (target_at f a.block (block_at v a.reference a.block))
+pub lists_by : (v : View) (a : LongAd) (f : Option NodeFault) → address_fault v a ≡ f → lists_at v a ≡ target_lists v a (target_at f a.block (block_at v a.reference a.block))
 unfolding lists_at target
 lists_by v a f e = ap (λ g. target_lists v a (target_at g a.block (block_at v a.reference a.block))) e
 
-same_lists : (v : View) (a d : LongAd) (t : Target) → a.reference ≡ d.reference → a.block ≡ d.block → target_lists v d t ≡ target_lists v a t
+pub same_lists : (v : View) (a d : LongAd) (t : Target) → a.reference ≡ d.reference → a.block ≡ d.block → target_lists v d t ≡ target_lists v a t
 same_lists v a d (bad f) r b = refl
 same_lists v a d (unread n) r b = refl
 same_lists v a d (entry e) r b = (λ i. body_lists (body v (sym r i) (sym b i) e))

@@ -17,6 +17,7 @@ pub mod BareRereads
 pub mod SumLemmas
 pub mod HoleLemmas
 pub mod MissedLemmas
+pub mod LossLemmas
 pub mod KindLemmas
 pub mod MemoLemmas
 pub mod SettleLemmas

@@ -1,6 +1,5 @@
 use Rattle.std.proofs.Common.{◌∙◌, [], ap, cond, subst, sym}
 use Rattle.std.specs.String.{string_bytes}
-use Rattle.udfs_space.specs.Views.{view_by}
 use Rattle.udfs_walk.specs.Bare.{full_entry}
 use Rattle.udfs_lost.specs.FoundNames.{found_names, unplaced}
 use Rattle.udfs_salvage.specs.StorePrinting.{PassesOnBy}
@@ -13,7 +12,7 @@ pub returns-clause-printed : goal.returns-clause-printed
 unfolding found_lines
 returns-clause-printed g c told =
     let W = g.W.Sink in
-    let v = view_by g.B.BlockStore.states c.args.view in
+    let v = c.args.losses.now.view in
     let a = c.args in
     subst (λ lines. PassesOnBy (W.stream c.args.sink.now) (W.stream c.put_all.new.sink) (string_bytes c.args.text.now) (string_bytes c.put_all.new.text) lines c.put_all.result)
     (ap (λ us. all_found a.form v a.two (full_names v us) a.nodes.now a.trees.now) (c.in_ok-lost.ensures.value told)

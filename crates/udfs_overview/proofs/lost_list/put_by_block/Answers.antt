@@ -4,7 +4,6 @@ use Rattle.std.specs.Borrow.{Bor}
 use Rattle.std.specs.List.{list_any}
 use Rattle.std.specs.String.{string_bytes}
 use Rattle.std.proofs.lemmas.Result.{err_from_is_err_and}
-use Rattle.udfs_space.specs.Views.{view_by}
 use Rattle.udfs_walk.specs.Bare.{full_entry}
 use Rattle.udfs_walk.specs.Targets.{is_icb}
 use Rattle.udfs_walk.specs.declared.answers.Unnamed.{Unnamed}
@@ -16,7 +15,7 @@ use Rattle.udfs_overview.proofs.lost_list.put_by_block.Goals as goal
 pub returns-in_err-put_trees-clause-printed : goal.returns-in_err-put_trees-clause-printed
 returns-in_err-put_trees-clause-printed g c told =
     let p = err_from_is_err_and c.from_residual-in_err-put_trees.result c.from_residual-in_err-put_trees.ensures.1 in
-    let v = view_by g.B.BlockStore.states c.args.view in
+    let v = c.args.losses.now.view in
     let a = c.args in
     let named : Named = λ icb. list_any (is_icb icb) a.named.now in
     let files = c.in_ok-files.files.items in
@@ -26,7 +25,7 @@ returns-in_err-put_trees-clause-printed g c told =
 pub returns-clause-printed : goal.returns-clause-printed
 returns-clause-printed g c told =
     let W = g.W.Sink in
-    let v = view_by g.B.BlockStore.states c.args.view in
+    let v = c.args.losses.now.view in
     let a = c.args in
     let named : Named = λ icb. list_any (is_icb icb) a.named.now in
     let files = c.in_ok-files.files.items in

@@ -1,9 +1,8 @@
-use Rattle.std.proofs.Common.{take}
+use Rattle.std.proofs.Common.{take, ◌≡◌}
 use Rattle.std.specs.List.{list_any}
 use Rattle.std.specs.Prelude.{flat_map}
 use Rattle.std.specs.String.{string_bytes}
 use Rattle.udfs_reading.specs.Writing.{Passed}
-use Rattle.udfs_space.specs.Views.{view_by}
 use Rattle.udfs_walk.specs.Targets.{is_icb}
 use Rattle.udfs_overview.specs.LostLists.{tree_lines}
 use Rattle.udfs_overview.proofs.lost_list.put_trees.Given as goal
@@ -11,6 +10,8 @@ use Rattle.udfs_overview.proofs.lost_list.put_trees.Given as goal
 -- the lines so far
 abbrev pub invariant-loop-tree : goal.invariant-loop-tree
 invariant-loop-tree g l =
-    let W = g.W.Sink in
-    g.B.BlockStore.tells → Passed (W.stream l.fn.sink) (W.stream l.sink) (string_bytes l.fn.text) (string_bytes l.text)
-    (flat_map (tree_lines l.form (view_by g.B.BlockStore.states l.view) l.two (λ icb. list_any (is_icb icb) l.named) l.nodes) (take l.tree-index l.trees))
+    let W = g.W.Sink in record {
+      view : l.losses ≡ l.fn.losses;
+      printed : g.B.BlockStore.tells → Passed (W.stream l.fn.sink) (W.stream l.sink) (string_bytes l.fn.text) (string_bytes l.text)
+          (flat_map (tree_lines l.form l.fn.losses.view l.two (λ icb. list_any (is_icb icb) l.named) l.nodes) (take l.tree-index l.trees));
+    }

@@ -9,5 +9,7 @@ use Rattle.udfs_overview.proofs.tallies.full_torn_files.Given as goal
 -- those so far
 abbrev pub invariant-loop-node : goal.invariant-loop-node
 invariant-loop-node g l =
-    let view = view_by g.B.BlockStore.states l.view in
-    g.B.BlockStore.tells → map torn_now l.files.items ≡ filter_map (torn_file view.blocks) (take l.node-index (map (full_node view) l.nodes))
+    let view = view_by g.B.BlockStore.states l.view in record {
+      view : l.losses.view ≡ view_by g.B.BlockStore.states l.view;
+      files : g.B.BlockStore.tells → map torn_now l.files.items ≡ filter_map (torn_file view.blocks) (take l.node-index (map (full_node view) l.nodes));
+    }

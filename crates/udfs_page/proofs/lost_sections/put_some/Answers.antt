@@ -3,7 +3,6 @@ use Rattle.std.specs.Borrow.{Bor}
 use Rattle.std.specs.Prelude.{codes, flat_map}
 use Rattle.std.specs.String.{string_bytes}
 use Rattle.std.proofs.lemmas.Result.{err_from_is_err_and}
-use Rattle.udfs_space.specs.Views.{view_by}
 use Rattle.udfs_walk.specs.Bare.{full_entry}
 use Rattle.udfs_walk.specs.declared.answers.Unnamed.{Unnamed}
 use Rattle.udfs_page.specs.LostSections.{lost_file_html, some_files_html}
@@ -16,7 +15,7 @@ unfolding some_files_html
 returns-in_err-put_each-clause-printed g c told =
     let p = err_from_is_err_and c.from_residual-in_err-put_each.result c.from_residual-in_err-put_each.ensures.1 in
     let W = g.W.Sink in
-    let v = view_by g.B.BlockStore.states c.args.view in
+    let v = c.args.losses.now.view in
     let front = markup (codes "<details class=w><summary>Files without a folder</summary>\n") in
     let files = flat_map (lost_file_html v c.args.two) (map (λ (file : Bor Unnamed). full_entry v file.now) c.args.files.now) in
     let end = markup (codes "</details>\n") in
@@ -27,7 +26,7 @@ unfolding some_files_html
 returns-in_err-push_markup-2-clause-printed g c told =
     let p = err_from_is_err_and c.from_residual-in_err-push_markup-2.result c.from_residual-in_err-push_markup-2.ensures.1 in
     let W = g.W.Sink in
-    let v = view_by g.B.BlockStore.states c.args.view in
+    let v = c.args.losses.now.view in
     let front = markup (codes "<details class=w><summary>Files without a folder</summary>\n") in
     let files = flat_map (lost_file_html v c.args.two) (map (λ (file : Bor Unnamed). full_entry v file.now) c.args.files.now) in
     let end = markup (codes "</details>\n") in
@@ -37,7 +36,7 @@ pub returns-clause-printed : goal.returns-clause-printed
 unfolding some_files_html
 returns-clause-printed g c told =
     let W = g.W.Sink in
-    let v = view_by g.B.BlockStore.states c.args.view in
+    let v = c.args.losses.now.view in
     let front = markup (codes "<details class=w><summary>Files without a folder</summary>\n") in
     let files = flat_map (lost_file_html v c.args.two) (map (λ (file : Bor Unnamed). full_entry v file.now) c.args.files.now) in
     let end = markup (codes "</details>\n") in
