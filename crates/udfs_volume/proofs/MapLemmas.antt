@@ -1,10 +1,12 @@
 -- What the maps of a logical volume give, one after the other.
-use Rattle.std.proofs.Common.{◌≡◌, ◌⊎◌, inl, inr, refl, sym, ◌∙◌, ap, ℕ, ◌-◌, Bool, true, false, List, [], ◌∷◌, drop, cond, ◌&&◌, ◌||◌, Option, Some, None, nat_le}
+use Rattle.std.proofs.Common.{◌≡◌, ◌⊎◌, inl, inr, refl, sym, ◌∙◌, ap, ℕ, ◌-◌, Bool, true, false, List, [], ◌∷◌, drop, cond, ◌&&◌, ◌||◌, Option, Some, None, arith, nat_eq, nat_le}
 use Rattle.std.specs.Prelude.{option_map}
+use Rattle.udfs_volume.specs.declared.found_maps.FoundMap.{FoundMap}
 use Rattle.udfs_volume.specs.declared.profiles.Profile.{Profile}
+use Rattle.udfs_volume.specs.declared.profiles.Profile.TheVariants.{Wide}
 use Rattle.udfs_tag.specs.Fields.{uint16_at, uint32_at}
 use Rattle.udfs_volume.specs.Sequence.{Bytes, Descriptor}
-use Rattle.udfs_volume.specs.Layout.{PartitionMap, NumberedMap, type1, bp, is_type1, is_sparable, is_kind_of, are_tables, read_map, read_maps, before_maps, map_size, map_count, unless_repeated, the_maps}
+use Rattle.udfs_volume.specs.Layout.{AllMaps, PartitionMap, NumberedMap, type1, bp, is_type1, is_sparable, is_kind_of, are_tables, read_map, read_maps, before_maps, map_size, map_count, unless_repeated, the_maps, read_found, maps_with, found_after, found_maps}
 use Rattle.udfs_volume.specs.Parts.{map_read}
 
 pub all_three : (a b c : Bool) → a ≡ true → b ≡ true → c ≡ (a && b && c)
@@ -64,6 +66,29 @@ maps-two profile last lv m n b c e f k = ap (these profile last lv) c ∙ ap (af
 pub maps-none : (profile : Profile) (last : ℕ) (lv : Descriptor) → (map_count lv ≡ 1) ⊎ (map_count lv ≡ 2) → first_of profile last lv ≡ None → None ≡ the_maps profile last lv
 maps-none profile last lv (inl c) e = sym (maps-none-one profile last lv c e)
 maps-none profile last lv (inr c) e = sym (maps-none-two profile last lv c e)
+
+-- ---- a second map of a partition that is found in a file
+abbrev found_after_first : ℕ → Descriptor → Option NumberedMap → Option AllMaps
+found_after_first last lv o = found_after o (uint32_at lv.content (bp 264)) (drop (bp 440) lv.content)
+
+two_maps : (last : ℕ) (lv : Descriptor) (b : Bool) → nat_eq (map_count lv) 2 ≡ b → found_maps Wide last lv ≡ cond b (found_after_first last lv (first_of Wide last lv)) None
+two_maps last lv b e = ap (λ x. cond x (found_after_first last lv (first_of Wide last lv)) None) e
+
+is_two : (n : ℕ) → n ≡ 2 → nat_eq n 2 ≡ true
+is_two n e = grind arith
+
+not_two : (n : ℕ) → (n ≡ 2 → ⊥) → nat_eq n 2 ≡ false
+not_two n e = grind arith
+
+pub found-other_count : (last : ℕ) (lv : Descriptor) → (map_count lv ≡ 2 → ⊥) → None ≡ found_maps Wide last lv
+found-other_count last lv h = sym (two_maps last lv false (not_two (map_count lv) h))
+
+pub found-no_first : (last : ℕ) (lv : Descriptor) → map_count lv ≡ 2 → first_of Wide last lv ≡ None → None ≡ found_maps Wide last lv
+found-no_first last lv c e = sym (two_maps last lv true (is_two (map_count lv) c) ∙ ap (found_after_first last lv) e)
+
+pub found-second : (last : ℕ) (lv : Descriptor) (m : NumberedMap) (o : Option FoundMap) → map_count lv ≡ 2 → first_of Wide last lv ≡ Some m
+    → o ≡ read_found m (uint32_at lv.content (bp 264) - map_size m.0) (drop (map_size m.0) (drop (bp 440) lv.content)) → maps_with m o ≡ found_maps Wide last lv
+found-second last lv m o c e f = ap (maps_with m) f ∙ sym (two_maps last lv true (is_two (map_count lv) c) ∙ ap (found_after_first last lv) e)
 
 pub two_if : (n : ℕ) → (n ≡ 1) ⊎ (n ≡ 2) → (n ≡ 1 → ⊥) → n ≡ 2
 two_if n (inl e) h = absurd (h e)

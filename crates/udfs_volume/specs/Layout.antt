@@ -4,6 +4,7 @@
 --     reserve_layout_by profile blocks last   the same by the reserve sequence
 --     layout_by profile blocks last       the first of these; by the wide rules the second where the first is a fault of what the main sequence says
 --     layout blocks last                  the same by the strict rules
+--     all_maps profile last lv            the maps of a logical volume; by the wide rules also one of a partition that is found in a file
 use Rattle.std.specs.Prelude.{ℕ, zero, suc, ◌+◌, ◌-◌, ◌*◌, ◌/◌, Bool, true, false, not, List, [], ◌∷◌, length, drop, map, filter, cond, nat_eq, nat_le, nat_lt, ◌&&◌, ◌||◌, Option, Some, None, find, codes, is_none, option_map}
 use Rattle.std.specs.List.{range_with_len, list_all, list_any}
 use Rattle.std.specs.Str.{bytes_eq}
@@ -15,8 +16,10 @@ use Rattle.udfs_tag.specs.Faults.{is_within, first_fault}
 use Rattle.udfs_osta.specs.declared.labels.Label.{Label}
 use Rattle.udfs_osta.specs.Labels.{label_of}
 use Rattle.udfs_volume.specs.Answers.{Answer, found, holes, faulty, and_then, unless_fault}
+use Rattle.udfs_volume.specs.declared.found_maps.FoundMap.{FoundMap}
 use Rattle.udfs_volume.specs.declared.profiles.Profile.{Profile}
 use Rattle.udfs_volume.specs.declared.profiles.Profile.TheVariants.{Strict, Wide}
+use Rattle.udfs_volume.specs.FoundMaps.{found_map}
 use Rattle.udfs_volume.specs.Profiles.{accepts_packet, accepts_revision}
 use Rattle.udfs_volume.specs.declared.faults.VolumeFault.{VolumeFault}
 use Rattle.udfs_volume.specs.declared.faults.VolumeFault.TheVariants.{NoAnchor, Extents, NoLogicalVolume, Domain, BlockSize, MapCount, MapKind, NoPartition, Contents, PartitionRange}
@@ -146,6 +149,31 @@ abbrev pub unless_repeated : Option (List NumberedMap) → Option (List Numbered
 unless_repeated None = None
 unless_repeated (Some ms) = cond (repeats_kind (map (λ m. m.0) ms)) None (Some ms)
 
+-- whether the blocks of a map's partition lie one after the other
+abbrev pub is_direct : PartitionMap → Bool
+is_direct type1 = true
+is_direct (sparable packet size tables) = false
+
+-- the map of a partition that is found in a file of another map's partition, at the beginning of these bytes, of which this many are left of the map
+-- table: it has that map's partition number
+abbrev pub read_found : NumberedMap → ℕ → Bytes → Option FoundMap
+read_found m length bytes = cond (nat_le 64 length && nat_eq (uint16_at bytes 38) m.1) (found_map (is_direct m.0) bytes) None
+
+-- The maps of a logical volume: those of partitions that have blocks of their own, and the map of one that is found in a file of the first of them.
+pub record AllMaps : Type 0 where
+  pub numbered : List NumberedMap
+  pub found : Option FoundMap
+
+-- a map and the one of a partition that is found in a file of its partition
+abbrev pub maps_with : NumberedMap → Option FoundMap → Option AllMaps
+maps_with m None = None
+maps_with m (Some f) = Some (record { numbered = m ∷ []; found = Some f })
+
+-- a map, and after it in a map table of this length one of a partition that is found in a file of its partition
+abbrev pub found_after : Option NumberedMap → ℕ → Bytes → Option AllMaps
+found_after None length bytes = None
+found_after (Some m) length bytes = maps_with m (read_found m (length - map_size m.0) (drop (map_size m.0) bytes))
+
 -- how many partition maps a logical volume descriptor has (ECMA-167 3/10.6.9)
 abbrev pub map_count : Descriptor → ℕ
 map_count lv = uint32_at lv.content (bp 268)
@@ -153,6 +181,21 @@ map_count lv = uint32_at lv.content (bp 268)
 -- the maps, no two of one kind (this project's own rule)
 abbrev pub the_maps : Profile → ℕ → Descriptor → Option (List NumberedMap)
 the_maps profile last lv = unless_repeated (read_maps profile last (map_count lv) (uint32_at lv.content (bp 264)) (drop (bp 440) lv.content))
+
+-- by the wide rules: two maps of which the second is that of a partition that is found in a file of the first one's
+abbrev pub found_maps : Profile → ℕ → Descriptor → Option AllMaps
+found_maps Strict last lv = None
+found_maps Wide last lv = let length = uint32_at lv.content (bp 264) in let bytes = drop (bp 440) lv.content in
+    cond (nat_eq (map_count lv) 2) (found_after (read_map Wide last length bytes) length bytes) None
+
+-- maps of partitions that have blocks of their own, or else others
+abbrev pub or_found : Option (List NumberedMap) → Option AllMaps → Option AllMaps
+or_found None other = other
+or_found (Some ms) other = Some (record { numbered = ms; found = None })
+
+-- all maps of a logical volume
+abbrev pub all_maps : Profile → ℕ → Descriptor → Option AllMaps
+all_maps profile last lv = or_found (the_maps profile last lv) (found_maps profile last lv)
 
 -- whether the domain is that of OSTA UDF (UDF 2.2.4.3)
 abbrev pub has_domain : Descriptor → Bool

@@ -1,12 +1,14 @@
 //! Partition maps (ECMA-167 3/10.7, UDF 2.2.9).
 
-ghost use Rattle.std.specs.Prelude.{◌≡◌, ◌≤◌, ◌⊎◌, length, map, cond, option_map, IfOk, Some, None, nat_le, ◌&&◌};
-ghost use Rattle.udfs_tag.specs.Fields.{uint8_at};
-ghost use Rattle.udfs_volume.specs.Layout.{are_tables, are_within, blocks_in, has_numbers, is_kind_of, is_sparable, is_type1, map_count, map_size, read_map, table_places, the_maps};
-ghost use Rattle.udfs_volume.specs.Parts.{map_now, map_read, numbered_now, sparable_now};
+ghost use Rattle.std.specs.Prelude.{◌≡◌, ◌≤◌, ◌⊎◌, length, map, cond, option_map, IfOk, Some, None, nat_eq, nat_le, ◌&&◌};
+ghost use Rattle.udfs_tag.specs.Fields.{uint8_at, uint16_at};
+ghost use Rattle.udfs_volume.specs.Layout.{all_maps, are_tables, are_within, blocks_in, found_maps, has_numbers, is_direct, is_kind_of, is_sparable, is_type1, map_count, map_size, read_found, read_map, table_places, the_maps};
+ghost use Rattle.udfs_volume.specs.Parts.{map_now, map_read, maps_now, numbered_now, sparable_now};
 ghost use Rattle.udfs_volume.specs.Sequences.{descriptor_now};
+ghost use Rattle.udfs_volume.specs.declared.profiles.Profile.{Profile};
 
 use crate::descriptors::{Descriptor, behind, is_named};
+use crate::found_maps::{FoundMap, found_map};
 use crate::profiles::Profile;
 use byteorder::{ByteOrder, LittleEndian};
 use std::alloc::{AllocError, Global};
@@ -16,6 +18,9 @@ const TYPE1_LENGTH: u32 = 6;
 
 /// The bytes of a sparable map (UDF 2.2.9).
 const SPARABLE_LENGTH: u32 = 64;
+
+/// The bytes of the map of a partition that is found in a file (UDF 2.01 2.2.8, 2.50 2.2.10).
+const FOUND_LENGTH: u32 = 64;
 
 /// The bytes of the longest sparing table that is read.
 const LONGEST_TABLE: u32 = 65_536;
@@ -45,6 +50,15 @@ pub enum PartitionMap {
 pub(crate) struct NumberedMap {
     pub(crate) kind: PartitionMap,
     pub(crate) partition: u16,
+}
+
+/// The maps of a logical volume.
+#[derive(Debug, Drop)]
+pub(crate) struct AllMaps {
+    /// Those of partitions that have blocks of their own.
+    pub(crate) numbered: Vec<NumberedMap>,
+    /// That of a partition that is found in a file of the first of them.
+    pub(crate) found: Option<FoundMap>,
 }
 
 /// How many blocks `bytes` bytes take.
@@ -202,6 +216,36 @@ fn is_kind_of(first: &PartitionMap, second: &PartitionMap) -> bool
     }
 }
 
+/// Whether the blocks of a map's partition lie one after the other.
+fn is_direct(kind: &PartitionMap) -> bool
+    ensures { result ≡ is_direct (map_now kind.now) }
+{
+    match kind {
+        PartitionMap::Type1 => true,
+        PartitionMap::Sparable(_) => false,
+    }
+}
+
+/// Whether the bytes begin with a map of 64 bytes that fits into the `left` bytes of the map table and has this partition number.
+fn goes_with(partition: u16, left: u32, bytes: &[u8]) -> bool
+    requires { 64 ≤ length bytes.now }
+    ensures { result ≡ (nat_le 64 left && nat_eq (uint16_at bytes.now 38) partition) }
+{
+    left >= FOUND_LENGTH && LittleEndian::read_u16(behind(bytes, 38)) == partition
+}
+
+/// The map, at the beginning of the bytes, of a partition that is found in a file of the partition of `first`, or `None` if it is no such map,
+/// has another partition number or passes the `left` bytes of the map table.
+fn read_found(first: &NumberedMap, left: u32, bytes: &[u8]) -> Option<FoundMap>
+    requires { 64 ≤ length bytes.now }
+    ensures { result ≡ read_found (numbered_now first.now) left bytes.now }
+{
+    if !goes_with(first.partition, left, bytes) {
+        return None;
+    }
+    found_map(is_direct(&first.kind), bytes)
+}
+
 /// The one or two maps of a logical volume, if each has a form of the two and they are not of one kind.
 pub(crate) fn read_maps(
     alloc: Global,
@@ -235,4 +279,65 @@ pub(crate) fn read_maps(
         return Ok(None);
     }
     Ok(Some(vec![in alloc; first, second]?))
+}
+
+/// The two maps of a logical volume, if the second is that of a partition that is found in a file of the first one's.
+fn wide_maps(
+    alloc: Global,
+    last: u32,
+    volume: &Descriptor,
+) -> Result<Option<AllMaps>, AllocError>
+    ensures { IfOk result (λ read. option_map maps_now read ≡ found_maps Profile.Wide last (descriptor_now volume.now)) }
+{
+    if volume.uint32(268) != 2 {
+        return Ok(None);
+    }
+    let table = volume.from(440);
+    let left = volume.uint32(264);
+    let Some(first) = read_map(alloc, Profile::Wide, last, left, table)? else {
+        return Ok(None);
+    };
+    let size = size_of(&first.kind);
+    let second = behind(table, size as usize);
+    let Some(found) = read_found(&first, left.saturating_sub(size), second) else {
+        return Ok(None);
+    };
+    Ok(Some(AllMaps {
+        numbered: vec![in alloc; first]?,
+        found: Some(found),
+    }))
+}
+
+/// By the wide rules: the same.
+fn found_maps(
+    alloc: Global,
+    profile: Profile,
+    last: u32,
+    volume: &Descriptor,
+) -> Result<Option<AllMaps>, AllocError>
+    ensures { IfOk result (λ read. option_map maps_now read ≡ found_maps profile last (descriptor_now volume.now)) }
+{
+    match profile {
+        Profile::Strict => Ok(None),
+        Profile::Wide => wide_maps(alloc, last, volume),
+    }
+}
+
+/// The maps of a logical volume, if each has a form that is read, and no two are of one kind.
+pub(crate) fn all_maps(
+    alloc: Global,
+    profile: Profile,
+    last: u32,
+    volume: &Descriptor,
+) -> Result<Option<AllMaps>, AllocError>
+    requires { (map_count (descriptor_now volume.now) ≡ 1) ⊎ (map_count (descriptor_now volume.now) ≡ 2) }
+    ensures { IfOk result (λ read. option_map maps_now read ≡ all_maps profile last (descriptor_now volume.now)) }
+{
+    match read_maps(alloc, profile, last, volume)? {
+        Some(numbered) => Ok(Some(AllMaps {
+            numbered,
+            found: None,
+        })),
+        None => found_maps(alloc, profile, last, volume),
+    }
 }
