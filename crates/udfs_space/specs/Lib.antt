@@ -6,3 +6,4 @@ pub mod Laws
 pub mod Told
 pub mod Sample
 pub mod Views
+pub mod VirtualTables

@@ -10,7 +10,9 @@ mod newest;
 pub mod spaces;
 mod spans;
 pub mod views;
+pub mod virtual_tables;
 
 pub use entries::SparingEntry;
 pub use spaces::Space;
 pub use views::{StoreView, View};
+pub use virtual_tables::TableForm;
