@@ -1,5 +1,5 @@
 -- The volume of many forms is lawful, and has them.
-use Rattle.std.proofs.Common.{◌≡◌, refl, sym, ◌∙◌, ap, subst, ℕ, List, [], ◌∷◌, length, arith, Some, None}
+use Rattle.std.proofs.Common.{◌≡◌, refl, sym, ◌∙◌, ap, subst, ℕ, true, List, [], ◌∷◌, length, arith, Some, None}
 use Rattle.std.specs.Prelude.{Contains, slice_get}
 use Rattle.std.proofs.lemmas.List.{length-map}
 use Rattle.udfs_lattice.specs.declared.facts.Fact.TheVariants.{Known}
@@ -202,7 +202,7 @@ root_at = ap (λ f. f.root) opens.is_found
 
 is_spared : HasSparedRoot many_forms opens.opened
 is_spared = record {
-  span = record { start = 272; size = 300; packet = 32; spared = record { original = 0; mapped = 96 } ∷ [] };
+  span = record { start = 272; size = 300; packet = 32; direct = true; spared = record { original = 0; mapped = 96 } ∷ [] };
   there = (λ i. slice_get (opens.is_found i).space.spans (opens.is_found i).root.reference);
   entry = record { original = 0; mapped = 96 };
   spared = let b : opens.opened.root.block ≡ 1 = ap (λ x. x.block) root_at in ((0, omega arith, refl), omega arith, omega (arith, b));

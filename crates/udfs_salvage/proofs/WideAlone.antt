@@ -49,8 +49,8 @@ blocks a = complete (volume a) 600
 
 -- ---- what is found
 abbrev space_of : Altered → Space
-space_of revised = record { spans = record { start = 272; size = 300; packet = 1; spared = [] } ∷ []; profile = Wide }
-space_of packed = record { spans = record { start = 272; size = 300; packet = 64; spared = first_spared } ∷ []; profile = Wide }
+space_of revised = record { spans = record { start = 272; size = 300; packet = 1; direct = true; spared = [] } ∷ []; profile = Wide }
+space_of packed = record { spans = record { start = 272; size = 300; packet = 64; direct = true; spared = first_spared } ∷ []; profile = Wide }
 
 abbrev found_in : Altered → Found
 found_in a = record { layout = altered_layout a; space = space_of a; root = sample_root }

@@ -73,10 +73,10 @@ packet_counted Wide T (sparable packet size tables) = refl
 
 -- the span of a partition that has such a map
 pub span_counted : (rules : Profile) (T : Blocks) (last : ℕ) (p : Partition) (packet size : ℕ) (tables : List ℕ) → p.kind ≡ sparable packet size tables
-    → span T last (counted rules T p) ≡ and_then (spared T last (counted_map rules T (sparable packet size tables))) (λ s. found (record { start = p.start; size = p.size; packet = packet; spared = s }))
+    → span T last (counted rules T p) ≡ and_then (spared T last (counted_map rules T (sparable packet size tables))) (λ s. found (record { start = p.start; size = p.size; packet = packet; direct = true; spared = s }))
 span_counted rules T last p packet size tables e =
-    ap (λ m. and_then (spared T last (counted_map rules T m)) (λ s. found (record { start = p.start; size = p.size; packet = packet_of (counted_map rules T m); spared = s }))) e
-    ∙ ap (λ n. and_then (spared T last (counted_map rules T (sparable packet size tables))) (λ s. found (record { start = p.start; size = p.size; packet = n; spared = s })))
+    ap (λ m. and_then (spared T last (counted_map rules T m)) (λ s. found (record { start = p.start; size = p.size; packet = packet_of (counted_map rules T m); direct = true; spared = s }))) e
+    ∙ ap (λ n. and_then (spared T last (counted_map rules T (sparable packet size tables))) (λ s. found (record { start = p.start; size = p.size; packet = n; direct = true; spared = s })))
     (packet_counted rules T (sparable packet size tables))
 
 type1_counted : (rules : Profile) (T : Blocks) → counted_map rules T type1 ≡ type1

@@ -88,7 +88,7 @@ span_same : (rules : Profile) (T : Blocks) (V : Volume) (N last : ℕ) (p : Part
     → span T last (counted rules T p) ≡ span T last p
 span_same rules T V N last p hv b same a =
     ap (λ x. and_then x (λ s. found (span_of (counted rules T p) s))) (spared_same rules T V N last p.kind hv b same a)
-    ∙ ap (λ n. and_then (spared T last p.kind) (λ s. found (record { start = p.start; size = p.size; packet = n; spared = s }))) (packet_counted rules T p.kind)
+    ∙ ap (λ n. and_then (spared T last p.kind) (λ s. found (record { start = p.start; size = p.size; packet = n; direct = true; spared = s }))) (packet_counted rules T p.kind)
 
 spans_same : (rules : Profile) (T : Blocks) (V : Volume) (N last : ℕ) (ps : List Partition) → IsVolume V N
     → ((p : Partition) → Contains ps p → IsBoundedMap N p.kind) → ((p : Partition) → Contains ps p → SparingAgrees V p.kind) → Agrees T V N

@@ -19,6 +19,7 @@ pub mod Standing
 pub mod Tables
 pub mod Telling
 pub mod Facts
+pub mod FoundSpans
 pub mod StandardBlocks
 pub mod SampleLaw
 pub mod PublicLaws

@@ -22,6 +22,7 @@ use Rattle.udfs_space.specs.Laws.{PlaceLawBy}
 use Rattle.udfs_space.specs.declared.entries.SparingEntry.{SparingEntry}
 use Rattle.udfs_space.specs.Sparing.{Span, Space, Spans, Spared, counted, spared, spared_unless, spared_by, spared_in, unread, is_used, is_sparing_table, is_misshapen, passes_end, is_out_of_order, entries, copies, place_of, sparing_fault, packet_of, span_of, span, spans, space, sparing_table_bytes}
 use Rattle.udfs_space.specs.Places.{place, place_in, place_by, placed_at}
+use Rattle.udfs_space.proofs.Standing.{counted_if}
 
 fits_if : (o : Bool) (a b : ℕ) → (o || nat_lt a b) ≡ false → b ≤ a
 fits_if true a b e = absurd (let z : ⊥ = cc in z)
@@ -122,14 +123,13 @@ place_within last s w b n e = go (nat_lt b s.size) refl e
     some_same : (x y : ℕ) → Some x ≡ Some y → x ≡ y
     some_same x y q = cc
 
-    at : b < s.size → (o : Option SparingEntry) → find (λ e. nat_eq e.original (b - b % s.packet)) s.spared ≡ o → placed_at o (s.start + b) (b % s.packet) ≤ last
-    at l None q = let ends : s.start + s.size ≤ last + 1 = w.ends in omega (arith, l, ends)
-    at l (Some x) q = let f : x.mapped + s.packet ≤ last + 1 = w.spared (λ e. nat_eq e.original (b - b % s.packet)) x q in let m : b % s.packet < s.packet = mod_below b s.packet w.packet in omega (arith, f, m)
+    at : b < s.size → (o : Option SparingEntry) → find (λ e. nat_eq e.original (b - b % s.packet)) s.spared ≡ o → placed_at s.direct o (s.start + b) (b % s.packet) ≡ Some n → n ≤ last
+    at l None q p = let ends : s.start + s.size ≤ last + 1 = w.ends in let here : n ≡ s.start + b = (counted_if s.direct (s.start + b) n p).1 in omega (arith, l, ends, here)
+    at l (Some x) q p = let f : x.mapped + s.packet ≤ last + 1 = w.spared (λ e. nat_eq e.original (b - b % s.packet)) x q in let m : b % s.packet < s.packet = mod_below b s.packet w.packet in
+        let here : x.mapped + b % s.packet ≡ n = some_same (x.mapped + b % s.packet) n p in omega (arith, f, m, here)
 
-    go : (x : Bool) → nat_lt b s.size ≡ x → cond x (Some (placed_at (find (λ e. nat_eq e.original (b - b % s.packet)) s.spared) (s.start + b) (b % s.packet))) None ≡ Some n → n ≤ last
-    go true x q = let l : suc b ≤ s.size = leb-true (suc b) s.size x in
-        subst (λ z. z ≤ last) (some_same (placed_at (find (λ e. nat_eq e.original (b - b % s.packet)) s.spared) (s.start + b) (b % s.packet)) n q)
-        (at (omega (arith, l)) (find (λ e. nat_eq e.original (b - b % s.packet)) s.spared) refl)
+    go : (x : Bool) → nat_lt b s.size ≡ x → cond x (placed_at s.direct (find (λ e. nat_eq e.original (b - b % s.packet)) s.spared) (s.start + b) (b % s.packet)) None ≡ Some n → n ≤ last
+    go true x q = let l : suc b ≤ s.size = leb-true (suc b) s.size x in at (omega (arith, l)) (find (λ e. nat_eq e.original (b - b % s.packet)) s.spared) refl q
     go false x q = absurd (let z : ⊥ = cc in z)
 
 pub span_in : (ss : Spans) (r : ℕ) (s : Span) → slice_get ss r ≡ Some s → Contains ss s

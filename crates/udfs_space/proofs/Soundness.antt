@@ -14,7 +14,7 @@ use Rattle.udfs_volume.specs.declared.faults.VolumeFault.TheVariants.{SparingTag
 use Rattle.udfs_volume.proofs.PublicLaws.{layout_is_bounded_by}
 use Rattle.udfs_space.proofs.Counted.{all_counted}
 use Rattle.udfs_space.proofs.Facts.{and_then-found, found_same, unless_fault-found}
-use Rattle.udfs_space.specs.Laws.{SoundSpace}
+use Rattle.udfs_space.specs.Laws.{DirectSpace, SoundSpace}
 use Rattle.udfs_space.specs.Parts.{AreSound, IsSoundEntry, IsSound}
 use Rattle.udfs_space.specs.Sparing.{Span, Spans, Spared, spared, spared_unless, spared_by, spared_in, unread, is_bad_original, is_sparing_table, entries, entry_count, copies, counted, place_of, sparing_fault, packet_of, span_of, span, spans, space, sparing_table_bytes}
 use Rattle.udfs_space.proofs.Judging.{sparing_fault-entries}
@@ -65,3 +65,16 @@ sound_space profile T last l ss h k e r s g = let bounds : IsBounded last l = la
     let q : (xs : Spans) × (spans T l.last (map (counted l.profile T) l.partitions) ≡ found xs) × (found (record { spans = xs; profile = l.profile }) ≡ found ss) = space_found T l ss e in
     spans_each IsSound T last (map (counted l.profile T) l.partitions) q.0 (λ p x i f. span_sound T last p x h (all_counted l.profile T last l.partitions bounds.of_each p i) f)
     (ap (λ x. spans T x (map (counted l.profile T) l.partitions)) (sym bounds.is_last) ∙ q.1) s (subst (λ xs. Contains xs s) (sym (space_spans T l ss q)) (span_in ss.spans r s g))
+
+-- a partition with blocks of its own
+span_direct : (T : Blocks) (last : ℕ) (p : Partition) (s : Span) → span T last p ≡ found s → s.direct ≡ true
+span_direct T last p s e = let q : (sp : Spared) × (spared T last p.kind ≡ found sp) × (found (span_of p sp) ≡ found s) =
+    and_then-found (spared T last p.kind) (λ sp. found (span_of p sp)) s e in
+    sym (ap (λ z. z.direct) (found_same (span_of p q.0) s q.2))
+
+pub direct_space : DirectSpace
+unfolding space
+direct_space T l ss e r s g =
+    let q : (xs : Spans) × (spans T l.last (map (counted l.profile T) l.partitions) ≡ found xs) × (found (record { spans = xs; profile = l.profile }) ≡ found ss) = space_found T l ss e in
+    spans_each (λ z. z.direct ≡ true) T l.last (map (counted l.profile T) l.partitions) q.0 (λ p x i f. span_direct T l.last p x f) q.1
+    s (subst (λ xs. Contains xs s) (sym (space_spans T l ss q)) (span_in ss.spans r s g))

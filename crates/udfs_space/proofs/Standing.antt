@@ -8,7 +8,7 @@ use Rattle.udfs_space.proofs.Facts.{le_or_lt, true_false}
 use Rattle.udfs_space.specs.declared.entries.SparingEntry.{SparingEntry}
 use Rattle.udfs_space.specs.Laws.{OldPlaceLaw, PlacingLaw}
 use Rattle.udfs_space.specs.Parts.{IsSound, IsSoundEntry, OriginalsRise}
-use Rattle.udfs_space.specs.Places.{IsSparedBy, StandsAt, StandsIn, sparing_entry_at, length_of, place, place_by, place_in, placed_at, span_size}
+use Rattle.udfs_space.specs.Places.{IsSparedBy, IsDirectIn, StandsAt, StandsIn, sparing_entry_at, length_of, place, place_by, place_in, placed_at, span_size}
 use Rattle.udfs_space.specs.Sparing.{Space, Span, Spared}
 
 -- ---- arithmetic of packets
@@ -75,8 +75,8 @@ find-is (x ∷ es) first e q = go (nat_eq x.original first) refl q (find-is es f
     go false t f later = let r : Includes es e × (e.original ≡ first) = later f in (inr r.0, r.1)
 
 -- ---- one partition
-abbrev pub place_at : Span → ℕ → Option SparingEntry → ℕ
-place_at s b o = placed_at o (s.start + b) (b % s.packet)
+abbrev pub place_at : Span → ℕ → Option SparingEntry → Option ℕ
+place_at s b o = placed_at s.direct o (s.start + b) (b % s.packet)
 
 -- an entry with the first block of b's packet spares b
 spares : (s : Span) (b : ℕ) (e : SparingEntry) → IsSound s → Includes s.spared e → e.original ≡ b - b % s.packet → IsSparedBy s b e × (b % s.packet ≡ b - e.original)
@@ -94,57 +94,78 @@ spared_first s b e h w = let m : e.original % s.packet ≡ 0 = (of_each (IsSound
 some_same : {A : Type 0} (x y : A) → Some x ≡ Some y → x ≡ y
 some_same x y q = cc
 
-pub in_range : (s : Span) (b n : ℕ) → place_in s b ≡ Some n → (b < s.size) × (n ≡ place_at s b (sparing_entry_at s (b - b % s.packet)))
+-- a block that is counted from the start
+pub counted_if : (direct : Bool) (k n : ℕ) → cond direct (Some k) None ≡ Some n → (direct ≡ true) × (n ≡ k)
+counted_if true k n e = (refl, sym (some_same k n e))
+counted_if false k n e = absurd (let z : ⊥ = cc in z)
+
+pub in_range : (s : Span) (b n : ℕ) → place_in s b ≡ Some n → (b < s.size) × (place_at s b (sparing_entry_at s (b - b % s.packet)) ≡ Some n)
 in_range s b n e = go (nat_lt b s.size) refl e
   where
     less : (a b : ℕ) → nat_lt a b ≡ true → a < b
     less a b h = grind arith
 
-    go : (x : Bool) → nat_lt b s.size ≡ x → cond x (Some (place_at s b (sparing_entry_at s (b - b % s.packet)))) None ≡ Some n → (b < s.size) × (n ≡ place_at s b (sparing_entry_at s (b - b % s.packet)))
-    go true x q = (less b s.size x, sym (some_same (place_at s b (sparing_entry_at s (b - b % s.packet))) n q))
+    go : (x : Bool) → nat_lt b s.size ≡ x → cond x (place_at s b (sparing_entry_at s (b - b % s.packet))) None ≡ Some n → (b < s.size) × (place_at s b (sparing_entry_at s (b - b % s.packet)) ≡ Some n)
+    go true x q = (less b s.size x, q)
     go false x q = absurd (let z : ⊥ = cc in z)
 
-pub place_in-size : (s : Span) (b : ℕ) → b < s.size → place_in s b ≡ Some (place_at s b (sparing_entry_at s (b - b % s.packet)))
-place_in-size s b l = ap (λ x. cond x (Some (place_at s b (sparing_entry_at s (b - b % s.packet)))) None) (lt_if b s.size l)
+pub place_in-size : (s : Span) (b : ℕ) → b < s.size → place_in s b ≡ place_at s b (sparing_entry_at s (b - b % s.packet))
+place_in-size s b l = ap (λ x. cond x (place_at s b (sparing_entry_at s (b - b % s.packet))) None) (lt_if b s.size l)
   where
     lt_if : (a b : ℕ) → a < b → nat_lt a b ≡ true
     lt_if a b h = grind arith
 
 pub stands : (s : Span) (b n : ℕ) → IsSound s → place_in s b ≡ Some n → StandsAt s b n
-stands s b n h e = let r : (b < s.size) × (n ≡ place_at s b (sparing_entry_at s (b - b % s.packet))) = in_range s b n e in
+stands s b n h e = let r : (b < s.size) × (place_at s b (sparing_entry_at s (b - b % s.packet)) ≡ Some n) = in_range s b n e in
     (r.0, go (sparing_entry_at s (b - b % s.packet)) refl r.1)
   where
-    go : (o : Option SparingEntry) → sparing_entry_at s (b - b % s.packet) ≡ o → n ≡ place_at s b (sparing_entry_at s (b - b % s.packet))
-        → ((e : SparingEntry) × IsSparedBy s b e × (n ≡ e.mapped + (b - e.original))) ⊎ (((e : SparingEntry) → ¬ IsSparedBy s b e) × (n ≡ s.start + b))
-    go None q p = inr (
+    go : (o : Option SparingEntry) → sparing_entry_at s (b - b % s.packet) ≡ o → place_at s b o ≡ Some n
+        → ((e : SparingEntry) × IsSparedBy s b e × (n ≡ e.mapped + (b - e.original))) ⊎ (((e : SparingEntry) → ¬ IsSparedBy s b e) × (s.direct ≡ true) × (n ≡ s.start + b))
+    go None q p = let d : (s.direct ≡ true) × (n ≡ s.start + b) = counted_if s.direct (s.start + b) n p in inr (
       (λ x w. let f : (x.original ≡ b - b % s.packet) × (b % s.packet ≡ b - x.original) = spared_first s b x h w in
           let z : None ≡ Some x = sym q ∙ find-included s.spared (b - b % s.packet) x h.spared.rises (included s.spared x w.0) f.0 in let y : ⊥ = cc in y),
-      p ∙ ap (place_at s b) q,
+      d.0,
+      d.1,
     )
     go (Some x) q p = let i : Includes s.spared x × (x.original ≡ b - b % s.packet) = find-is s.spared (b - b % s.packet) x q in
         let w : IsSparedBy s b x × (b % s.packet ≡ b - x.original) = spares s b x h i.0 i.1 in
-        inl (x, w.0, p ∙ ap (place_at s b) q ∙ ap (λ k. x.mapped + k) w.1)
+        inl (x, w.0, sym (some_same (x.mapped + b % s.packet) n p) ∙ ap (λ k. x.mapped + k) w.1)
 
 pub stood : (s : Span) (b n : ℕ) → IsSound s → StandsAt s b n → place_in s b ≡ Some n
-stood s b n h w = place_in-size s b w.0 ∙ ap Some (go w.1)
+stood s b n h w = place_in-size s b w.0 ∙ go w.1
   where
     none_if : (o : Option SparingEntry) → sparing_entry_at s (b - b % s.packet) ≡ o → ((e : SparingEntry) → ¬ IsSparedBy s b e) → sparing_entry_at s (b - b % s.packet) ≡ None
     none_if None q all = q
     none_if (Some x) q all = let i : Includes s.spared x × (x.original ≡ b - b % s.packet) = find-is s.spared (b - b % s.packet) x q in
         absurd (all x (spares s b x h i.0 i.1).0)
 
-    go : ((e : SparingEntry) × IsSparedBy s b e × (n ≡ e.mapped + (b - e.original))) ⊎ (((e : SparingEntry) → ¬ IsSparedBy s b e) × (n ≡ s.start + b))
-        → place_at s b (sparing_entry_at s (b - b % s.packet)) ≡ n
+    go : ((e : SparingEntry) × IsSparedBy s b e × (n ≡ e.mapped + (b - e.original))) ⊎ (((e : SparingEntry) → ¬ IsSparedBy s b e) × (s.direct ≡ true) × (n ≡ s.start + b))
+        → place_at s b (sparing_entry_at s (b - b % s.packet)) ≡ Some n
     go (inl (x, i, p)) = let f : (x.original ≡ b - b % s.packet) × (b % s.packet ≡ b - x.original) = spared_first s b x h i in
-        ap (place_at s b) (find-included s.spared (b - b % s.packet) x h.spared.rises (included s.spared x i.0) f.0) ∙ ap (λ k. x.mapped + k) f.1 ∙ sym p
-    go (inr (all, p)) = ap (place_at s b) (none_if (sparing_entry_at s (b - b % s.packet)) refl all) ∙ sym p
+        ap (place_at s b) (find-included s.spared (b - b % s.packet) x h.spared.rises (included s.spared x i.0) f.0) ∙ ap (λ k. Some (x.mapped + k)) f.1 ∙ ap Some (sym p)
+    go (inr (all, d, p)) = ap (place_at s b) (none_if (sparing_entry_at s (b - b % s.packet)) refl all) ∙ ap (λ z. cond z (Some (s.start + b)) None) d ∙ ap Some (sym p)
 
 pub within : (s : Span) (b n : ℕ) → IsSound s → place_in s b ≡ Some n → n ≤ 4194303
 within s b n h e = go (stands s b n h e)
   where
     go : StandsAt s b n → n ≤ 4194303
     go (l, inl (x, (i, p, q), r)) = let y : x.mapped + s.packet ≤ 4194304 = (of_each (IsSoundEntry s.packet) s.spared x h.spared.each i).ends in omega (arith, p, q, r, y)
-    go (l, inr (all, r)) = let y : s.start + s.size ≤ 4194304 = h.ends in omega (arith, l, r, y)
+    go (l, inr (all, d, r)) = let y : s.start + s.size ≤ 4194304 = h.ends in omega (arith, l, r, y)
+
+-- a block that the partition does not have
+pub absent_in : (s : Span) (b : ℕ) → s.size ≤ b → place_in s b ≡ None
+absent_in s b l = ap (λ x. cond x (place_at s b (sparing_entry_at s (b - b % s.packet))) None) (not_lt b s.size l)
+  where
+    not_lt : (a b : ℕ) → b ≤ a → nat_lt a b ≡ false
+    not_lt a b h = grind arith
+
+-- a block of a partition of which each has a place
+pub present_in : (s : Span) (b : ℕ) → s.direct ≡ true → b < s.size → (n : ℕ) × (place_in s b ≡ Some n)
+present_in s b d l = let q : (n : ℕ) × (place_at s b (sparing_entry_at s (b - b % s.packet)) ≡ Some n) = at (sparing_entry_at s (b - b % s.packet)) in (q.0, place_in-size s b l ∙ q.1)
+  where
+    at : (o : Option SparingEntry) → (n : ℕ) × (place_at s b o ≡ Some n)
+    at None = (s.start + b, ap (λ z. cond z (Some (s.start + b)) None) d)
+    at (Some x) = (x.mapped + b % s.packet, refl)
 
 -- ---- all partitions
 abbrev pub SoundAt : Space → ℕ → Type 0
@@ -162,33 +183,34 @@ pub absent : (space : Space) (r b : ℕ) → length_of space r ≤ b → place s
 unfolding place
 absent space r b l = go (slice_get space.spans r) l
   where
-    not_lt : (a b : ℕ) → b ≤ a → nat_lt a b ≡ false
-    not_lt a b h = grind arith
-
     go : (o : Option Span) → span_size o ≤ b → place_by o b ≡ None
     go None l = refl
-    go (Some s) l = ap (λ x. cond x (Some (place_at s b (sparing_entry_at s (b - b % s.packet)))) None) (not_lt b s.size l)
+    go (Some s) l = absent_in s b l
 
-pub present : (space : Space) (r b : ℕ) → b < length_of space r → (n : ℕ) × (place space r b ≡ Some n)
+pub present : (space : Space) (r b : ℕ) → IsDirectIn space r → b < length_of space r → (n : ℕ) × (place space r b ≡ Some n)
 unfolding place
-present space r b l = go (slice_get space.spans r) l
+present space r b d l = go (slice_get space.spans r) refl l
   where
-    go : (o : Option Span) → b < span_size o → (n : ℕ) × (place_by o b ≡ Some n)
-    go None l = absurd (let z : ⊥ = omega (arith, l) in z)
-    go (Some s) l = (place_at s b (sparing_entry_at s (b - b % s.packet)), place_in-size s b l)
+    go : (o : Option Span) → slice_get space.spans r ≡ o → b < span_size o → (n : ℕ) × (place_by o b ≡ Some n)
+    go None q l = absurd (let z : ⊥ = omega (arith, l) in z)
+    go (Some s) q l = present_in s b (d s q) l
 
-pub exists : (space : Space) (r b : ℕ) (p : Option ℕ) → p ≡ place space r b → (IsSome p ↔ (b < length_of space r))
-exists space r b p e = (λ i. go (le_or_lt (length_of space r) b) i, λ l. let q : (n : ℕ) × (place space r b ≡ Some n) = present space r b l in subst IsSome (sym (e ∙ q.1)) (some_is q.0))
+-- a block that has a place is below the length
+pub below : (space : Space) (r b : ℕ) (p : Option ℕ) → p ≡ place space r b → IsSome p → b < length_of space r
+below space r b p e i = go (le_or_lt (length_of space r) b)
   where
     none_is : IsSome {T = ℕ} None → ⊥
     none_is z = true_false false z refl
 
+    go : (length_of space r ≤ b) ⊎ (b < length_of space r) → b < length_of space r
+    go (inl l) = let q : p ≡ None = e ∙ absent space r b l in absurd (none_is (subst IsSome q i))
+    go (inr l) = l
+
+pub exists : (space : Space) (r b : ℕ) (p : Option ℕ) → p ≡ place space r b → IsDirectIn space r → (IsSome p ↔ (b < length_of space r))
+exists space r b p e d = (below space r b p e, λ l. let q : (n : ℕ) × (place space r b ≡ Some n) = present space r b d l in subst IsSome (sym (e ∙ q.1)) (some_is q.0))
+  where
     some_is : (n : ℕ) → IsSome (Some n)
     some_is n = search rules
-
-    go : (length_of space r ≤ b) ⊎ (b < length_of space r) → IsSome p → b < length_of space r
-    go (inl l) i = let q : p ≡ None = e ∙ absent space r b l in absurd (none_is (subst IsSome q i))
-    go (inr l) i = l
 
 pub fits : (space : Space) (r b : ℕ) (p : Option ℕ) → p ≡ place space r b → SoundAt space r → IfSome p (λ n. n ≤ 4194303)
 unfolding place

@@ -1,5 +1,5 @@
 -- The packets that a sparing table spares, as the code finds them.
-use Rattle.std.proofs.Common.{◌≡◌, ◌≢◌, refl, sym, ◌∙◌, ap, ℕ, ◌+◌, ◌≤◌, List, [], ◌∷◌, length, drop, arith, All}
+use Rattle.std.proofs.Common.{◌≡◌, ◌≢◌, refl, sym, ◌∙◌, ap, ℕ, true, ◌+◌, ◌≤◌, List, [], ◌∷◌, length, drop, arith, All}
 use Rattle.std.specs.Prelude.{flat_map, Contains}
 use Rattle.std.proofs.lemmas.List.Elements.{All-weaker, All-nil, All-cons}
 use Rattle.udfs_lattice.specs.Volumes.{Blocks, ascending, first_known}
@@ -47,7 +47,7 @@ fit_all last packet size tables l b = all_contained (λ place. place + blocks_in
 
 -- a partition of type 1 spares nothing
 pub span-type1 : (b : Blocks) (last : ℕ) (p : Partition) (es : Spared) → p.kind ≡ type1 → es ≡ []
-    → span b last p ≡ found (record { start = p.start; size = p.size; packet = 1; spared = es })
+    → span b last p ≡ found (record { start = p.start; size = p.size; packet = 1; direct = true; spared = es })
 unfolding spared
-span-type1 b last p es k e = ap (λ m. and_then (spared b last m) (λ s. found (record { start = p.start; size = p.size; packet = packet_of m; spared = s }))) k
-    ∙ ap (λ s. found (record { start = p.start; size = p.size; packet = 1; spared = s })) (sym e)
+span-type1 b last p es k e = ap (λ m. and_then (spared b last m) (λ s. found (record { start = p.start; size = p.size; packet = packet_of m; direct = true; spared = s }))) k
+    ∙ ap (λ s. found (record { start = p.start; size = p.size; packet = 1; direct = true; spared = s })) (sym e)

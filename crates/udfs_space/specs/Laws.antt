@@ -6,6 +6,7 @@
 --     StandardSpace                           with all known they are those of the first sparing table
 --     PlacingLaw, OldPlaceLaw                 where a block is, and that nothing is read where it was
 --     SoundSpace                              the partitions of a layout are sound, so placing is that relation
+--     DirectSpace                             each block of the partitions of a layout has a place
 --     StandardBlocksBy profile                with all known, the standard reads the blocks by their places, and in one way
 -- SpaceLaw, PlaceLaw and StandardBlocks are these by the strict rules; the others are by those of any profile.
 use Rattle.std.specs.Prelude.{◌≡◌, ◌↔◌, ℕ, ◌+◌, ◌-◌, ◌<◌, ◌≤◌, List, [], drop, map, slice_get, true, Option, Some, None, option_map, ⊤, Contains}
@@ -21,7 +22,7 @@ use Rattle.udfs_space.specs.declared.entries.SparingEntry.{SparingEntry}
 use Rattle.udfs_space.specs.Parts.{IsSound}
 use Rattle.udfs_space.specs.Sparing.{Space, Span, copies, counted, space, spans}
 use Rattle.udfs_space.specs.Standard.{table_at, standard_space}
-use Rattle.udfs_space.specs.Places.{IsPartOf, IsSparedBy, StandsAt, StandsIn, block_at, place, place_in, view}
+use Rattle.udfs_space.specs.Places.{IsDirectIn, IsPartOf, IsSparedBy, StandsAt, StandsIn, block_at, place, place_in, view}
 
 -- each place has a sparing table with a valid tag, and all of them have the same bytes after their tags
 pub record AreTheSameTables (volume : Volume) (size : ℕ) (tables : List ℕ) : Type 0 where
@@ -96,6 +97,10 @@ OldPlaceLaw = (space : Space) (blocks other : Blocks) (reference b : ℕ) (span 
 abbrev pub SoundSpace : Type 0
 SoundSpace = (profile : Profile) (blocks : Blocks) (last : ℕ) (l : Layout) (s : Space) → last ≤ 4194303 → layout_by profile blocks last ≡ found l → space blocks l ≡ found s
     → (reference : ℕ) (span : Span) → slice_get s.spans reference ≡ Some span → IsSound span
+
+-- each block of the partitions of a layout that are found has a place
+abbrev pub DirectSpace : Type 0
+DirectSpace = (blocks : Blocks) (l : Layout) (s : Space) → space blocks l ≡ found s → (reference : ℕ) → IsDirectIn s reference
 
 -- the blocks of a volume's partitions by their places, each with its bytes
 abbrev pub blocks_by : Volume → Space → ℕ → ℕ → Option Bytes

@@ -6,4 +6,5 @@ pub mod Laws
 pub mod Told
 pub mod Sample
 pub mod Views
+pub mod FoundSpans
 pub mod VirtualTables

@@ -5,7 +5,8 @@
 --     View                            a volume as the layers above see it: places and states
 --     block_at view reference b       the block at a logical address, with its state
 --     is_past places reference b n    whether one of n consecutive logical blocks has no place
-use Rattle.std.specs.Prelude.{◌≡◌, ◌⊎◌, ℕ, ◌+◌, ◌-◌, ◌%◌, ◌<◌, ◌≤◌, Bool, List, length, slice_get, cond, nat_eq, nat_lt, Option, Some, None, find, is_none, option_map, Contains}
+--     IsDirectIn space reference      each block of a partition has a place
+use Rattle.std.specs.Prelude.{◌≡◌, ◌⊎◌, ℕ, ◌+◌, ◌-◌, ◌%◌, ◌<◌, ◌≤◌, Bool, true, List, length, slice_get, cond, nat_eq, nat_lt, Option, Some, None, find, is_none, option_map, Contains}
 use Rattle.std.specs.List.{range_with_len, list_any}
 use Rattle.std.specs.Borrow.{Bor}
 use Rattle.udfs_lattice.specs.Volumes.{Blocks}
@@ -21,15 +22,15 @@ use Rattle.udfs_space.specs.Sparing.{Space, Span}
 abbrev pub sparing_entry_at : Span → ℕ → Option SparingEntry
 sparing_entry_at span first = find (λ e. nat_eq e.original first) span.spared
 
--- where a block is: in the packet that its own was mapped to, or directly
-abbrev pub placed_at : Option SparingEntry → ℕ → ℕ → ℕ
-placed_at None direct offset = direct
-placed_at (Some e) direct offset = e.mapped + offset
+-- where a block is: in the packet that its own was mapped to, or directly, if there are such blocks
+abbrev pub placed_at : Bool → Option SparingEntry → ℕ → ℕ → Option ℕ
+placed_at direct None counted offset = cond direct (Some counted) None
+placed_at direct (Some e) counted offset = Some (e.mapped + offset)
 
 -- the block that holds logical block b, if the partition has it: in a spared packet by where that is mapped, else counted from the partition's start
 abbrev pub place_in : Span → ℕ → Option ℕ
 place_in span b = let offset = b % span.packet in cond (nat_lt b span.size)
-    (Some (placed_at (sparing_entry_at span (b - offset)) (span.start + b) offset)) None
+    (placed_at span.direct (sparing_entry_at span (b - offset)) (span.start + b) offset) None
 
 -- the block that holds logical block b of a partition, if there is such a partition and it has this block
 abbrev pub place_by : Option Span → ℕ → Option ℕ
@@ -48,7 +49,7 @@ IsSparedBy span b e = Contains span.spared e × (e.original ≤ b) × (b < e.ori
 abbrev pub StandsAt : Span → ℕ → ℕ → Type 0
 StandsAt span b n = (b < span.size)
     × (((e : SparingEntry) × IsSparedBy span b e × (n ≡ e.mapped + (b - e.original)))
-    ⊎ (((e : SparingEntry) → ¬ IsSparedBy span b e) × (n ≡ span.start + b)))
+    ⊎ (((e : SparingEntry) → ¬ IsSparedBy span b e) × (span.direct ≡ true) × (n ≡ span.start + b)))
 
 -- the same in the partition of a reference
 abbrev pub StandsIn : Space → ℕ → ℕ → ℕ → Type 0
@@ -62,6 +63,10 @@ span_size (Some span) = span.size
 -- the number of logical blocks of a partition, and 0 where there is no such partition
 abbrev pub length_of : Space → ℕ → ℕ
 length_of space reference = span_size (slice_get space.spans reference)
+
+-- each block of the partition of a reference has a place, if there is such a partition
+abbrev pub IsDirectIn : Space → ℕ → Type 0
+IsDirectIn space reference = (span : Span) → slice_get space.spans reference ≡ Some span → span.direct ≡ true
 
 -- A volume as the layers above see it.
 pub record View : Type 0 where

@@ -2,7 +2,7 @@
 --     newest blocks size tables   the copy that counts by the wide rules, if one is known whole
 --     Space                       where the logical blocks of each partition are
 --     space blocks layout         the partitions with their spared packets
-use Rattle.std.specs.Prelude.{ℕ, ◌+◌, ◌*◌, ◌%◌, Bool, false, not, List, [], ◌∷◌, take, drop, map, filter, flat_map, find, nat_eq, nat_le, nat_lt, ◌&&◌, ◌||◌, Option, Some, None, codes, is_none}
+use Rattle.std.specs.Prelude.{ℕ, ◌+◌, ◌*◌, ◌%◌, Bool, true, false, not, List, [], ◌∷◌, take, drop, map, filter, flat_map, find, nat_eq, nat_le, nat_lt, ◌&&◌, ◌||◌, Option, Some, None, codes, is_none}
 use Rattle.std.specs.List.{range_with_len, list_all, list_any}
 use Rattle.std.specs.Str.{bytes_eq}
 use Rattle.udfs_lattice.specs.States.{is_known}
@@ -28,6 +28,8 @@ pub record Span : Type 0 where
   pub start : ℕ
   pub size : ℕ
   pub packet : ℕ
+  -- whether a block of no spared packet stands where it is counted from the start; else it has no place
+  pub direct : Bool
   pub spared : Spared
 
 -- the partitions in the order of their maps
@@ -178,7 +180,7 @@ packet_of (sparable packet size tables) = packet
 
 -- a partition's blocks with its spared packets
 abbrev pub span_of : Partition → Spared → Span
-span_of p spared = record { start = p.start; size = p.size; packet = packet_of p.kind; spared = spared }
+span_of p spared = record { start = p.start; size = p.size; packet = packet_of p.kind; direct = true; spared = spared }
 
 -- the places of a partition's blocks, or what has to be read first, or a fault
 abbrev pub span : Blocks → ℕ → Partition → Answer Span

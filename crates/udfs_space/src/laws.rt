@@ -1,5 +1,6 @@
 //! Laws of sparing tables and places, each the contract of a function that does nothing.
-ghost use Rattle.udfs_space.specs.Laws.{AnyCopies, OldPlaceLaw, PlaceLaw, PlaceLawBy, PlacingLaw, SoundSpace, SpaceLaw, SpaceLawBy, StandardBlocks, StandardBlocksBy, StandardSpace};
+ghost use Rattle.udfs_space.specs.FoundSpans.{FoundPlaces, SoundFound};
+ghost use Rattle.udfs_space.specs.Laws.{AnyCopies, DirectSpace, OldPlaceLaw, PlaceLaw, PlaceLawBy, PlacingLaw, SoundSpace, SpaceLaw, SpaceLawBy, StandardBlocks, StandardBlocksBy, StandardSpace};
 ghost use Rattle.udfs_volume.specs.declared.profiles.Profile.{Profile};
 ghost use Rattle.udfs_space.specs.Sample.{SampleSpace};
 
@@ -47,6 +48,18 @@ pub fn old_places_are_not_read()
 /// relation says where a block is.
 pub fn space_is_sound()
     ensures { SoundSpace }
+{}
+
+/// Each block of the partitions of a layout has a place: only a partition that is found in a file can lack one for some.
+pub fn spaces_are_direct()
+    ensures { DirectSpace }
+{}
+
+/// A block of a partition that is found in a file is where the logical block of the first partition is that it is, and has no place where that has none; and
+/// such a partition is sound.
+pub fn found_blocks_are_placed()
+    ensures places { FoundPlaces }
+    ensures sound { SoundFound }
 {}
 
 /// With all blocks of a lawful volume known, the places that are found give the blocks of the partitions as the standard

@@ -7,13 +7,14 @@ ghost use Rattle.udfs_lattice.specs.Tables.{state_of};
 ghost use Rattle.udfs_volume.specs.LayoutParts.{partition_now, parts_now};
 ghost use Rattle.udfs_volume.specs.Laws.{IsBounded, IsBoundedPartition};
 ghost use Rattle.udfs_volume.specs.Seen.{HolesRise, IfGot, Sees};
+ghost use Rattle.udfs_space.specs.FoundSpans.{space_with};
 ghost use Rattle.udfs_space.specs.Parts.{IsSound};
-ghost use Rattle.udfs_space.specs.Places.{StandBeside, StandsIn, block_at, block_now, is_past, length_of, place, view};
+ghost use Rattle.udfs_space.specs.Places.{IsDirectIn, StandBeside, StandsIn, block_at, block_now, is_past, length_of, place, view};
 ghost use Rattle.udfs_space.specs.Sparing.{Span, counted, space, spans};
 ghost use Rattle.udfs_space.specs.Told.{ArePlacesUpTo, TellsLawfulSpace};
 
 use crate::spans::Span;
-use std::alloc::Global;
+use std::alloc::{AllocError, Global};
 use std::marker::Model;
 use udfs_lattice::{BlockStore, BlockTable, Fact, GaveUp, ReadFault};
 use udfs_tag::LbAddr;
@@ -129,6 +130,25 @@ impl Space {
         }
     }
 
+    /// The same partition, and after it one that is found in a file of it: its block `b` is logical block `blocks[b]` of the partition, and has no place
+    /// where that has none.
+    ///
+    /// # Errors
+    ///
+    /// `AllocError` where memory runs out.
+    pub fn with_found(self, alloc: Global, blocks: &[u32]) -> Result<Space, AllocError>
+        requires alone { length self.spans ≡ 1 }
+        requires some { 1 ≤ length blocks.now }
+        requires most { length blocks.now ≤ 4194304 }
+        ensures { IfOk result (λ made. made ≡ space_with self blocks.now) }
+    {
+        let Space { spans, profile } = self;
+        let span = Span::found(alloc, &spans[0], blocks)?;
+        let mut spans = spans;
+        spans.push(span)?;
+        Ok(Space { spans, profile })
+    }
+
     /// The number of partitions, 1 or 2: a partition reference is less. It takes no memory.
     pub fn maps(&self) -> u16
         ensures value { result ≡ length self.now.spans }
@@ -186,7 +206,8 @@ impl Space {
         // The same as a relation: a block of a spared packet is in the packet's new place, and every other
         // one is counted from the start of the partition.
         ensures stands { (n : ℕ) → ((result ≡ Some n) ↔ StandsIn self.now reference block n) }
-        ensures exists { IsSome result ↔ (block < length_of self.now reference) }
+        ensures within { IsSome result → block < length_of self.now reference }
+        ensures exists { IsDirectIn self.now reference → (IsSome result ↔ (block < length_of self.now reference)) }
         ensures fits { IfSome result (λ n. n ≤ 4194303) }
     {
         self.find(reference, block)
@@ -205,16 +226,17 @@ impl Space {
         }
     }
 
-    /// Whether one of `count` consecutive logical blocks from an address on has no place. It takes no memory,
-    /// and no longer for many blocks than for one.
+    /// Whether one of `count` consecutive logical blocks from an address on has no place. It takes no memory.
     pub fn is_past(&self, address: LbAddr, count: u32) -> bool
         ensures { result ≡ is_past (place self.now) address.reference address.block count }
     {
-        count != 0
-            && u64::from(address.block) + u64::from(count) > u64::from(self.size(address.reference))
+        match self.spans.get(usize::from(address.reference)) {
+            Some(span) => span.is_past(address.block, count),
+            None => count != 0,
+        }
     }
 
-    /// What is known of a logical block. It takes no memory.
+    /// What is known of a logical block; of one that has no place, nothing. It takes no memory.
     pub fn logical<'a>(
         &self,
         table: &'a BlockTable,
@@ -223,7 +245,8 @@ impl Space {
     ) -> Fact<&'a [u8; 2048]>
         requires reference { reference < length self.now.spans }
         requires block { block < length_of self.now reference }
-        ensures { option_map (state_of table.now) (place self.now reference block) ≡ Some (fact_now result) }
+        ensures value { (n : ℕ) → place self.now reference block ≡ Some n → fact_now result ≡ state_of table.now n }
+        ensures known { IsDirectIn self.now reference → option_map (state_of table.now) (place self.now reference block) ≡ Some (fact_now result) }
     {
         match self.place(reference, block) {
             Some(place) => table.state(place),

@@ -1,11 +1,13 @@
 //! Where the logical blocks of one partition are.
 
-ghost use Rattle.std.specs.Prelude.{◌≡◌, ◌≤◌, ◌<◌, ℕ, All, IfOk, IfSome, IsErrOf, find, nat_eq};
+ghost use Rattle.std.specs.Prelude.{◌≡◌, ◌≤◌, ◌<◌, ℕ, All, IfOk, IfSome, IsErrOf, find, is_none, length, nat_eq};
+ghost use Rattle.std.specs.List.{list_any, range_with_len};
 ghost use Rattle.udfs_volume.specs.Laws.{IsBoundedPartition};
 ghost use Rattle.udfs_volume.specs.Layout.{blocks_in};
 ghost use Rattle.udfs_volume.specs.LayoutParts.{partition_now};
 ghost use Rattle.udfs_volume.specs.Parts.{sparable_now};
 ghost use Rattle.udfs_volume.specs.Seen.{IfGot, Sees};
+ghost use Rattle.udfs_space.specs.FoundSpans.{found_span};
 ghost use Rattle.udfs_space.specs.Parts.{AreSound, FitAll, IsSound, IsSoundEntry, OriginalsRise};
 ghost use Rattle.udfs_space.specs.Places.{StandBeside, place_in};
 ghost use Rattle.udfs_space.specs.Sparing.{counted, span, spared};
@@ -13,7 +15,7 @@ ghost use Rattle.udfs_space.specs.Sparing.{counted, span, spared};
 use crate::copies::{first_place, holes, table_bytes};
 use crate::entries::{SparingEntry, spared_by};
 use crate::newest::spared_by_counted;
-use std::alloc::Global;
+use std::alloc::{AllocError, Global};
 use std::marker::Model;
 use udfs_lattice::{BlockStore, GaveUp};
 use udfs_volume::{Partition, PartitionMap, Profile, Seen, SparableMap};
@@ -25,19 +27,22 @@ pub(crate) struct Span {
     length: u32,
     /// The blocks of a packet, 1 where none is spared.
     packet: u32,
+    /// Whether a block of no spared packet stands where it is counted from the start, and not nowhere.
+    direct: bool,
     /// The spared packets, with rising originals.
     spared: Vec<SparingEntry>,
 }
 
 impl Model for Span {
     ghost use Rattle.udfs_space.specs.Sparing as sparing;
-    ghost use Rattle.udfs_space.specs.Parts.{IsSound};
+    ghost use Rattle.udfs_space.specs.FoundSpans.{found_span};
+ghost use Rattle.udfs_space.specs.Parts.{IsSound};
 
     ghost Value = { sparing.Span };
 
-    ghost view = { λ s. record { start = s.start; size = s.length; packet = s.packet; spared = s.spared.items } };
+    ghost view = { λ s. record { start = s.start; size = s.length; packet = s.packet; direct = s.direct; spared = s.spared.items } };
 
-    ghost invariant = { λ s. IsSound (record { start = s.start; size = s.length; packet = s.packet; spared = s.spared.items }) };
+    ghost invariant = { λ s. IsSound (record { start = s.start; size = s.length; packet = s.packet; direct = s.direct; spared = s.spared.items }) };
 }
 
 impl Span {
@@ -59,6 +64,7 @@ impl Span {
                 start: partition.start,
                 length: partition.length,
                 packet: 1,
+                direct: true,
                 spared: Vec::new(alloc),
             })),
             PartitionMap::Sparable(map) => match spared_by_counted(
@@ -68,6 +74,7 @@ impl Span {
                     start: partition.start,
                     length: partition.length,
                     packet: u32::from(map.packet),
+                    direct: true,
                     spared,
                 })),
                 Seen::Holes(holes) => Ok(Seen::Holes(holes)),
@@ -75,6 +82,31 @@ impl Span {
                 Seen::OutOfMemory => Ok(Seen::OutOfMemory),
             },
         }
+    }
+
+    /// The span of a partition that is found in a file of the partition of `first`: block `b` is its logical block `blocks[b]`, and has no place where
+    /// that has none.
+    pub(crate) fn found(alloc: Global, first: &Span, blocks: &[u32]) -> Result<Span, AllocError>
+        requires some { 1 ≤ length blocks.now }
+        requires most { length blocks.now ≤ 4194304 }
+        ensures { IfOk result (λ made. made ≡ found_span first.now blocks.now) }
+    {
+        let mut spared = Vec::new(alloc);
+        for b in 0..blocks.len() {
+            if let Some(mapped) = first.place(blocks[b]) {
+                spared.push(SparingEntry {
+                    original: b as u32,
+                    mapped,
+                })?;
+            }
+        }
+        Ok(Span {
+            start: 0,
+            length: blocks.len() as u32,
+            packet: 1,
+            direct: false,
+            spared,
+        })
     }
 
     /// The number of logical blocks.
@@ -86,7 +118,7 @@ impl Span {
         self.length
     }
 
-    /// The block that holds a logical block, or `None` if the partition has no such logical block.
+    /// The block that holds a logical block, or `None` if the partition has no such logical block or it has no place.
     pub(crate) fn place(&self, block: u32) -> Option<u32>
         ensures value { result ≡ place_in self.now block }
         ensures sound { IsSound self.now }
@@ -97,8 +129,28 @@ impl Span {
         let offset = block % self.packet;
         match entry_at(&self.spared, block - offset) {
             Some(entry) => Some(entry.mapped + offset),
-            None => Some(self.start + block),
+            None if self.direct => Some(self.start + block),
+            None => None,
         }
+    }
+
+    /// Whether one of `count` consecutive logical blocks from `block` on has no place. Where blocks of no spared packet have a place, it takes
+    /// no longer for many blocks than for one.
+    pub(crate) fn is_past(&self, block: u32, count: u32) -> bool
+        ensures { result ≡ list_any (λ j. is_none (place_in self.now (block + j))) (range_with_len 0 count) }
+    {
+        if u64::from(block) + u64::from(count) > u64::from(self.length) {
+            return count != 0;
+        }
+        if self.direct {
+            return false;
+        }
+        for j in 0..count {
+            if self.place(block + j).is_none() {
+                return true;
+            }
+        }
+        false
     }
 
     /// The number of logical blocks, from `block` on, that are consecutive in the volume as far as this call looks: up to the end of

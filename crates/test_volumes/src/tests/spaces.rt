@@ -1,6 +1,7 @@
 //! Places, holes and faults of small volumes. What is expected comes from the formats' description.
 
 mod faults;
+mod found;
 mod memory;
 mod newest;
 mod packets;
