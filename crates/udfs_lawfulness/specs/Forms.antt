@@ -95,7 +95,7 @@ all_blocks = complete many_forms 600
 -- its layout is the sample's, but for the revision
 abbrev pub forms_layout : Layout
 forms_layout = let l = sample_layout one_sparable in
-    record { last = l.last; revision = 0x201; label = l.label; partitions = l.partitions; file_set = l.file_set; profile = Strict }
+    record { last = l.last; revision = 0x201; label = l.label; partitions = l.partitions; found = l.found; file_set = l.file_set; profile = Strict }
 
 -- and its places are the sample's
 abbrev pub forms_space : Space

@@ -4,9 +4,10 @@ use Rattle.udfs_lattice.specs.Volumes.{Blocks}
 use Rattle.udfs_volume.specs.declared.profiles.Profile.{Profile}
 use Rattle.udfs_volume.specs.declared.profiles.Profile.TheVariants.{Strict, Wide}
 use Rattle.udfs_volume.specs.declared.faults.VolumeFault.{VolumeFault}
+use Rattle.udfs_volume.specs.declared.found_maps.FoundMap.{FoundMap}
 use Rattle.udfs_volume.specs.Answers.{Answer, found, holes, faulty, and_then, unless_fault}
 use Rattle.udfs_volume.specs.Sequence.{Descriptor, reserve_sequence_by, sequence_by}
-use Rattle.udfs_volume.specs.Layout.{Layout, Described, NumberedMap, described, found_or, is_of_sequence, laid_out, layout_by, layout_of, logical_volume, main_layout_by, or_reserve, partitions_fault, reserve_layout_by, the_maps, volume_fault, with_maps, with_volume}
+use Rattle.udfs_volume.specs.Layout.{AllMaps, Layout, Described, all_maps, described, found_or, is_of_sequence, laid_out, layout_by, layout_with, layout_of, logical_volume, main_layout_by, or_reserve, partitions_fault, reserve_layout_by, volume_fault, with_found, with_maps, with_volume}
 use Rattle.udfs_space.specs.Sparing.{Space, Spans, counted, space, spans}
 use Rattle.udfs_salvage.specs.Found.{Found, volume_by}
 use Rattle.udfs_salvage.proofs.Founds.{and_then-found, found_same}
@@ -21,14 +22,20 @@ laid_rules : (P : Profile) (last : ℕ) (lv : Descriptor) (o : Option (List Desc
 laid_rules P last lv None l e = absurd (let z : ⊥ = cc in z)
 laid_rules P last lv (Some ps) l e = sym (ap (λ x. x.profile) (unless_found (partitions_fault P last ps) _ l e))
 
-maps_rules : (P : Profile) (last : ℕ) (ds : List Descriptor) (lv : Descriptor) (o : Option (List NumberedMap)) (l : Layout) → with_maps P last ds lv o ≡ found l → l.profile ≡ P
+-- beside a partition that is found in a file
+with_rules : (P : Profile) (o : Option FoundMap) (a : Answer Layout) (l : Layout) → ((k : Layout) → a ≡ found k → k.profile ≡ P) → with_found o a ≡ found l → l.profile ≡ P
+with_rules P None a l h e = h l e
+with_rules P (Some f) a l h e = let q : (k : Layout) × (a ≡ found k) × (found (layout_with f k) ≡ found l) = and_then-found a (λ k. found (layout_with f k)) l e in
+    sym (ap (λ x. x.profile) (found_same (layout_with f q.0) l q.2)) ∙ h q.0 q.1
+
+maps_rules : (P : Profile) (last : ℕ) (ds : List Descriptor) (lv : Descriptor) (o : Option AllMaps) (l : Layout) → with_maps P last ds lv o ≡ found l → l.profile ≡ P
 maps_rules P last ds lv None l e = absurd (let z : ⊥ = cc in z)
-maps_rules P last ds lv (Some ms) l e = laid_rules P last lv (described ds ms) l e
+maps_rules P last ds lv (Some ms) l e = with_rules P ms.found (laid_out P last lv (described ds ms.numbered)) l (λ k q. laid_rules P last lv (described ds ms.numbered) k q) e
 
 volume_rules : (P : Profile) (last : ℕ) (ds : List Descriptor) (o : Option Descriptor) (l : Layout) → with_volume P last ds o ≡ found l → l.profile ≡ P
 volume_rules P last ds None l e = absurd (let z : ⊥ = cc in z)
-volume_rules P last ds (Some lv) l e = let q : (v : Descriptor) × (unless_fault (volume_fault P last lv) lv ≡ found v) × (with_maps P last ds v (the_maps P last v) ≡ found l) =
-    and_then-found (unless_fault (volume_fault P last lv) lv) (λ v. with_maps P last ds v (the_maps P last v)) l e in maps_rules P last ds q.0 (the_maps P last q.0) l q.2
+volume_rules P last ds (Some lv) l e = let q : (v : Descriptor) × (unless_fault (volume_fault P last lv) lv ≡ found v) × (with_maps P last ds v (all_maps P last v) ≡ found l) =
+    and_then-found (unless_fault (volume_fault P last lv) lv) (λ v. with_maps P last ds v (all_maps P last v)) l e in maps_rules P last ds q.0 (all_maps P last q.0) l q.2
 
 descriptors_rules : (P : Profile) (last : ℕ) (a : Answer (List Descriptor)) (l : Layout) → and_then a (layout_of P last) ≡ found l → l.profile ≡ P
 unfolding layout_of

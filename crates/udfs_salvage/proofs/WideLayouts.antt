@@ -15,7 +15,7 @@ use Rattle.udfs_volume.specs.declared.faults.VolumeFault.{VolumeFault}
 use Rattle.udfs_volume.specs.declared.faults.VolumeFault.TheVariants.{Extents, Domain, BlockSize, MapCount, MapKind, Contents, PartitionRange}
 use Rattle.udfs_volume.specs.Profiles.{accepts_packet, accepts_revision}
 use Rattle.udfs_volume.specs.Sequence.{Bytes, Descriptor, anchor, are_extents, are_extents_by, fits_to, positions, read_positions, sequence_at, sequence_by, shared}
-use Rattle.udfs_volume.specs.Layout.{Layout, Partition, type1, sparable, NumberedMap, Described, bp, is_type1, is_sparable, table_places, has_numbers, are_within, are_tables, map_size, read_map, before_maps, read_maps, unless_repeated, map_count, the_maps, has_domain, has_revision, volume_fault, described, has_contents, partition_of, placed_of, is_in_range, partitions_fault, laid_out, with_maps, with_volume, logical_volume, layout_of, layout_by, main_layout_by, or_reserve, reserve_layout_by}
+use Rattle.udfs_volume.specs.Layout.{AllMaps, Layout, Partition, type1, sparable, NumberedMap, Described, bp, is_type1, is_sparable, table_places, has_numbers, are_within, are_tables, map_size, read_map, before_maps, read_maps, unless_repeated, map_count, the_maps, all_maps, found_maps, or_found, has_domain, has_revision, volume_fault, described, has_contents, partition_of, placed_of, is_in_range, partitions_fault, laid_out, with_found, with_maps, with_volume, logical_volume, layout_of, layout_by, main_layout_by, or_reserve, reserve_layout_by}
 use Rattle.udfs_salvage.proofs.Founds.{and_then-found, found_same}
 
 -- ---- tests of which one takes more than the other
@@ -135,6 +135,15 @@ the_maps_kept last lv ms = go (read_maps Strict last (map_count lv) size table) 
     go None q p = absurd (let z : ⊥ = cc in z)
     go (Some read) q p = ap unless_repeated (maps_kept last (map_count lv) size table read q) ∙ p
 
+-- by the strict rules there are maps of partitions with blocks of their own alone
+strict_maps : (o : Option (List NumberedMap)) (ms : AllMaps) → or_found o None ≡ Some ms → (xs : List NumberedMap) × (o ≡ Some xs) × (record { numbered = xs; found = None } ≡ ms)
+strict_maps None ms e = absurd (let z : ⊥ = cc in z)
+strict_maps (Some xs) ms e = (xs, refl, let same : record { numbered = xs; found = None } ≡ ms = cc in same)
+
+all_maps_kept : (last : ℕ) (lv : Descriptor) (ms : AllMaps) → all_maps Strict last lv ≡ Some ms → all_maps Wide last lv ≡ Some ms
+all_maps_kept last lv ms e = let q : (xs : List NumberedMap) × (the_maps Strict last lv ≡ Some xs) × (record { numbered = xs; found = None } ≡ ms) = strict_maps (the_maps Strict last lv) ms e in
+    ap (λ o. or_found o (found_maps Wide last lv)) (the_maps_kept last lv q.0 q.1) ∙ ap Some q.2
+
 -- ---- the faults of a logical volume
 no_fault_kept : (f g h i : VolumeFault) (a b c d x y : Bool) → (a ≡ false → x ≡ false) → (d ≡ false → y ≡ false)
     → cond a (Some f) (cond b (Some g) (cond c (Some h) (cond d (Some i) None))) ≡ None → cond x (Some f) (cond b (Some g) (cond c (Some h) (cond y (Some i) None))) ≡ None
@@ -144,17 +153,17 @@ no_fault_kept f g h i false false true d x y p q e = absurd (let z : ⊥ = cc in
 no_fault_kept f g h i false false false true x y p q e = absurd (let z : ⊥ = cc in z)
 no_fault_kept f g h i false false false false x y p q e = ap (λ z. cond z (Some f) (cond y (Some i) None)) (p refl) ∙ ap (λ z. cond z (Some i) None) (q refl)
 
-volume_fault_kept : (last : ℕ) (lv : Descriptor) (ms : List NumberedMap) → the_maps Strict last lv ≡ Some ms → volume_fault Strict last lv ≡ None → volume_fault Wide last lv ≡ None
+volume_fault_kept : (last : ℕ) (lv : Descriptor) (ms : AllMaps) → all_maps Strict last lv ≡ Some ms → volume_fault Strict last lv ≡ None → volume_fault Wide last lv ≡ None
 volume_fault_kept last lv ms m = no_fault_kept Domain BlockSize MapCount MapKind
-    (not (has_domain lv) || not (has_revision Strict lv)) (not (nat_eq (uint32_at lv.content (bp 212)) 2048)) (not (nat_eq (map_count lv) 1 || nat_eq (map_count lv) 2)) (is_none (the_maps Strict last lv))
-    (not (has_domain lv) || not (has_revision Wide lv)) (is_none (the_maps Wide last lv))
+    (not (has_domain lv) || not (has_revision Strict lv)) (not (nat_eq (uint32_at lv.content (bp 212)) 2048)) (not (nat_eq (map_count lv) 1 || nat_eq (map_count lv) 2)) (is_none (all_maps Strict last lv))
+    (not (has_domain lv) || not (has_revision Wide lv)) (is_none (all_maps Wide last lv))
     (or_not (not (has_domain lv)) (has_revision Strict lv) (has_revision Wide lv) (revision_kept (uint16_at lv.content (bp 240))))
-    (λ e. ap is_none (the_maps_kept last lv ms m))
+    (λ e. ap is_none (all_maps_kept last lv ms m))
 
 -- ---- the layout
 -- the same layout, read by the wide rules
 abbrev pub read_wide : Layout → Layout
-read_wide l = record { last = l.last; revision = l.revision; label = l.label; partitions = l.partitions; file_set = l.file_set; profile = Wide }
+read_wide l = record { last = l.last; revision = l.revision; label = l.label; partitions = l.partitions; found = l.found; file_set = l.file_set; profile = Wide }
 
 -- a layout that the strict rules find, and the answer of the wide ones
 abbrev IsKept : Layout → Answer Layout → Type 0
@@ -202,6 +211,7 @@ laid_kept last lv (Some ps) l e = go (partitions_fault Strict last ps) refl e
       revision = uint16_at lv.content (bp 240);
       label = label_of (part lv.content (bp 84) 128);
       partitions = partitions;
+      found = None;
       file_set = long_ad_at lv.content (bp 248);
       profile = profile;
     }
@@ -221,13 +231,15 @@ volume_kept : (last : ℕ) (ds : List Descriptor) (o : Option Descriptor) (l : L
 volume_kept last ds None l e = absurd (let z : ⊥ = cc in z)
 volume_kept last ds (Some lv) l e = go (volume_fault Strict last lv) refl e
   where
-    then : (o : Option (List NumberedMap)) → the_maps Strict last lv ≡ o → volume_fault Strict last lv ≡ None → with_maps Strict last ds lv o ≡ found l → IsKept l (with_volume Wide last ds (Some lv))
+    then : (o : Option AllMaps) → all_maps Strict last lv ≡ o → volume_fault Strict last lv ≡ None → with_maps Strict last ds lv o ≡ found l → IsKept l (with_volume Wide last ds (Some lv))
     then None m f p = absurd (let z : ⊥ = cc in z)
-    then (Some ms) m f p = let k : IsKept l (laid_out Wide last lv (described ds ms)) = laid_kept last lv (described ds ms) l p in
-        (ap (λ x. and_then (unless_fault x lv) (λ v. with_maps Wide last ds v (the_maps Wide last v))) (volume_fault_kept last lv ms m f) ∙ ap (with_maps Wide last ds lv) (the_maps_kept last lv ms m) ∙ k.0, k.1)
+    then (Some ms) m f p = let q : (xs : List NumberedMap) × (the_maps Strict last lv ≡ Some xs) × (record { numbered = xs; found = None } ≡ ms) = strict_maps (the_maps Strict last lv) ms m in
+        let k : IsKept l (laid_out Wide last lv (described ds q.0)) = laid_kept last lv (described ds q.0) l (subst (λ x. with_found x.found (laid_out Strict last lv (described ds x.numbered)) ≡ found l) (sym q.2) p) in
+        (ap (λ x. and_then (unless_fault x lv) (λ v. with_maps Wide last ds v (all_maps Wide last v))) (volume_fault_kept last lv ms m f) ∙ ap (with_maps Wide last ds lv) (all_maps_kept last lv ms m)
+        ∙ ap (λ x. with_found x.found (laid_out Wide last lv (described ds x.numbered))) (sym q.2) ∙ k.0, k.1)
 
-    go : (o : Option VolumeFault) → volume_fault Strict last lv ≡ o → and_then (unless_fault o lv) (λ v. with_maps Strict last ds v (the_maps Strict last v)) ≡ found l → IsKept l (with_volume Wide last ds (Some lv))
-    go None f p = then (the_maps Strict last lv) refl f p
+    go : (o : Option VolumeFault) → volume_fault Strict last lv ≡ o → and_then (unless_fault o lv) (λ v. with_maps Strict last ds v (all_maps Strict last v)) ≡ found l → IsKept l (with_volume Wide last ds (Some lv))
+    go None f p = then (all_maps Strict last lv) refl f p
     go (Some fault) f p = absurd (let z : ⊥ = cc in z)
 
 pub sequence_kept : (last : ℕ) (ds : List Descriptor) (l : Layout) → layout_of Strict last ds ≡ found l → (layout_of Wide last ds ≡ found (read_wide l)) × (l.profile ≡ Strict)

@@ -52,7 +52,7 @@ kind_of packed = sparable 64 64 (64 ∷ 65 ∷ [])
 
 abbrev pub altered_layout : Altered → Layout
 altered_layout a = let l = sample_layout one_type1 in
-    record { last = l.last; revision = revision_of a; label = l.label; partitions = record { kind = kind_of a; start = 272; size = 300 } ∷ []; file_set = l.file_set; profile = Wide }
+    record { last = l.last; revision = revision_of a; label = l.label; partitions = record { kind = kind_of a; start = 272; size = 300 } ∷ []; found = l.found; file_set = l.file_set; profile = Wide }
 
 -- ---- blocks
 below_256 : (x : ℕ) → nat_lt x 256 ≡ true → x < 256

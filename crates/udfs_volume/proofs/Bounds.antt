@@ -12,12 +12,13 @@ use Rattle.udfs_tag.specs.Fields.{uint8_at, uint16_at, uint32_at, long_ad_at, pa
 use Rattle.udfs_tag.specs.Faults.{is_within}
 use Rattle.udfs_osta.specs.Labels.{label_of}
 use Rattle.udfs_volume.specs.Answers.{Answer, found, holes, faulty, and_then, unless_fault}
+use Rattle.udfs_volume.specs.declared.found_maps.FoundMap.{FoundMap}
 use Rattle.udfs_volume.specs.declared.profiles.Profile.{Profile}
 use Rattle.udfs_volume.specs.declared.profiles.Profile.TheVariants.{Strict, Wide}
 use Rattle.udfs_volume.specs.Profiles.{accepts_packet, packet_lengths}
 use Rattle.udfs_volume.specs.declared.faults.VolumeFault.{VolumeFault}
 use Rattle.udfs_volume.specs.declared.faults.VolumeFault.TheVariants.{Domain, BlockSize, MapCount, MapKind, Contents, PartitionRange}
-use Rattle.udfs_volume.specs.Layout.{Layout, Partition, PartitionMap, type1, sparable, NumberedMap, Described, bp, blocks_in, is_type1, is_sparable, are_tables, table_places, read_map, map_size, before_maps, read_maps, repeats_kind, unless_repeated, map_count, the_maps, volume_fault, partition, before_described, has_revision, described, has_contents, partition_of, placed_of, is_in_range, partitions_fault, laid_out, with_maps, with_volume, logical_volume, layout_of}
+use Rattle.udfs_volume.specs.Layout.{AllMaps, Layout, Partition, PartitionMap, type1, sparable, NumberedMap, Described, bp, blocks_in, is_type1, is_sparable, are_tables, table_places, read_map, map_size, before_maps, read_maps, repeats_kind, unless_repeated, map_count, the_maps, read_found, maps_with, found_after, found_maps, or_found, all_maps, layout_with, with_found, volume_fault, partition, before_described, has_revision, described, has_contents, partition_of, placed_of, is_in_range, partitions_fault, laid_out, with_maps, with_volume, logical_volume, layout_of}
 use Rattle.udfs_volume.specs.Laws.{AreBounded, IsBoundedMap, IsBoundedPartition, IsBounded, LayoutBounds}
 use Rattle.udfs_volume.proofs.Known.{both}
 
@@ -192,7 +193,7 @@ count_is : (profile : Profile) (last : ℕ) (lv : Descriptor) → volume_fault p
 count_is profile last lv e = go (either_if (nat_eq (map_count lv) 1) (nat_eq (map_count lv) 2) (not-false (nat_eq (map_count lv) 1 || nat_eq (map_count lv) 2)
     (third_fault Domain BlockSize MapCount MapKind
     (not (bytes_eq ((regid_at lv.content (bp 216)).name) (zero_filled 23 (codes "*OSTA UDF Compliant"))) || not (has_revision profile lv))
-    (not (nat_eq (uint32_at lv.content (bp 212)) 2048)) (not (nat_eq (map_count lv) 1 || nat_eq (map_count lv) 2)) (is_none (the_maps profile last lv)) e)))
+    (not (nat_eq (uint32_at lv.content (bp 212)) 2048)) (not (nat_eq (map_count lv) 1 || nat_eq (map_count lv) 2)) (is_none (all_maps profile last lv)) e)))
   where
     go : (nat_eq (map_count lv) 1 ≡ true) ⊎ (nat_eq (map_count lv) 2 ≡ true) → (map_count lv ≡ 1) ⊎ (map_count lv ≡ 2)
     go (inl h) = inl (eqb-true (map_count lv) 1 h)
@@ -239,6 +240,7 @@ laid_bounded profile last n ds lv ms l a c r (Some ps) d e = subst (IsBounded la
       revision = uint16_at lv.content (bp 240);
       label = label_of (part lv.content (bp 84) 128);
       partitions = map (λ d. placed_of profile last (partition_of d)) ps;
+      found = None;
       file_set = long_ad_at lv.content (bp 248);
       profile = profile;
     }
@@ -261,19 +263,72 @@ laid_bounded profile last n ds lv ms l a c r (Some ps) d e = subst (IsBounded la
           bounded_map = a.each p.kind (subst (λ ks. Includes ks p.kind) (described_kinds profile last ds ms ps d) (Includes-map (λ p. p.kind) (map (λ d. placed_of profile last (partition_of d)) ps) p i));
         }
 
+-- a partition that is found in a file leaves the others as they are
+with_bounded : (last : ℕ) (o : Option FoundMap) (a : Answer Layout) (l : Layout) → ((k : Layout) → a ≡ found k → IsBounded last k) → with_found o a ≡ found l → IsBounded last l
+with_bounded last None a l h e = h l e
+with_bounded last (Some f) a l h e = let q : (k : Layout) × (a ≡ found k) × (found (layout_with f k) ≡ found l) = and_then-found a (λ k. found (layout_with f k)) l e in
+    let b : IsBounded last q.0 = h q.0 q.1 in
+    subst (IsBounded last) (found_same (layout_with f q.0) l q.2) (record { is_last = b.is_last; one = b.one; two = b.two; of_each = b.of_each; kinds = b.kinds })
+
+one_map : (last : ℕ) (m : NumberedMap) → IsBoundedMap last m.0 → AreMaps last 1 (m ∷ [])
+one_map last m b = record { count = refl; each = each }
+  where
+    each : (k : PartitionMap) → Includes (m.0 ∷ []) k → IsBoundedMap last k
+    each k (inl i) = subst (IsBoundedMap last) i b
+    each k (inr i) = absurd i
+
+-- beside a partition that is found in a file there is one other
+found_with : (last : ℕ) (ms : AllMaps) (m : NumberedMap) → IsBoundedMap last m.0 → (o : Option FoundMap) → maps_with m o ≡ Some ms → (k : NumberedMap) × (k ∷ [] ≡ ms.numbered) × IsBoundedMap last k.0
+found_with last ms m b None p = absurd (let z : ⊥ = cc in z)
+found_with last ms m b (Some f) p = (m, ap (λ x. x.numbered) (some_same (record { numbered = m ∷ []; found = Some f }) ms p), b)
+
+found_one : (profile : Profile) (last : ℕ) (lv : Descriptor) (ms : AllMaps) → found_maps profile last lv ≡ Some ms → (k : NumberedMap) × (k ∷ [] ≡ ms.numbered) × IsBoundedMap last k.0
+found_one Strict last lv ms e = absurd (let z : ⊥ = cc in z)
+found_one Wide last lv ms e = go (nat_eq (map_count lv) 2) e
+  where
+    size : ℕ
+    size = uint32_at lv.content (bp 264)
+
+    table : Bytes
+    table = drop (bp 440) lv.content
+
+    after : (o : Option NumberedMap) → read_map Wide last size table ≡ o → found_after o size table ≡ Some ms → (k : NumberedMap) × (k ∷ [] ≡ ms.numbered) × IsBoundedMap last k.0
+    after None q p = absurd (let z : ⊥ = cc in z)
+    after (Some m) q p = found_with last ms m (map_bounded Wide last size table m q) (read_found m (size - map_size m.0) (drop (map_size m.0) table)) p
+
+    go : (b : Bool) → cond b (found_after (read_map Wide last size table) size table) None ≡ Some ms → (k : NumberedMap) × (k ∷ [] ≡ ms.numbered) × IsBoundedMap last k.0
+    go true p = after (read_map Wide last size table) refl p
+    go false p = absurd (let z : ⊥ = cc in z)
+
 maps_laid : (profile : Profile) (last : ℕ) (ds : List Descriptor) (lv : Descriptor) (l : Layout) → (map_count lv ≡ 1) ⊎ (map_count lv ≡ 2)
-    → (o : Option (List NumberedMap)) → the_maps profile last lv ≡ o → with_maps profile last ds lv o ≡ found l → IsBounded last l
+    → (o : Option AllMaps) → all_maps profile last lv ≡ o → with_maps profile last ds lv o ≡ found l → IsBounded last l
 maps_laid profile last ds lv l c None m e = absurd (let z : ⊥ = cc in z)
-maps_laid profile last ds lv l c (Some ms) m e = let table : Bytes = drop (bp 440) lv.content in let size : ℕ = uint32_at lv.content (bp 264) in
-    let u : (read_maps profile last (map_count lv) size table ≡ Some ms) × (repeats_kind (map (λ m. m.0) ms) ≡ false) = unrepeated (read_maps profile last (map_count lv) size table) ms m in
-    laid_bounded profile last (map_count lv) ds lv ms l (maps_bounded profile last (map_count lv) size table ms u.0) c u.1 (described ds ms) refl e
+maps_laid profile last ds lv l c (Some ms) m e = go (the_maps profile last lv) refl m
+  where
+    table : Bytes
+    table = drop (bp 440) lv.content
+
+    size : ℕ
+    size = uint32_at lv.content (bp 264)
+
+    alone : (f : (k : NumberedMap) × (k ∷ [] ≡ ms.numbered) × IsBoundedMap last k.0) → IsBounded last l
+    alone f = with_bounded last ms.found (laid_out profile last lv (described ds ms.numbered)) l
+        (λ x p. laid_bounded profile last 1 ds lv ms.numbered x (subst (AreMaps last 1) f.1 (one_map last f.0 f.2)) (inl refl)
+        (subst (λ xs. repeats_kind (map (λ m. m.0) xs) ≡ false) f.1 refl) (described ds ms.numbered) refl p) e
+
+    go : (o : Option (List NumberedMap)) → the_maps profile last lv ≡ o → or_found o (found_maps profile last lv) ≡ Some ms → IsBounded last l
+    go None t q = alone (found_one profile last lv ms q)
+    go (Some xs) t q = let same : record { numbered = xs; found = None } ≡ ms = some_same (record { numbered = xs; found = None }) ms q in
+        let u : (read_maps profile last (map_count lv) size table ≡ Some xs) × (repeats_kind (map (λ m. m.0) xs) ≡ false) = unrepeated (read_maps profile last (map_count lv) size table) xs t in
+        laid_bounded profile last (map_count lv) ds lv xs l (maps_bounded profile last (map_count lv) size table xs u.0) c u.1 (described ds xs) refl
+        (subst (λ k. with_found k.found (laid_out profile last lv (described ds k.numbered)) ≡ found l) (sym same) e)
 
 by_volume : (profile : Profile) (last : ℕ) (ds : List Descriptor) (o : Option Descriptor) (l : Layout) → with_volume profile last ds o ≡ found l → IsBounded last l
 by_volume profile last ds None l e = absurd (let z : ⊥ = cc in z)
-by_volume profile last ds (Some lv) l e = let q : (v : Descriptor) × (unless_fault (volume_fault profile last lv) lv ≡ found v) × (with_maps profile last ds v (the_maps profile last v) ≡ found l) =
-    and_then-found (unless_fault (volume_fault profile last lv) lv) (λ v. with_maps profile last ds v (the_maps profile last v)) l e in
+by_volume profile last ds (Some lv) l e = let q : (v : Descriptor) × (unless_fault (volume_fault profile last lv) lv ≡ found v) × (with_maps profile last ds v (all_maps profile last v) ≡ found l) =
+    and_then-found (unless_fault (volume_fault profile last lv) lv) (λ v. with_maps profile last ds v (all_maps profile last v)) l e in
     let f : (volume_fault profile last lv ≡ None) × (lv ≡ q.0) = unless_fault-found (volume_fault profile last lv) lv q.0 q.1 in
-    maps_laid profile last ds q.0 l (subst (λ v. (map_count v ≡ 1) ⊎ (map_count v ≡ 2)) f.1 (count_is profile last lv f.0)) (the_maps profile last q.0) refl q.2
+    maps_laid profile last ds q.0 l (subst (λ v. (map_count v ≡ 1) ⊎ (map_count v ≡ 2)) f.1 (count_is profile last lv f.0)) (all_maps profile last q.0) refl q.2
 
 pub layout_bounds : LayoutBounds
 unfolding layout_of

@@ -5,7 +5,7 @@ use Rattle.udfs_volume.specs.declared.profiles.Profile.{Profile}
 use Rattle.udfs_volume.specs.declared.faults.VolumeFault.TheVariants.{Pointer}
 use Rattle.udfs_volume.specs.Answers.{Answer, found, holes, faulty, and_then, unless_fault}
 use Rattle.udfs_volume.specs.Sequence.{Descriptor, Position, unread, invalid, descriptor, goes_on, read_positions, ended_by}
-use Rattle.udfs_volume.specs.Layout.{NumberedMap, prevailing, logical_volume, partition, partition_number, before_described, described, laid_out, with_maps, with_volume, the_maps, volume_fault, layout_of}
+use Rattle.udfs_volume.specs.Layout.{AllMaps, NumberedMap, prevailing, logical_volume, partition, partition_number, before_described, described, laid_out, with_found, with_maps, with_volume, all_maps, volume_fault, layout_of}
 use Rattle.udfs_volume.proofs.Needed.{needed, needed_of, same_identifier, goes_needed, partitions_needed, volumes_needed}
 use Rattle.udfs_volume.proofs.Positions.{before, read-on, read-stop}
 
@@ -53,13 +53,13 @@ described_needed : (ds : List Descriptor) (ms : List NumberedMap) → described 
 described_needed ds [] = refl
 described_needed ds (m ∷ ms) = λ i. before_described m.0 (partition_needed m.1 ds i) (described_needed ds ms i)
 
-maps_needed : (profile : Profile) (last : ℕ) (ds : List Descriptor) (lv : Descriptor) (o : Option (List NumberedMap)) → with_maps profile last (map needed_of ds) lv o ≡ with_maps profile last ds lv o
+maps_needed : (profile : Profile) (last : ℕ) (ds : List Descriptor) (lv : Descriptor) (o : Option AllMaps) → with_maps profile last (map needed_of ds) lv o ≡ with_maps profile last ds lv o
 maps_needed profile last ds lv None = refl
-maps_needed profile last ds lv (Some ms) = ap (laid_out profile last lv) (described_needed ds ms)
+maps_needed profile last ds lv (Some ms) = ap (λ o. with_found ms.found (laid_out profile last lv o)) (described_needed ds ms.numbered)
 
 by_volume_needed : (profile : Profile) (last : ℕ) (ds : List Descriptor) (o : Option Descriptor) → with_volume profile last (map needed_of ds) o ≡ with_volume profile last ds o
 by_volume_needed profile last ds None = refl
-by_volume_needed profile last ds (Some lv) = λ i. and_then (unless_fault (volume_fault profile last lv) lv) (λ v. maps_needed profile last ds v (the_maps profile last v) i)
+by_volume_needed profile last ds (Some lv) = λ i. and_then (unless_fault (volume_fault profile last lv) lv) (λ v. maps_needed profile last ds v (all_maps profile last v) i)
 
 layout_of_needed : (profile : Profile) (last : ℕ) (ds : List Descriptor) → layout_of profile last (map needed_of ds) ≡ layout_of profile last ds
 unfolding layout_of

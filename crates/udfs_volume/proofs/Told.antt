@@ -8,13 +8,14 @@ use Rattle.udfs_volume.specs.declared.profiles.Profile.{Profile}
 use Rattle.udfs_volume.specs.declared.profiles.Profile.TheVariants.{Strict, Wide}
 use Rattle.udfs_volume.specs.declared.faults.VolumeFault.{VolumeFault}
 use Rattle.udfs_volume.specs.declared.faults.VolumeFault.TheVariants.{NoAnchor, Extents, Domain, BlockSize, MapCount, MapKind, Contents, PartitionRange}
+use Rattle.udfs_volume.specs.declared.found_maps.FoundMap.{FoundMap}
 use Rattle.udfs_volume.specs.declared.layouts.VolumeParts.{VolumeParts}
 use Rattle.udfs_volume.specs.declared.seen.Seen.{Seen}
 use Rattle.udfs_volume.specs.declared.seen.Seen.TheVariants.{Got, Holes, Fault, OutOfMemory}
 use Rattle.udfs_volume.specs.Answers.{Answer, found, holes, faulty, and_then, unless_fault}
 use Rattle.udfs_volume.specs.Seen.{Sees, HolesRise, IfGot, TellsFault}
 use Rattle.udfs_volume.specs.Sequence.{Descriptor, anchor_places, reserve_sequence_by, sequence_by}
-use Rattle.udfs_volume.specs.Layout.{Layout, NumberedMap, Described, has_contents, partition_of, is_in_range, laid_out, with_maps, with_volume, the_maps, volume_fault, described, logical_volume, layout_of, found_or, is_of_sequence, layout_by, main_layout_by, or_reserve, reserve_layout_by}
+use Rattle.udfs_volume.specs.Layout.{AllMaps, Layout, Described, has_contents, partition_of, is_in_range, laid_out, with_found, with_maps, with_volume, all_maps, volume_fault, described, logical_volume, layout_of, found_or, is_of_sequence, layout_by, main_layout_by, or_reserve, reserve_layout_by}
 use Rattle.udfs_volume.specs.LayoutParts.{parts_now}
 use Rattle.udfs_volume.specs.Sequences.{sequence_now}
 use Rattle.udfs_volume.specs.declared.descriptors.Sequence as code_sequence
@@ -88,13 +89,19 @@ late_laid_out : (profile : Profile) (N : ℕ) (lv : Descriptor) (o : Option (Lis
 late_laid_out profile N lv None = refl
 late_laid_out profile N lv (Some ps) = late_two (not (list_all has_contents ps)) (not (list_all (λ p. is_in_range profile N (partition_of p)) ps)) _
 
-late_maps : (profile : Profile) (N : ℕ) (ds : List Descriptor) (lv : Descriptor) (o : Option (List NumberedMap)) → IsLate (with_maps profile N ds lv o)
+late_found : (o : Option FoundMap) (a : Answer Layout) → IsLate a → IsLate (with_found o a)
+late_found None a h = h
+late_found (Some f) (found l) h = tt
+late_found (Some f) (holes blocks) h = absurd h
+late_found (Some f) (faulty fault) h = h
+
+late_maps : (profile : Profile) (N : ℕ) (ds : List Descriptor) (lv : Descriptor) (o : Option AllMaps) → IsLate (with_maps profile N ds lv o)
 late_maps profile N ds lv None = refl
-late_maps profile N ds lv (Some ms) = late_laid_out profile N lv (described ds ms)
+late_maps profile N ds lv (Some ms) = late_found ms.found (laid_out profile N lv (described ds ms.numbered)) (late_laid_out profile N lv (described ds ms.numbered))
 
 late_volume : (profile : Profile) (N : ℕ) (ds : List Descriptor) (o : Option Descriptor) → IsLate (with_volume profile N ds o)
 late_volume profile N ds None = refl
-late_volume profile N ds (Some lv) = late_unless (volume_fault profile N lv) lv (λ v. with_maps profile N ds v (the_maps profile N v)) (late_four _ _ _ _) (late_maps profile N ds lv (the_maps profile N lv))
+late_volume profile N ds (Some lv) = late_unless (volume_fault profile N lv) lv (λ v. with_maps profile N ds v (all_maps profile N v)) (late_four _ _ _ _) (late_maps profile N ds lv (all_maps profile N lv))
 
 pub late_layout_of : (profile : Profile) (N : ℕ) (ds : List Descriptor) → IsLate (layout_of profile N ds)
 unfolding layout_of

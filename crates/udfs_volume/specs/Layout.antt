@@ -70,6 +70,8 @@ pub record Layout : Type 0 where
   pub revision : ℕ
   pub label : Label
   pub partitions : List Partition
+  -- the partition after these whose blocks lie where a file of the first one says, if there is one
+  pub found : Option FoundMap
   pub file_set : LongAd
   -- the rules by which the volume is read
   pub profile : Profile
@@ -211,7 +213,7 @@ volume_fault profile last lv = first_fault (
     (not (has_domain lv) || not (has_revision profile lv), Domain)
     ∷ (not (nat_eq (uint32_at lv.content (bp 212)) 2048), BlockSize)
     ∷ (not (nat_eq (map_count lv) 1 || nat_eq (map_count lv) 2), MapCount)
-    ∷ (is_none (the_maps profile last lv), MapKind)
+    ∷ (is_none (all_maps profile last lv), MapKind)
     ∷ [])
 
 -- A map with the prevailing descriptor of its partition.
@@ -270,19 +272,29 @@ laid_out profile last lv (Some ps) = unless_fault (partitions_fault profile last
   revision = uint16_at lv.content (bp 240);
   label = label_of (part lv.content (bp 84) 128);
   partitions = map (λ p. placed_of profile last (partition_of p)) ps;
+  found = None;
   file_set = long_ad_at lv.content (bp 248);
   profile = profile;
 })
 
+-- a layout with a partition that is found in a file
+abbrev pub layout_with : FoundMap → Layout → Layout
+layout_with f l = record { last = l.last; revision = l.revision; label = l.label; partitions = l.partitions; found = Some f; file_set = l.file_set; profile = l.profile }
+
+-- the same, if there is such a partition
+abbrev pub with_found : Option FoundMap → Answer Layout → Answer Layout
+with_found None answer = answer
+with_found (Some f) answer = and_then answer (λ l. found (layout_with f l))
+
 -- the layout by the maps of a logical volume
-abbrev pub with_maps : Profile → ℕ → List Descriptor → Descriptor → Option (List NumberedMap) → Answer Layout
+abbrev pub with_maps : Profile → ℕ → List Descriptor → Descriptor → Option AllMaps → Answer Layout
 with_maps profile last ds lv None = faulty MapKind
-with_maps profile last ds lv (Some ms) = laid_out profile last lv (described ds ms)
+with_maps profile last ds lv (Some ms) = with_found ms.found (laid_out profile last lv (described ds ms.numbered))
 
 -- the layout by the prevailing logical volume descriptor
 abbrev pub with_volume : Profile → ℕ → List Descriptor → Option Descriptor → Answer Layout
 with_volume profile last ds None = faulty NoLogicalVolume
-with_volume profile last ds (Some lv) = and_then (unless_fault (volume_fault profile last lv) lv) (λ v. with_maps profile last ds v (the_maps profile last v))
+with_volume profile last ds (Some lv) = and_then (unless_fault (volume_fault profile last lv) lv) (λ v. with_maps profile last ds v (all_maps profile last v))
 
 -- the layout that a descriptor sequence describes, or its least fault
 unfoldable pub layout_of : Profile → ℕ → List Descriptor → Answer Layout

@@ -24,6 +24,7 @@ parts_now v = record {
   revision = v.revision;
   label = v.label;
   partitions = map partition_now v.partitions.items;
+  found = v.found;
   file_set = v.file_set;
   profile = v.profile;
 }

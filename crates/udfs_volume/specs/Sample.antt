@@ -5,7 +5,7 @@
 --     sample maps contents     the volume of 601 blocks, by the contents of the blocks of its partitions
 --     sample_layout maps       its layout
 --     SampleLayout             whatever the partitions hold, it is a volume with that layout, and lawful
-use Rattle.std.specs.Prelude.{◌≡◌, ℕ, ◌+◌, List, [], ◌∷◌, ◌++◌, length, take, drop, replicate, cond, codes, nat_eq, nat_lt}
+use Rattle.std.specs.Prelude.{◌≡◌, ℕ, ◌+◌, List, [], ◌∷◌, ◌++◌, length, take, drop, replicate, cond, codes, nat_eq, nat_lt, None}
 use Rattle.udfs_lattice.specs.States.{IsBlock}
 use Rattle.udfs_lattice.specs.Volumes.{Blocks, Volume, IsVolume, complete}
 use Rattle.udfs_osta.specs.declared.labels.Label.TheVariants as labels
@@ -107,6 +107,7 @@ sample_layout maps = record {
   revision = 0x150;
   label = labels.Name (0x54 ∷ 0x45 ∷ 0x53 ∷ 0x54 ∷ []);
   partitions = sample_partitions maps;
+  found = None;
   file_set = record { kind = 0; length = 2048; block = 0; reference = 0 };
   profile = Strict;
 }

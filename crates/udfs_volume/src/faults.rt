@@ -27,7 +27,8 @@ pub enum VolumeFault {
     /// The number of partition maps is neither 1 nor 2 (ECMA-167 3/10.6.9).
     MapCount = 7,
     /// A partition map is neither of type 1 nor sparable, breaks a rule of its numbers, passes the map
-    /// table, or is of the same kind as another (ECMA-167 3/10.7, UDF 2.2.9).
+    /// table, or is of the same kind as another (ECMA-167 3/10.7, UDF 2.2.9). By the wide rules the second of two may be that of a virtual or
+    /// a metadata partition.
     MapKind = 8,
     /// No partition descriptor has a map's number (ECMA-167 3/10.5.4).
     NoPartition = 9,

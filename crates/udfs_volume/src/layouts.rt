@@ -5,7 +5,7 @@ ghost use Rattle.std.specs.List.{list_all};
 ghost use Rattle.udfs_lattice.specs.Tables.{state_of};
 ghost use Rattle.udfs_tag.specs.Faults.{first_fault};
 ghost use Rattle.udfs_tag.specs.Fields.{part, uint32_at};
-ghost use Rattle.udfs_volume.specs.Layout.{bp, described, has_contents, has_domain, has_revision, is_in_range, is_of_sequence, is_range, laid_out, layout, layout_by, layout_of, main_layout_by, map_count, or_reserve, partition_of, placed_of, reserve_layout_by, size_within};
+ghost use Rattle.udfs_volume.specs.Layout.{bp, described, has_contents, has_domain, has_revision, is_in_range, is_of_sequence, is_range, laid_out, layout, layout_by, layout_of, main_layout_by, map_count, or_reserve, partition_of, placed_of, reserve_layout_by, size_within, with_found};
 ghost use Rattle.udfs_volume.specs.LayoutParts.{described_now, field_tests, has_contents_of, parts_now, partition_now};
 ghost use Rattle.udfs_osta.specs.Labels.{label_of};
 ghost use Rattle.udfs_volume.specs.Laws.{IsBounded};
@@ -18,7 +18,8 @@ ghost use Rattle.udfs_volume.specs.Sequences.{descriptor_now, sequence_now};
 
 use crate::descriptors::{Descriptor, Sequence, is_named};
 use crate::faults::VolumeFault;
-use crate::maps::{NumberedMap, PartitionMap, read_maps};
+use crate::found_maps::FoundMap;
+use crate::maps::{AllMaps, NumberedMap, PartitionMap, all_maps};
 use crate::profiles::Profile;
 use crate::seen::Seen;
 use crate::sequences::{reserve_sequence_in, sequence_in};
@@ -50,6 +51,9 @@ pub struct VolumeParts {
     pub label: Label,
     /// The partitions in the order of their maps: a partition reference is an index into them.
     pub partitions: Vec<Partition>,
+    /// How the blocks of one more partition are found, whose map is after these and which lies in a file of the first of them; by the strict rules
+    /// there is none.
+    pub found: Option<FoundMap>,
     /// The address of the file set descriptor.
     pub file_set: LongAd,
     /// The rules by which the volume is read.
@@ -216,12 +220,12 @@ fn lay_out(
     last: u32,
     volume: &Descriptor,
     sequence: &Sequence,
-    maps: Vec<NumberedMap>,
+    maps: AllMaps,
 ) -> Result<Seen<VolumeParts>, AllocError>
     ensures { IfOk result (λ seen. Sees parts_now seen
-        (laid_out profile last (descriptor_now volume.now) (described (sequence_now sequence.now) (map numbered_now maps.items)))) }
+        (with_found maps.found (laid_out profile last (descriptor_now volume.now) (described (sequence_now sequence.now) (map numbered_now maps.numbered.items))))) }
 {
-    let Some(all) = describe(alloc, sequence, maps)? else {
+    let Some(all) = describe(alloc, sequence, maps.numbered)? else {
         return Ok(Seen::Fault(VolumeFault::NoPartition));
     };
     if !have_contents(&all) {
@@ -239,6 +243,7 @@ fn lay_out(
         revision,
         label,
         partitions,
+        found: maps.found,
         file_set,
         profile,
     }))
@@ -259,7 +264,7 @@ fn layout_of(
     if let Some(fault) = field_fault(profile, volume) {
         return Ok(Seen::Fault(fault));
     }
-    let Some(maps) = read_maps(alloc, profile, last, volume)? else {
+    let Some(maps) = all_maps(alloc, profile, last, volume)? else {
         return Ok(Seen::Fault(VolumeFault::MapKind));
     };
     lay_out(alloc, profile, last, volume, sequence, maps)

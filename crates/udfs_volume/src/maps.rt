@@ -247,7 +247,7 @@ fn read_found(first: &NumberedMap, left: u32, bytes: &[u8]) -> Option<FoundMap>
 }
 
 /// The one or two maps of a logical volume, if each has a form of the two and they are not of one kind.
-pub(crate) fn read_maps(
+fn read_maps(
     alloc: Global,
     profile: Profile,
     last: u32,
