@@ -3,14 +3,15 @@
 --     placed_by profile blocks last     these, by the rules of a profile; or blocks that would have to be read first, or a fault
 --     if_found answer                   what is found, if something is
 --     all_entries blocks p              all entries of the volume, as where no name leads to any
-use Rattle.std.specs.Prelude.{ℕ, Bool, List, [], length, nat_le, Option, Some, None}
+use Rattle.std.specs.Prelude.{ℕ, Bool, List, [], length, nat_le, Option, Some, None, ◌||◌, not, is_none}
 use Rattle.udfs_lattice.specs.Volumes.{Blocks}
 use Rattle.udfs_volume.specs.declared.profiles.Profile.{Profile}
 use Rattle.udfs_volume.specs.Answers.{Answer, found, holes, faulty, and_then}
 use Rattle.udfs_volume.specs.Layout.{Layout, layout_by}
 use Rattle.udfs_volume.specs.LayoutParts.{parts_now}
-use Rattle.udfs_space.specs.Sparing.{Space, space}
+use Rattle.udfs_space.specs.Sparing.{Space}
 use Rattle.udfs_space.specs.Places.{view}
+use Rattle.udfs_walk.specs.FoundPartitions.{places}
 use Rattle.udfs_walk.specs.UnnamedEntries.{unnamed}
 use Rattle.udfs_walk.specs.declared.answers.Unnamed.{Unnamed}
 use Rattle.udfs_lost.specs.declared.placed.PlacedVolume.{PlacedVolume}
@@ -22,7 +23,7 @@ pub record Placed : Type 0 where
 
 -- the places of a layout
 abbrev pub placed_in : Blocks → Layout → Answer Placed
-placed_in blocks l = and_then (space blocks l) (λ s. found (record { layout = l; space = s }))
+placed_in blocks l = and_then (places blocks l) (λ s. found (record { layout = l; space = s }))
 
 -- the layout and the places, or the blocks to read first, or the fault
 unfoldable pub placed_by : Profile → Blocks → ℕ → Answer Placed
@@ -40,7 +41,7 @@ placed_now p = record { layout = parts_now p.parts; space = p.space }
 
 -- whether there are two partitions
 abbrev pub has_two : Layout → Bool
-has_two l = nat_le 2 (length l.partitions)
+has_two l = nat_le 2 (length l.partitions) || not (is_none l.found)
 
 -- all entries in known blocks, as where no name leads to any
 abbrev pub all_entries : Blocks → Placed → List Unnamed

@@ -14,6 +14,7 @@ use udfs_space::{Space, StoreView, View};
 use udfs_volume::layouts::layout_in;
 use udfs_volume::{Profile, Seen, VolumeParts};
 use udfs_walk::Unnamed;
+use udfs_walk::open_space;
 use udfs_walk::unnamed_entries::bare_unnamed_by;
 
 /// The layout of a volume and the places of its blocks, whatever its file set says.
@@ -55,7 +56,7 @@ impl PlacedVolume {
     pub fn has_two(&self) -> bool
         ensures { result ≡ has_two (parts_now self.now.parts) }
     {
-        self.parts.partitions.len() >= 2
+        self.parts.partitions.len() >= 2 || self.parts.found.is_some()
     }
 
     /// All entries in known blocks, by partition reference and then by block, as where no name leads to any. A torn one is without its
@@ -103,7 +104,7 @@ fn placed_parts<B: BlockStore>(
     ensures value { IfOk result (λ placed. B.tells → option_map placed_now placed ≡ if_found (placed_in (B.states blocks.now) (parts_now parts))) }
     ensures fails { IsErrOf result GaveUp.Unread → B.fails }
 {
-    match Space::build_in(alloc, blocks, &parts)? {
+    match open_space(alloc, blocks, &parts)? {
         Seen::Got(space) => Ok(Some(PlacedVolume { parts, space })),
         Seen::Holes(_) => Ok(None),
         Seen::Fault(_) => Ok(None),

@@ -1,10 +1,12 @@
 -- The first line of a summary: what the volume is, or why it does not open.
 --     volume_line volume last     the line, of a disc with this last block
-use Rattle.std.specs.Prelude.{ℕ, ◌+◌, ◌*◌, List, [], ◌∷◌, ◌++◌, flat_map, codes, decimal}
+use Rattle.std.specs.Prelude.{ℕ, ◌+◌, ◌*◌, List, [], ◌∷◌, ◌++◌, flat_map, codes, decimal, Option, Some, None}
 use Rattle.udfs_osta.specs.declared.labels.Label.{Label}
 use Rattle.udfs_osta.specs.declared.labels.Label.TheVariants as label
 use Rattle.udfs_volume.specs.Answers.{Answer, found, holes, faulty}
 use Rattle.udfs_volume.specs.Layout.{Layout, Partition, PartitionMap, type1, sparable}
+use Rattle.udfs_volume.specs.declared.found_maps.FoundMap.{FoundMap}
+use Rattle.udfs_volume.specs.declared.found_maps.FoundMap.TheVariants.{Virtual, Metadata}
 use Rattle.udfs_volume.specs.declared.faults.VolumeFault.{VolumeFault}
 use Rattle.udfs_volume.specs.declared.faults.VolumeFault.TheVariants as fault
 use Rattle.udfs_salvage.specs.Found.{Found}
@@ -27,13 +29,19 @@ kind_text (sparable packet size tables) = codes ", sparable"
 abbrev pub kind_texts : List Partition → List ℕ
 kind_texts partitions = flat_map (λ p. kind_text p.kind) partitions
 
+-- the kind of the map of the partition that is found in a file, a comma before it, if there is one
+abbrev pub found_kind : Option FoundMap → List ℕ
+found_kind None = []
+found_kind (Some Virtual) = codes ", virtual"
+found_kind (Some (Metadata m)) = codes ", metadata"
+
 -- how many blocks and bytes a disc with this last block has
 unfoldable pub disc_size_text : ℕ → List ℕ
 disc_size_text last = grouped (last + 1) ++ codes " blocks, " ++ size_text ((last + 1) * 2048)
 
 -- the standard's revision, and the kinds of the maps
 abbrev pub revision_and_kinds : Layout → List ℕ
-revision_and_kinds l = codes "UDF " ++ revision_text l.revision ++ kind_texts l.partitions
+revision_and_kinds l = codes "UDF " ++ revision_text l.revision ++ kind_texts l.partitions ++ found_kind l.found
 
 -- the line of a volume that opens
 unfoldable pub open_line : Layout → ℕ → List ℕ
@@ -72,6 +80,7 @@ fault_words fault.SparingShape = codes "a sparing table's shape is wrong"
 fault_words fault.SparingOrder = codes "a sparing table is not in order"
 fault_words fault.MappedRange = codes "a spared packet ends after the last block"
 fault_words fault.FileSet = codes "the file set is not where it should be"
+fault_words fault.FoundTable = codes "the file that says where the blocks of a partition are cannot be read"
 
 -- the line of a volume that does not open, and why
 abbrev pub closed_line : List ℕ → List ℕ

@@ -5,14 +5,14 @@ ghost use Rattle.std.specs.String.{string_bytes};
 ghost use Rattle.udfs_volume.specs.LayoutParts.{partition_now, parts_now};
 ghost use Rattle.udfs_volume.specs.Parts.{map_now};
 ghost use Rattle.udfs_salvage.specs.Found.{volume_now};
-ghost use Rattle.udfs_overview.specs.VolumeLines.{closed_line, disc_size_text, fault_words, holes_text, kind_text, kind_texts, label_text, numbers_text, open_line, revision_and_kinds, volume_line};
+ghost use Rattle.udfs_overview.specs.VolumeLines.{closed_line, disc_size_text, fault_words, found_kind, holes_text, kind_text, kind_texts, label_text, numbers_text, open_line, revision_and_kinds, volume_line};
 
 use crate::figures::{push_grouped, push_size};
 use crate::safe_names::push_safe_name;
 use std::fmt::Write;
 use udfs_osta::{Label, OutOfMemory};
 use udfs_salvage::{Volume, revision_name};
-use udfs_volume::{Partition, PartitionMap, VolumeFault, VolumeParts};
+use udfs_volume::{FoundMap, Partition, PartitionMap, VolumeFault, VolumeParts};
 
 /// How many bytes a block has.
 const BLOCK_BYTES: u128 = 2048;
@@ -52,6 +52,17 @@ fn push_kinds(text: &mut String, partitions: &[Partition]) -> Result<(), OutOfMe
     Ok(())
 }
 
+/// The kind of the map of the partition that is found in a file, a comma before it, if there is one.
+fn push_found(text: &mut String, found: Option<FoundMap>) -> Result<(), OutOfMemory>
+    ensures { OnOk result (string_bytes text.new ≡ string_bytes text.old ++ found_kind found) }
+{
+    match found {
+        None => Ok(()),
+        Some(FoundMap::Virtual) => text.push_str(", virtual"),
+        Some(FoundMap::Metadata(_)) => text.push_str(", metadata"),
+    }
+}
+
 /// Appends the revision, and the kinds of the maps: `UDF 2.01, sparable`.
 ///
 /// # Errors
@@ -62,7 +73,8 @@ pub fn push_revision(text: &mut String, parts: &VolumeParts) -> Result<(), OutOf
 {
     text.push_str("UDF ")?;
     text.push_str(revision_name(parts.revision))?;
-    push_kinds(text, &parts.partitions)
+    push_kinds(text, &parts.partitions)?;
+    push_found(text, parts.found)
 }
 
 /// Appends how many blocks and bytes a disc with this last block has: `5,120 blocks, 10.5 MB`.
@@ -146,6 +158,7 @@ pub(crate) fn fault_words(fault: VolumeFault) -> &'static str
         VolumeFault::SparingOrder => "a sparing table is not in order",
         VolumeFault::MappedRange => "a spared packet ends after the last block",
         VolumeFault::FileSet => "the file set is not where it should be",
+        VolumeFault::FoundTable => "the file that says where the blocks of a partition are cannot be read",
     }
 }
 

@@ -59,8 +59,8 @@ revision_kept : (n : ℕ) → accepts_revision Strict n ≡ true → accepts_rev
 revision_kept n e = go (one_of_two (λ m. nat_eq m n) 0x0150 0x0201 e)
   where
     go : (nat_eq 0x0150 n ≡ true) ⊎ (nat_eq 0x0201 n ≡ true) → accepts_revision Wide n ≡ true
-    go (inl h) = any_at (λ m. nat_eq m n) (0x0100 ∷ 0x0101 ∷ 0x0102 ∷ []) 0x0150 (0x0200 ∷ 0x0201 ∷ []) h
-    go (inr h) = any_at (λ m. nat_eq m n) (0x0100 ∷ 0x0101 ∷ 0x0102 ∷ 0x0150 ∷ 0x0200 ∷ []) 0x0201 [] h
+    go (inl h) = any_at (λ m. nat_eq m n) (0x0100 ∷ 0x0101 ∷ 0x0102 ∷ []) 0x0150 (0x0200 ∷ 0x0201 ∷ 0x0250 ∷ 0x0260 ∷ []) h
+    go (inr h) = any_at (λ m. nat_eq m n) (0x0100 ∷ 0x0101 ∷ 0x0102 ∷ 0x0150 ∷ 0x0200 ∷ []) 0x0201 (0x0250 ∷ 0x0260 ∷ []) h
 
 packet_kept : (n : ℕ) → accepts_packet Strict n ≡ true → accepts_packet Wide n ≡ true
 packet_kept n e = go (one_of_two (λ m. nat_eq m n) 16 32 e)

@@ -10,9 +10,10 @@ use Rattle.udfs_volume.specs.declared.profiles.Profile.TheVariants.{Strict}
 use Rattle.udfs_volume.specs.Answers.{Answer, found, holes, faulty, and_then}
 use Rattle.udfs_volume.specs.Layout.{Layout, layout_by}
 use Rattle.udfs_volume.specs.LayoutParts.{parts_now}
-use Rattle.udfs_space.specs.Sparing.{Space, space}
+use Rattle.udfs_space.specs.Sparing.{Space}
 use Rattle.udfs_space.specs.Places.{view}
 use Rattle.udfs_file.specs.Addresses.{file_set}
+use Rattle.udfs_walk.specs.FoundPartitions.{places}
 use Rattle.udfs_salvage.specs.declared.volumes.OpenVolume.{OpenVolume}
 use Rattle.udfs_salvage.specs.declared.volumes.Volume as code_volume
 use Rattle.udfs_salvage.specs.declared.volumes.Volume.TheVariants.{Open, Holes, Fault}
@@ -29,7 +30,7 @@ rooted blocks l s = and_then (file_set (view blocks s) l.file_set) (λ root. fou
 
 -- the places and the root of a layout
 abbrev pub placed : Blocks → Layout → Answer Found
-placed blocks l = and_then (space blocks l) (rooted blocks l)
+placed blocks l = and_then (places blocks l) (rooted blocks l)
 
 -- the volume that opens, or the blocks to read first, or its fault
 unfoldable pub volume_by : Profile → Blocks → ℕ → Answer Found

@@ -1,7 +1,7 @@
 -- The JSON of a report. Keys are in byte order.
 --     report_data_by profile table last r    all of it, by the rules of a profile
 --     json_text_by profile table last r      its compact text
-use Rattle.std.specs.Prelude.{ℕ, false, List, [], ◌∷◌, codes, Option, Some, None}
+use Rattle.std.specs.Prelude.{ℕ, false, List, [], ◌∷◌, ◌++◌, map, codes, Option, Some, None}
 use Rattle.serde_json.specs.Data.{Data, null, string, object, Members, member, no_members, put}
 use Rattle.serde_json.specs.Written.{compact_text}
 use Rattle.udfs_volume.specs.declared.profiles.Profile.{Profile}
@@ -20,7 +20,8 @@ use Rattle.udfs_space.specs.Places.{view}
 use Rattle.udfs_walk.specs.NodeFields.{NodeFields}
 use Rattle.udfs_salvage.specs.Found.{Found}
 use Rattle.udfs_salvage.specs.Reports.{Report}
-use Rattle.udfs_salvage.specs.Texts.{volume_fault_number, has_two, revision_text}
+use Rattle.udfs_volume.specs.declared.found_maps.FoundMap.{FoundMap}
+use Rattle.udfs_salvage.specs.Texts.{volume_fault_number, found_name, has_two, revision_text}
 use Rattle.udfs_salvage.specs.JsonNodes.{count, list_data, node_data, node_in, unnamed_data}
 
 -- ---- the volume
@@ -40,11 +41,20 @@ abbrev pub packet_length_of : List Partition → Option ℕ
 packet_length_of [] = None
 packet_length_of (p ∷ ps) = packet_or p.kind (packet_length_of ps)
 
+-- the name of the map of a partition that is found in a file, if there is one
+abbrev pub found_names : Option FoundMap → List (List ℕ)
+found_names None = []
+found_names (Some map) = found_name map ∷ []
+
+-- the names of all maps
+abbrev pub map_names : List Partition → Option FoundMap → List (List ℕ)
+map_names partitions found = map (λ p. map_name p.kind) partitions ++ found_names found
+
 -- one map by its name, and two as a list
-abbrev pub with_map_members : List Partition → Members → Members
+abbrev pub with_map_members : List (List ℕ) → Members → Members
 with_map_members [] ms = ms
-with_map_members (p ∷ []) ms = member (codes "map") (string (map_name p.kind)) ms
-with_map_members (p ∷ q ∷ ps) ms = member (codes "maps") (list_data (λ x. string (map_name x.kind)) (p ∷ q ∷ ps)) ms
+with_map_members (n ∷ []) ms = member (codes "map") (string n) ms
+with_map_members (n ∷ m ∷ ns) ms = member (codes "maps") (list_data string (n ∷ m ∷ ns)) ms
 
 -- the packet's length, where there is one, among other members
 abbrev pub with_packet : Option ℕ → Members → Members
@@ -57,10 +67,10 @@ put_packet None ms = ms
 put_packet (Some packet) ms = put (codes "packet") (count packet) ms
 
 -- the map or the maps among other members
-abbrev pub put_maps : List Partition → Members → Members
+abbrev pub put_maps : List (List ℕ) → Members → Members
 put_maps [] ms = ms
-put_maps (p ∷ []) ms = put (codes "map") (string (map_name p.kind)) ms
-put_maps (p ∷ q ∷ ps) ms = put (codes "maps") (list_data (λ x. string (map_name x.kind)) (p ∷ q ∷ ps)) ms
+put_maps (n ∷ []) ms = put (codes "map") (string n) ms
+put_maps (n ∷ m ∷ ns) ms = put (codes "maps") (list_data string (n ∷ m ∷ ns)) ms
 
 -- the members of every volume that opens: its revision and its state
 abbrev pub open_members : ℕ → Members
@@ -68,7 +78,7 @@ open_members revision = member (codes "revision") (string (revision_text revisio
 
 -- the object of the volume
 abbrev pub volume_data : Answer Found → Data
-volume_data (found f) = object (with_map_members f.layout.partitions (with_packet (packet_length_of f.layout.partitions) (open_members f.layout.revision)))
+volume_data (found f) = object (with_map_members (map_names f.layout.partitions f.layout.found) (with_packet (packet_length_of f.layout.partitions) (open_members f.layout.revision)))
 volume_data (holes blocks) = object (member (codes "blocks") (list_data count blocks) (member (codes "state") (string (codes "holes")) no_members))
 volume_data (faulty f) = object (
     member (codes "fault") (count (volume_fault_number f))

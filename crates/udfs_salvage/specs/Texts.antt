@@ -2,7 +2,7 @@
 --     head_text_by profile table last answer    the lines before those of nodes, by the rules of a profile
 --     reread_lines blocks ns            those of the blocks to read again
 --     volume_line answer                the line of the volume
-use Rattle.std.specs.Prelude.{ℕ, Bool, false, List, [], ◌∷◌, ◌++◌, length, nat_le, flat_map, cond, nat_eq, codes, decimal}
+use Rattle.std.specs.Prelude.{ℕ, Bool, false, not, ◌||◌, List, [], ◌∷◌, ◌++◌, length, nat_le, flat_map, cond, nat_eq, codes, decimal, Option, Some, None, is_none}
 use Rattle.udfs_volume.specs.declared.profiles.Profile.{Profile}
 use Rattle.udfs_volume.specs.declared.profiles.Profile.TheVariants.{Strict, Wide}
 use Rattle.udfs_lattice.specs.Tables.{Table, known_count, conflict_count}
@@ -14,7 +14,9 @@ use Rattle.udfs_osta.specs.declared.labels.Label.{Label}
 use Rattle.udfs_osta.specs.declared.labels.Label.TheVariants as label
 use Rattle.udfs_volume.specs.Answers.{Answer, found, holes, faulty}
 use Rattle.udfs_volume.specs.FaultNames.{volume_fault_name}
-use Rattle.udfs_volume.specs.Layout.{Partition, PartitionMap, type1, sparable}
+use Rattle.udfs_volume.specs.Layout.{Layout, Partition, PartitionMap, type1, sparable}
+use Rattle.udfs_volume.specs.declared.found_maps.FoundMap.{FoundMap}
+use Rattle.udfs_volume.specs.declared.found_maps.FoundMap.TheVariants.{Virtual, Metadata}
 use Rattle.udfs_volume.specs.declared.faults.VolumeFault.{VolumeFault}
 use Rattle.udfs_volume.specs.declared.faults.VolumeFault.TheVariants as fault
 use Rattle.udfs_salvage.specs.Found.{Found}
@@ -43,12 +45,13 @@ volume_fault_number fault.SparingShape = 13
 volume_fault_number fault.SparingOrder = 14
 volume_fault_number fault.MappedRange = 15
 volume_fault_number fault.FileSet = 16
+volume_fault_number fault.FoundTable = 17
 
 -- the revision, as it is printed
 unfoldable pub revision_text : ℕ → List ℕ
 revision_text revision = cond (nat_eq revision 0x0100) (codes "1.00") (cond (nat_eq revision 0x0101) (codes "1.01")
     (cond (nat_eq revision 0x0102) (codes "1.02") (cond (nat_eq revision 0x0150) (codes "1.50")
-    (cond (nat_eq revision 0x0200) (codes "2.00") (codes "2.01")))))
+    (cond (nat_eq revision 0x0200) (codes "2.00") (cond (nat_eq revision 0x0250) (codes "2.50") (cond (nat_eq revision 0x0260) (codes "2.60") (codes "2.01")))))))
 
 -- the beginning of the line of a volume that opens: its revision, and the keyword before its maps
 abbrev pub open_text : ℕ → List ℕ
@@ -63,6 +66,16 @@ partition_map_text (sparable packet size tables) = codes " sparable " ++ decimal
 abbrev pub map_texts : List Partition → List ℕ
 map_texts partitions = flat_map (λ p. partition_map_text p.kind) partitions
 
+-- the name of the map of a partition that is found in a file
+abbrev pub found_name : FoundMap → List ℕ
+found_name Virtual = codes "virtual"
+found_name (Metadata m) = codes "metadata"
+
+-- the map of the partition that is found in a file after a space, if there is one
+abbrev pub found_text : Option FoundMap → List ℕ
+found_text None = []
+found_text (Some map) = codes " " ++ found_name map
+
 -- a space and the number of a block
 abbrev pub block_text : ℕ → List ℕ
 block_text n = codes " " ++ decimal n
@@ -73,15 +86,19 @@ block_texts blocks = flat_map block_text blocks
 
 -- the line of the volume
 abbrev pub volume_line : Answer Found → List ℕ
-volume_line (found f) = line (open_text f.layout.revision ++ map_texts f.layout.partitions)
+volume_line (found f) = line (open_text f.layout.revision ++ map_texts f.layout.partitions ++ found_text f.layout.found)
 volume_line (holes blocks) = line (codes "volume holes" ++ block_texts blocks)
 volume_line (faulty f) = line (codes "volume fault " ++ decimal (volume_fault_number f) ++ codes " " ++ volume_fault_name f)
 
 -- ---- the lines before and after it
 
+-- a layout has two partitions
+abbrev pub has_two_maps : Layout → Bool
+has_two_maps l = nat_le 2 (length l.partitions) || not (is_none l.found)
+
 -- a volume is found, and has two partitions
 abbrev pub has_two : Answer Found → Bool
-has_two (found f) = nat_le 2 (length f.layout.partitions)
+has_two (found f) = has_two_maps f.layout
 has_two (holes blocks) = false
 has_two (faulty f) = false
 

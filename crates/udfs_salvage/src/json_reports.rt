@@ -11,18 +11,18 @@ ghost use Rattle.udfs_volume.specs.Parts.{map_now};
 ghost use Rattle.udfs_salvage.specs.Found.{found_now, volume_now};
 ghost use Rattle.udfs_salvage.specs.Reports.{report_now};
 ghost use Rattle.udfs_salvage.specs.JsonNodes.{list_data};
-ghost use Rattle.udfs_salvage.specs.JsonReports.{json_text_by, label_data, label_data_of, map_name, name_data, nodes_data, packet_length_of, put_maps, put_packet, put_profile, report_data_by, reread_data, state_data, state_name, volume_data};
+ghost use Rattle.udfs_salvage.specs.JsonReports.{json_text_by, label_data, label_data_of, map_name, map_names, name_data, nodes_data, packet_length_of, put_maps, put_packet, put_profile, report_data_by, reread_data, state_data, state_name, volume_data};
 
 use crate::json_nodes::{all_unnamed_value, blocks_value, nodes_value, nodes_value_in};
 use crate::lines::has_two;
 use crate::reports::Report;
 use crate::volumes::{OpenVolume, Volume};
-use crate::words::{fault_number, revision_name};
+use crate::words::{fault_number, found_name, revision_name};
 use serde_json::{Map, Value, put};
 use std::alloc::{AllocError, Global};
 use udfs_lattice::{BlockStore, BlockTable, Fact};
 use udfs_osta::{Label, Name, OutOfMemory};
-use udfs_volume::{Partition, PartitionMap, Profile, VolumeFault};
+use udfs_volume::{FoundMap, Partition, PartitionMap, Profile, VolumeFault};
 
 /// The name of a map.
 fn map_name(kind: &PartitionMap) -> &'static str
@@ -42,12 +42,27 @@ fn map_value(alloc: Global, partition: &Partition) -> Result<Value, AllocError>
 }
 
 /// The names of the partitions' maps.
-fn maps_value(alloc: Global, partitions: &[Partition]) -> Result<Value, AllocError>
-    ensures { IfOk result (λ v. view v ≡ list_data (λ p. string (map_name (partition_now p).kind)) partitions.now) }
+fn map_values(alloc: Global, partitions: &[Partition]) -> Result<Vec<Value>, AllocError>
+    ensures { IfOk result (λ vs. map view vs.items ≡ map (λ p. string (map_name (partition_now p).kind)) partitions.now) }
 {
     let mut items = Vec::new(alloc);
     for partition in partitions {
         items.push(map_value(alloc, partition)?)?;
+    }
+    Ok(items)
+}
+
+/// The names of the partitions' maps, and of that of the one that is found in a file.
+fn maps_value(
+    alloc: Global,
+    partitions: &[Partition],
+    found: Option<FoundMap>,
+) -> Result<Value, AllocError>
+    ensures { IfOk result (λ v. view v ≡ list_data string (map_names (map partition_now partitions.now) found)) }
+{
+    let mut items = map_values(alloc, partitions)?;
+    if let Some(map) = found {
+        items.push(Value::try_from_str(alloc, found_name(map))?)?;
     }
     Ok(Value::Array(items))
 }
@@ -84,11 +99,12 @@ fn with_maps(
     alloc: Global,
     mut members: Map<String, Value>,
     partitions: &[Partition],
+    found: Option<FoundMap>,
 ) -> Result<Map<String, Value>, AllocError>
-    ensures { IfOk result (λ with. members_view with.entries ≡ put_maps (map partition_now partitions.now) (members_view members.entries)) }
+    ensures { IfOk result (λ with. members_view with.entries ≡ put_maps (map_names (map partition_now partitions.now) found) (members_view members.entries)) }
 {
-    if partitions.len() >= 2 {
-        let maps = maps_value(alloc, partitions)?;
+    if partitions.len() >= 2 || found.is_some() {
+        let maps = maps_value(alloc, partitions, found)?;
         put(&mut members, alloc, "maps", maps)?;
         return Ok(members);
     }
@@ -111,7 +127,7 @@ fn open_value(alloc: Global, opened: &OpenVolume) -> Result<Value, AllocError>
     put(&mut members, alloc, "state", state)?;
     let packet = packet_of(&opened.parts.partitions);
     let with = with_packet(alloc, members, packet)?;
-    let all = with_maps(alloc, with, &opened.parts.partitions)?;
+    let all = with_maps(alloc, with, &opened.parts.partitions, opened.parts.found)?;
     Ok(Value::Object(all))
 }
 

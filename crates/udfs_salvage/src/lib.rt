@@ -56,4 +56,4 @@ pub use survey_printing::{write_survey, write_survey_by};
 pub use surveys::{Survey, survey_store, survey_volume, survey_volume_by};
 pub use unnamed_extraction::{extract_unnamed_by, has_two_partitions, is_lost_file};
 pub use volumes::{OpenVolume, Volume, open_by};
-pub use words::revision_name;
+pub use words::{found_name, revision_name};

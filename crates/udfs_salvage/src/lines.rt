@@ -7,23 +7,23 @@ ghost use Rattle.udfs_volume.specs.LayoutParts.{partition_now};
 ghost use Rattle.udfs_volume.specs.Parts.{map_now};
 ghost use Rattle.udfs_reading.specs.Puts.{Puts};
 ghost use Rattle.udfs_salvage.specs.Found.{found_now, volume_now};
-ghost use Rattle.udfs_salvage.specs.Texts.{block_text, block_texts, count_line, end_line, first_line, form_text, has_two, head_text_by, label_line, label_lines, map_texts, open_text, partition_map_text, profile_lines, reread_line, reread_lines, state_text, volume_line};
+ghost use Rattle.udfs_salvage.specs.Texts.{block_text, block_texts, count_line, end_line, first_line, form_text, found_text, has_two, head_text_by, label_line, label_lines, map_texts, open_text, partition_map_text, profile_lines, reread_line, reread_lines, state_text, volume_line};
 
 use crate::stores::ReportStore;
 use crate::volumes::{OpenVolume, Volume};
 use crate::word_printing::{put_count, put_escaped};
-use crate::words::{fault_number, revision_name};
+use crate::words::{fault_number, found_name, revision_name};
 use udfs_lattice::{BlockStore, Fact};
 use udfs_osta::{Label, Name};
 use udfs_reading::{Printer, Sink};
-use udfs_volume::{Partition, PartitionMap, Profile, VolumeFault};
+use udfs_volume::{FoundMap, Partition, PartitionMap, Profile, VolumeFault};
 
 /// Whether the volume opens and has two partitions.
 pub(crate) fn has_two(volume: &Volume) -> bool
     ensures { result ≡ has_two (volume_now volume.now) }
 {
     match volume {
-        Volume::Open(opened) => opened.parts.partitions.len() >= 2,
+        Volume::Open(opened) => opened.parts.partitions.len() >= 2 || opened.parts.found.is_some(),
         _ => false,
     }
 }
@@ -91,6 +91,16 @@ fn put_maps<W: Sink>(out: &mut Printer, sink: &mut W, partitions: &[Partition])
     }
 }
 
+/// The map of the partition that is found in a file, if there is one.
+fn put_found<W: Sink>(out: &mut Printer, sink: &mut W, found: Option<FoundMap>)
+    ensures { Puts (W.stream sink.old) (W.stream sink.new) out.old out.new (found_text found) }
+{
+    if let Some(map) = found {
+        out.put(sink, " ");
+        out.put(sink, found_name(map));
+    }
+}
+
 /// A block's number, a space before it.
 fn put_block<W: Sink>(out: &mut Printer, sink: &mut W, block: u32)
     ensures { Puts (W.stream sink.old) (W.stream sink.new) out.old out.new (block_text block) }
@@ -122,6 +132,7 @@ fn put_open<W: Sink>(out: &mut Printer, sink: &mut W, opened: &OpenVolume)
 {
     put_revision(out, sink, opened.parts.revision);
     put_maps(out, sink, &opened.parts.partitions);
+    put_found(out, sink, opened.parts.found);
     out.put(sink, "\n");
 }
 

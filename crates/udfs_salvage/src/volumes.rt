@@ -16,6 +16,7 @@ use udfs_space::{Space, StoreView, View};
 use udfs_tag::LongAd;
 use udfs_volume::layouts::layout_in;
 use udfs_volume::{Profile, Seen, VolumeFault, VolumeParts};
+use udfs_walk::open_space;
 
 /// A volume that opens: its files can be looked for.
 #[derive(Debug, Drop)]
@@ -101,7 +102,7 @@ fn open_parts<B: BlockStore>(
     ensures rising { IfOk result (λ seen. B.tells → HolesRise seen) }
     ensures fails { OnErr result B.fails }
 {
-    match Space::build_in(alloc, blocks, &parts)? {
+    match open_space(alloc, blocks, &parts)? {
         Seen::Got(space) => open_root(alloc, blocks, parts, space),
         Seen::Holes(listed) => Ok(Seen::Holes(listed)),
         Seen::Fault(fault) => Ok(Seen::Fault(fault)),

@@ -2,10 +2,10 @@
 
 ghost use Rattle.std.specs.Prelude.{◌≡◌, ◌≤◌, length};
 ghost use Rattle.udfs_salvage.specs.NodeTexts.{kind_name, node_fault_number, standing_name, word_text};
-ghost use Rattle.udfs_salvage.specs.Texts.{revision_text, volume_fault_number};
+ghost use Rattle.udfs_salvage.specs.Texts.{found_name, revision_text, volume_fault_number};
 
 use udfs_file::{Kind, NodeFault};
-use udfs_volume::VolumeFault;
+use udfs_volume::{FoundMap, VolumeFault};
 use udfs_walk::Standing;
 
 /// A keyword, and the number after it where it has one.
@@ -60,7 +60,18 @@ pub(crate) fn fault_number(fault: VolumeFault) -> u8
     fault as u8
 }
 
-/// A revision of UDF as it is printed: `1.00`, `1.01`, `1.02`, `1.50`, `2.00`, or else `2.01`, since no profile accepts another.
+/// The name of the map of a partition that is found in a file.
+pub fn found_name(map: FoundMap) -> &'static str
+    ensures name { result.now ≡ found_name map }
+    ensures short { length result.now ≤ 2048 }
+{
+    match map {
+        FoundMap::Virtual => "virtual",
+        FoundMap::Metadata(_) => "metadata",
+    }
+}
+
+/// A revision of UDF as it is printed: `1.00`, `1.01`, `1.02`, `1.50`, `2.00`, `2.50`, `2.60`, or else `2.01`, since no profile accepts another.
 #[tactic(auto, unfolding(crate::specs::Texts::revision_text))]
 pub fn revision_name(revision: u16) -> &'static str
     ensures name { result.now ≡ revision_text revision }
@@ -72,6 +83,8 @@ pub fn revision_name(revision: u16) -> &'static str
         0x0102 => "1.02",
         0x0150 => "1.50",
         0x0200 => "2.00",
+        0x0250 => "2.50",
+        0x0260 => "2.60",
         _ => "2.01",
     }
 }

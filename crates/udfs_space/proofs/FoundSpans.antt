@@ -136,6 +136,7 @@ sound_found first ns h some most = record {
   ends = omega (arith, most);
   packet = omega arith;
   spared = record { each = each f fits 0 (length ns); rises = (rises f 0 (length ns)).rise };
+  single = λ e. refl;
 }
   where
     f : ℕ → Option ℕ

@@ -7,6 +7,7 @@ pub mod Loops
 pub mod Orders
 pub mod Partitions
 pub mod Pasts
+pub mod Runs
 pub mod Counted
 pub mod Ranks
 pub mod PlaceLaw

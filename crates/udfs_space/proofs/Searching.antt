@@ -23,7 +23,7 @@ none-of [] first h = refl
 none-of (e ∷ es) first h = none-of es first (λ k d l. h (suc k) d (omega (arith, l)))
     ∙ ap (λ b. cond b (Some e) (find (λ e. nat_eq e.original first) es)) (sym (h 0 e (omega arith)))
 
-some-of : (es : List SparingEntry) (first i : ℕ) (d : SparingEntry) → OriginalsRise es → i < length es → (slice_index_or es i d).original ≡ first → Some (slice_index_or es i d) ≡ find (λ e. nat_eq e.original first) es
+pub some-of : (es : List SparingEntry) (first i : ℕ) (d : SparingEntry) → OriginalsRise es → i < length es → (slice_index_or es i d).original ≡ first → Some (slice_index_or es i d) ≡ find (λ e. nat_eq e.original first) es
 some-of [] first i d r l e = absurd (let z : ⊥ = omega (arith, l) in z)
 some-of (x ∷ es) first zero d r l e = ap (λ b. cond b (Some x) (find (λ e. nat_eq e.original first) es)) (sym (are_same x.original first e))
 some-of (x ∷ es) first (suc i) d r l e = some-of es first i d (λ j k q m n. r (suc j) (suc k) q (omega (arith, m)) (omega (arith, n))) (omega (arith, l)) e

@@ -57,7 +57,7 @@ span_sound : (T : Blocks) (last : ℕ) (p : Partition) (s : Span) → last ≤ 4
 span_sound T last p s l b e = let q : (sp : Spared) × (spared T last p.kind ≡ found sp) × (found (span_of p sp) ≡ found s) =
     and_then-found (spared T last p.kind) (λ sp. found (span_of p sp)) s e in
     subst IsSound (found_same (span_of p q.0) s q.2)
-    (record { not_empty = b.not_empty; ends = (let ends = b.ends in omega (arith, l, ends)); packet = has_packet last p.kind b.bounded_map; spared = spared_sound T last p.kind q.0 l q.1 })
+    (record { not_empty = b.not_empty; ends = (let ends = b.ends in omega (arith, l, ends)); packet = has_packet last p.kind b.bounded_map; spared = spared_sound T last p.kind q.0 l q.1; single = λ (e : true ≡ false). absurd (let z : ⊥ = cc in z) })
 
 pub sound_space : SoundSpace
 unfolding space

@@ -2,7 +2,7 @@
 --     FitAll count places     tables of `count` blocks end where blocks may end
 --     IsSound span            what holds of every partition of a space
 --     better rank keep best n  the better one of what was best so far and n, if n is to be kept
-use Rattle.std.specs.Prelude.{◌≡◌, ⊤, ℕ, ◌+◌, ◌%◌, ◌<◌, ◌≤◌, Bool, List, [], ◌∷◌, cond, length, nat_lt, slice_index_or, All, Option, Some, None}
+use Rattle.std.specs.Prelude.{◌≡◌, ⊤, ℕ, ◌+◌, ◌%◌, ◌<◌, ◌≤◌, Bool, true, false, not, List, [], ◌∷◌, cond, length, nat_eq, nat_lt, slice_index_or, All, Option, Some, None}
 use Rattle.std.specs.List.{list_any}
 use Rattle.std.specs.Borrow.{Bor}
 use Rattle.udfs_tag.specs.Faults.{first_fault}
@@ -37,12 +37,19 @@ pub record AreSound (packet : ℕ) (es : Spared) : Type 0 where
   pub each : All (IsSoundEntry packet) es
   pub rises : OriginalsRise es
 
+-- whether an entry is not there, or is that of another block
+abbrev pub is_other : Option SparingEntry → ℕ → Bool
+is_other None block = true
+is_other (Some e) block = not (nat_eq e.original block)
+
 -- A partition is not empty and ends where blocks may end, its packets are not empty, and its spared packets are sound.
 pub record IsSound (s : Span) : Type 0 where
   pub not_empty : 0 < s.size
   pub ends : s.start + s.size ≤ 4194304
   pub packet : 0 < s.packet
   pub spared : AreSound s.packet s.spared
+  -- where no block is counted from the start, each packet is one block
+  pub single : s.direct ≡ false → s.packet ≡ 1
 
 -- the first fault of entries that are all there
 abbrev pub entries_fault : ℕ → ℕ → List SparingEntry → Option VolumeFault

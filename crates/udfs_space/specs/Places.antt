@@ -6,7 +6,7 @@
 --     block_at view reference b       the block at a logical address, with its state
 --     is_past places reference b n    whether one of n consecutive logical blocks has no place
 --     IsDirectIn space reference      each block of a partition has a place
-use Rattle.std.specs.Prelude.{◌≡◌, ◌⊎◌, ℕ, ◌+◌, ◌-◌, ◌%◌, ◌<◌, ◌≤◌, Bool, true, List, length, slice_get, cond, nat_eq, nat_lt, Option, Some, None, find, is_none, option_map, Contains}
+use Rattle.std.specs.Prelude.{◌≡◌, ◌⊎◌, ℕ, ◌+◌, ◌-◌, ◌%◌, ◌<◌, ◌≤◌, Bool, true, List, [], ◌∷◌, length, slice_get, cond, nat_eq, nat_lt, Option, Some, None, find, is_none, option_map, Contains}
 use Rattle.std.specs.List.{range_with_len, list_any}
 use Rattle.std.specs.Borrow.{Bor}
 use Rattle.udfs_lattice.specs.Volumes.{Blocks}
@@ -16,7 +16,7 @@ use Rattle.udfs_lattice.specs.declared.facts.Fact.TheVariants.{Known}
 use Rattle.udfs_volume.specs.declared.profiles.Profile.{Profile}
 use Rattle.udfs_volume.specs.Sequence.{Bytes}
 use Rattle.udfs_space.specs.declared.entries.SparingEntry.{SparingEntry}
-use Rattle.udfs_space.specs.Sparing.{Space, Span}
+use Rattle.udfs_space.specs.Sparing.{Space, Span, Spans}
 
 -- the entry of the packet that begins at a logical block
 abbrev pub sparing_entry_at : Span → ℕ → Option SparingEntry
@@ -67,6 +67,12 @@ length_of space reference = span_size (slice_get space.spans reference)
 -- each block of the partition of a reference has a place, if there is such a partition
 abbrev pub IsDirectIn : Space → ℕ → Type 0
 IsDirectIn space reference = (span : Span) → slice_get space.spans reference ≡ Some span → span.direct ≡ true
+
+-- the first partition in which entries are looked for that no name leads to: where one is found in a file of another, all entries are in it
+abbrev pub first_searched : Spans → ℕ
+first_searched [] = 0
+first_searched (s ∷ []) = 0
+first_searched (s ∷ second ∷ ss) = cond second.direct 0 1
 
 -- A volume as the layers above see it.
 pub record View : Type 0 where

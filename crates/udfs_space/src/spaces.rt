@@ -9,7 +9,7 @@ ghost use Rattle.udfs_volume.specs.Laws.{IsBounded, IsBoundedPartition};
 ghost use Rattle.udfs_volume.specs.Seen.{HolesRise, IfGot, Sees};
 ghost use Rattle.udfs_space.specs.FoundSpans.{space_with};
 ghost use Rattle.udfs_space.specs.Parts.{IsSound};
-ghost use Rattle.udfs_space.specs.Places.{IsDirectIn, StandBeside, StandsIn, block_at, block_now, is_past, length_of, place, view};
+ghost use Rattle.udfs_space.specs.Places.{IsDirectIn, StandBeside, StandsIn, block_at, block_now, first_searched, is_past, length_of, place, view};
 ghost use Rattle.udfs_space.specs.Sparing.{Span, counted, space, spans};
 ghost use Rattle.udfs_space.specs.Told.{ArePlacesUpTo, TellsLawfulSpace};
 
@@ -156,6 +156,18 @@ impl Space {
         ensures two { result ≤ 2 }
     {
         self.spans.len() as u16
+    }
+
+    /// The reference of the first partition in which entries are looked for that no name leads to: where a partition is found in a file of another
+    /// one, all entries are in it (UDF 2.01 2.2.10, 2.50 2.2.10), and in the other one their blocks would be met a second time. It takes no memory.
+    pub fn first_searched(&self) -> u16
+        ensures value { result ≡ first_searched self.now.spans }
+        ensures there { result ≤ length self.now.spans }
+    {
+        match self.spans.get(1) {
+            Some(second) => u16::from(!second.is_direct()),
+            None => 0,
+        }
     }
 
     /// The rules by which the volume is read. It takes no memory.

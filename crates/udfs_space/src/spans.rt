@@ -1,6 +1,6 @@
 //! Where the logical blocks of one partition are.
 
-ghost use Rattle.std.specs.Prelude.{◌≡◌, ◌≤◌, ◌<◌, ℕ, All, IfOk, IfSome, IsErrOf, find, is_none, length, nat_eq};
+ghost use Rattle.std.specs.Prelude.{◌≡◌, ◌≤◌, ◌<◌, ℕ, All, IfOk, IfSome, IsErrOf, find, is_none, length, nat_eq, slice_get};
 ghost use Rattle.std.specs.List.{list_any, range_with_len};
 ghost use Rattle.udfs_volume.specs.Laws.{IsBoundedPartition};
 ghost use Rattle.udfs_volume.specs.Layout.{blocks_in};
@@ -8,7 +8,7 @@ ghost use Rattle.udfs_volume.specs.LayoutParts.{partition_now};
 ghost use Rattle.udfs_volume.specs.Parts.{sparable_now};
 ghost use Rattle.udfs_volume.specs.Seen.{IfGot, Sees};
 ghost use Rattle.udfs_space.specs.FoundSpans.{found_span};
-ghost use Rattle.udfs_space.specs.Parts.{AreSound, FitAll, IsSound, IsSoundEntry, OriginalsRise};
+ghost use Rattle.udfs_space.specs.Parts.{AreSound, FitAll, IsSound, IsSoundEntry, OriginalsRise, is_other};
 ghost use Rattle.udfs_space.specs.Places.{StandBeside, place_in};
 ghost use Rattle.udfs_space.specs.Sparing.{counted, span, spared};
 
@@ -118,6 +118,13 @@ impl Span {
         self.length
     }
 
+    /// Whether a block of no spared packet stands where it is counted from the start, and not nowhere.
+    pub(crate) fn is_direct(&self) -> bool
+        ensures { result ≡ self.now.direct }
+    {
+        self.direct
+    }
+
     /// The block that holds a logical block, or `None` if the partition has no such logical block or it has no place.
     pub(crate) fn place(&self, block: u32) -> Option<u32>
         ensures value { result ≡ place_in self.now block }
@@ -134,23 +141,18 @@ impl Span {
         }
     }
 
-    /// Whether one of `count` consecutive logical blocks from `block` on has no place. Where blocks of no spared packet have a place, it takes
-    /// no longer for many blocks than for one.
+    /// Whether one of `count` consecutive logical blocks from `block` on has no place. It takes no longer for many blocks than for one.
+    #[tactic(auto, using(crate::proofs::Pasts::passes, crate::proofs::Pasts::none_past, crate::proofs::Runs::lacks_places))]
     pub(crate) fn is_past(&self, block: u32, count: u32) -> bool
         ensures { result ≡ list_any (λ j. is_none (place_in self.now (block + j))) (range_with_len 0 count) }
     {
         if u64::from(block) + u64::from(count) > u64::from(self.length) {
             return count != 0;
         }
-        if self.direct {
+        if self.direct || count == 0 {
             return false;
         }
-        for j in 0..count {
-            if self.place(block + j).is_none() {
-                return true;
-            }
-        }
-        false
+        lacks(&self.spared, block, count)
     }
 
     /// The number of logical blocks, from `block` on, that are consecutive in the volume as far as this call looks: up to the end of
@@ -178,6 +180,33 @@ fn entry_at(spared: &[SparingEntry], first: u32) -> Option<SparingEntry>
     match spared.binary_search_by_key(&first, |entry| entry.original) {
         Ok(i) => Some(spared[i]),
         Err(_) => None,
+    }
+}
+
+/// Whether the entry at an index is not there, or is that of another block.
+fn is_other(spared: &[SparingEntry], index: usize, block: u64) -> bool
+    ensures { result ≡ is_other (slice_get spared.now index) block }
+{
+    match spared.get(index) {
+        Some(entry) => u64::from(entry.original) != block,
+        None => true,
+    }
+}
+
+/// Whether one of `count` consecutive blocks from `first` on is the original of no entry: of rising originals all of them are if the last is so many places
+/// after the first.
+fn lacks(spared: &[SparingEntry], first: u32, count: u32) -> bool
+    requires rise { OriginalsRise spared.now }
+    requires some { 1 ≤ count }
+    ensures { result ≡ list_any (λ j. is_none (find (λ e. nat_eq e.original (first + j)) spared.now)) (range_with_len 0 count) }
+{
+    match spared.binary_search_by_key(&first, |entry| entry.original) {
+        Ok(i) => is_other(
+            spared,
+            i + (count as usize - 1),
+            u64::from(first) + u64::from(count - 1),
+        ),
+        Err(_) => true,
     }
 }
 

@@ -11,7 +11,7 @@ use Rattle.udfs_volume.specs.declared.profiles.Profile.TheVariants.{Strict, Wide
 -- the revisions of UDF, as the domain's suffix gives them (UDF 2.1.5.3)
 abbrev pub revisions : Profile → List ℕ
 revisions Strict = 0x0150 ∷ 0x0201 ∷ []
-revisions Wide = 0x0100 ∷ 0x0101 ∷ 0x0102 ∷ 0x0150 ∷ 0x0200 ∷ 0x0201 ∷ []
+revisions Wide = 0x0100 ∷ 0x0101 ∷ 0x0102 ∷ 0x0150 ∷ 0x0200 ∷ 0x0201 ∷ 0x0250 ∷ 0x0260 ∷ []
 
 -- the packet lengths in blocks (UDF 2.2.9)
 abbrev pub packet_lengths : Profile → List ℕ

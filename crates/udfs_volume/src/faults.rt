@@ -48,6 +48,9 @@ pub enum VolumeFault {
     MappedRange = 15,
     /// The file set descriptor is not where the logical volume says (ECMA-167 4/8.3.1).
     FileSet = 16,
+    /// The file by which the blocks of a partition are found is not there, or has no form in which it is read: the virtual allocation table
+    /// (UDF 1.50 2.2.10, 2.01 2.2.10), or both the metadata file and its mirror (UDF 2.50 2.2.13). Only by the wide rules.
+    FoundTable = 17,
 }
 
 impl VolumeFault {
@@ -73,6 +76,7 @@ impl VolumeFault {
             VolumeFault::SparingOrder => "SparingOrder",
             VolumeFault::MappedRange => "MappedRange",
             VolumeFault::FileSet => "FileSet",
+            VolumeFault::FoundTable => "FoundTable",
         }
     }
 }

@@ -10,7 +10,8 @@ pub enum Profile {
     /// Revisions 1.50 and 2.01, and packets of 16 or 32 blocks; an extent that ends inside a block ends its file, and files are
     /// of type 5.
     Strict,
-    /// Also revisions 1.00, 1.01, 1.02 and 2.00, whose layouts are the same, packets of each power of two from 1 to 128
+    /// Also revisions 1.00, 1.01, 1.02 and 2.00, whose layouts are the same, 2.50 and 2.60, partitions that lie where a file of another one
+    /// says (UDF 2.01 2.2.8, 2.50 2.2.10), packets of each power of two from 1 to 128
     /// blocks, descriptor sequences of two lengths, each from 1 block on, partitions that begin by the last block and pass it, last extents that were not made longer with their file, and
     /// files of the types 0 and 249 too.
     Wide,
@@ -23,7 +24,7 @@ impl Profile {
     {
         match self {
             Profile::Strict => [0x0150, 0x0201].contains(&revision),
-            Profile::Wide => [0x0100, 0x0101, 0x0102, 0x0150, 0x0200, 0x0201].contains(&revision),
+            Profile::Wide => [0x0100, 0x0101, 0x0102, 0x0150, 0x0200, 0x0201, 0x0250, 0x0260].contains(&revision),
         }
     }
 

@@ -31,3 +31,4 @@ pub mod Cells
 pub mod TreeLaws
 pub mod KnownLaws
 pub mod TreeSample
+pub mod FoundPartitions

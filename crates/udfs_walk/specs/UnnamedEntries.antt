@@ -1,10 +1,10 @@
 -- Entries that no name leads to.
 --     unnamed view space nodes      all of them, by reference and then by block
-use Rattle.std.specs.Prelude.{ℕ, false, List, length, map, filter_map, flat_map, cond, ◌&&◌, Option, Some, None, is_none}
+use Rattle.std.specs.Prelude.{ℕ, ◌-◌, false, List, length, map, filter_map, flat_map, cond, ◌&&◌, Option, Some, None, is_none}
 use Rattle.std.specs.List.{range_with_len, list_any}
 use Rattle.udfs_tag.specs.declared.layouts.LongAd.{LongAd}
 use Rattle.udfs_space.specs.Sparing.{Space}
-use Rattle.udfs_space.specs.Places.{View, length_of}
+use Rattle.udfs_space.specs.Places.{View, first_searched, length_of}
 use Rattle.udfs_file.specs.Addresses.{address_fault}
 use Rattle.udfs_file.specs.Entries.{EntryFields}
 use Rattle.udfs_file.specs.Bodies.{body}
@@ -48,6 +48,10 @@ unnamed_at view nodes icb = cond (list_any (names view icb) nodes) None (entry_a
 abbrev pub icbs_in : Space → ℕ → List Icb
 icbs_in space r = map (icb_at r) (range_with_len 0 (length_of space r))
 
+-- the partitions in which entries are looked for
+abbrev pub searched : Space → List ℕ
+searched space = let first = first_searched space.spans in range_with_len first (length space.spans - first)
+
 -- the sound entries in known blocks that no node names, by partition and block
 abbrev pub unnamed : View → Space → List NodeFields → List Unnamed
-unnamed view space nodes = flat_map (λ r. filter_map (unnamed_at view nodes) (icbs_in space r)) (range_with_len 0 (length space.spans))
+unnamed view space nodes = flat_map (λ r. filter_map (unnamed_at view nodes) (icbs_in space r)) (searched space)

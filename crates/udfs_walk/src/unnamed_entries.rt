@@ -280,7 +280,7 @@ pub fn counted_unnamed_by<L: Ledger, B: BlockStore>(
 {
     let keys = named(alloc, view.space, nodes)?;
     let mut found = Vec::new(alloc);
-    for reference in 0..view.space.maps() {
+    for reference in view.space.first_searched()..view.space.maps() {
         push_unnamed(alloc, view, &keys, reference, &mut found, walks)?;
     }
     Ok(found)
