@@ -5,7 +5,7 @@ use crate::texts::{block_of, first_word, number_of};
 use std::alloc::{AllocError, Global};
 use udfs_samples::Disc;
 
-/// The volume of a line: `blank` has no descriptor, `type1`, `sparable`, `two-maps` and `continued` are the samples, and `zeros`, `doubling N` and `nested N` those that do
+/// The volume of a line: `blank` has no descriptor, `type1`, `sparable`, `two-maps`, `continued`, `virtual`, `metadata` and `mirror` are the samples, and `zeros`, `doubling N` and `nested N` those that do
 /// harm.
 pub fn volume(alloc: Global, line: &str) -> Result<Disc, AllocError> {
     let (kind, count) = first_word(line);
@@ -15,6 +15,9 @@ pub fn volume(alloc: Global, line: &str) -> Result<Disc, AllocError> {
         "sparable" => Disc::sparable(alloc),
         "two-maps" => Disc::two_maps(alloc),
         "continued" => Disc::continued(alloc),
+        "virtual" => Disc::with_virtual(alloc),
+        "metadata" => Disc::with_metadata(alloc),
+        "mirror" => Disc::with_mirror(alloc),
         "zeros" => zeros(alloc),
         "doubling" => doubling(alloc, number_of(count)?),
         "nested" => nested(alloc, block_of(count)?),

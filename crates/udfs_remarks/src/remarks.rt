@@ -48,12 +48,20 @@ fn revision_of(alloc: Global, told: Told<'_>) -> Option<u16> {
     Some(u16::from_le_bytes([block[240], block[241]]))
 }
 
-/// What is said of a volume whose domain the rules do not take, as its summary says it where the wide rules do.
-fn of_domain(alloc: Global, told: Told<'_>) -> Result<String, AllocError> {
+/// What is said of a volume that the rules do not take, as its summary says it, where the wide rules do.
+fn of_widening(alloc: Global, told: Told<'_>) -> Result<Option<String>, AllocError> {
     let found = widening_by(alloc, told.table, told.last, told.profile)?;
-    if found != Widening::No {
-        let mut line = String::from_str(alloc, "volume: ")?;
-        push_widening(&mut line, found)?;
+    if found == Widening::No {
+        return Ok(None);
+    }
+    let mut line = String::from_str(alloc, "volume: ")?;
+    push_widening(&mut line, found)?;
+    Ok(Some(line))
+}
+
+/// What is said of a volume whose domain the rules do not take.
+fn of_domain(alloc: Global, told: Told<'_>) -> Result<String, AllocError> {
+    if let Some(line) = of_widening(alloc, told)? {
         return Ok(line);
     }
     let Some(revision) = revision_of(alloc, told) else {
@@ -71,6 +79,14 @@ fn of_volume(alloc: Global, told: Told<'_>) -> Result<String, AllocError> {
         return Err(AllocError);
     }
     String::from_str(alloc, line.as_str().trim_end())
+}
+
+/// What is said of a volume with a map of a kind that the rules do not take.
+fn of_map(alloc: Global, told: Told<'_>) -> Result<String, AllocError> {
+    if let Some(line) = of_widening(alloc, told)? {
+        return Ok(line);
+    }
+    of_volume(alloc, told)
 }
 
 /// The greatest block of which something is known, where the last block may be too large: no anchor is known, and nothing from the one before the last on.
@@ -97,6 +113,7 @@ fn of_holes(alloc: Global, told: Told<'_>, needed: &[u32]) -> Result<String, All
 fn of_closed(alloc: Global, told: Told<'_>) -> Result<String, AllocError> {
     match told.volume {
         Volume::Fault(VolumeFault::Domain) => of_domain(alloc, told),
+        Volume::Fault(VolumeFault::MapKind) => of_map(alloc, told),
         Volume::Holes(blocks) => of_holes(alloc, told, blocks),
         _ => of_volume(alloc, told),
     }

@@ -1,6 +1,9 @@
 //! Discs in memory.
 
 use crate::files::{CONTINUATION, FILES, FILLED};
+use crate::found::{
+    DUPLICATED, LONG_DESCRIPTOR, METADATA, METADATA_NAMES, SECOND_FOUND, VIRTUAL, VIRTUAL_NAMES,
+};
 use crate::sparable::{SPARABLE_MAP, SPARING_TABLES};
 use crate::two_maps::{SECOND_MAP, SECOND_PARTITION};
 use crate::volume::{LAYOUT, SEQUENCE_ENDS};
@@ -80,6 +83,44 @@ impl Disc {
         disc.write(&SPARING_TABLES)?;
         disc.fill(276, 0)?;
         disc.write(&SECOND_MAP)?;
+        Ok(disc)
+    }
+
+    /// The volume of type 1 with a virtual partition: its blocks are logical blocks 0 to 3, 20, and 5 to 7 of the first partition, as the table says whose entry
+    /// is in block 600. The entry of the file `B` is in block 292.
+    pub fn with_virtual(alloc: Global) -> Result<Self, AllocError> {
+        let mut disc = Disc::type1(alloc)?;
+        disc.fill(276, 0)?;
+        disc.write(&SECOND_FOUND)?;
+        disc.write(&VIRTUAL_NAMES)?;
+        disc.write(&VIRTUAL)?;
+        Ok(disc)
+    }
+
+    /// A volume of revision 2.50 with a metadata partition: its five blocks are the blocks 312 to 316, as both the entry in block 302 and its mirror in block 303
+    /// say. The file `A` has the blocks 317 to 319.
+    pub fn with_metadata(alloc: Global) -> Result<Self, AllocError> {
+        let mut disc = Disc::blank(alloc);
+        disc.write(&LAYOUT)?;
+        disc.write(&SEQUENCE_ENDS)?;
+        disc.write_files(312)?;
+        disc.write(&SECOND_FOUND)?;
+        disc.write(&METADATA_NAMES)?;
+        disc.write(&METADATA)?;
+        disc.write(&LONG_DESCRIPTOR)?;
+        Ok(disc)
+    }
+
+    /// The same volume whose mirror has blocks of its own, 332 to 336, with the same bytes.
+    pub fn with_mirror(alloc: Global) -> Result<Self, AllocError> {
+        let mut disc = Disc::with_metadata(alloc)?;
+        disc.write(&DUPLICATED)?;
+        for n in 312..317 {
+            if let Some(block) = disc.block(n) {
+                let bytes = *block;
+                disc.write_at(n + 20, 0, &bytes)?;
+            }
+        }
         Ok(disc)
     }
 

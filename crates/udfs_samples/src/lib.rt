@@ -6,6 +6,7 @@
 pub mod directories;
 pub mod discs;
 mod files;
+mod found;
 mod sparable;
 mod two_maps;
 mod volume;

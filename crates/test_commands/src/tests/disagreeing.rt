@@ -92,17 +92,17 @@ $ page --last 600 --out p.html disc.tab
 file-has p.html <div>Copies     copies of the volume&#39;s descriptors differ: the volume is not lawful, and the guarantee does not hold for it</div>\n
 
 = a_main_sequence_that_is_damaged
-# The main sequence's revision is 2.50. By the wide rules the reserve sequence is asked, whose revision is 1.50: that is said, and that the copies
+# The main sequence's revision is 3.00. By the wide rules the reserve sequence is asked, whose revision is 1.50: that is said, and that the copies
 # differ.
 then error
 
-write 32 240 P\x02
+write 32 240 \0\x03
 but
 $ report -v --last 600 disc.tab
 status 1
 remarked copies of the volume's descriptors differ: the volume is not lawful, and the guarantee does not hold for it\nvolume: UDF 1.50: add --profile wide\nThe guarantee does not hold: the volume does not open: the rules do not accept this UDF revision\n
 
-write 32 240 P\x02
+write 32 240 \0\x03
 but
 $ list -v --last 600 --profile wide disc.tab
 status 0

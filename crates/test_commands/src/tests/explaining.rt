@@ -247,7 +247,7 @@ status 0
 remarked The guarantee holds: nothing on this disc contradicts the standard\n
 
 = a_revision_is_named
-# The revision of a volume that is not read is named, and the rules that read it; 2.50 has none, and a domain of another name no revision.
+# The revision of a volume that is not read is named, and the rules that read it; 3.00 has none, and a domain of another name no revision.
 then status 1
 
 write 32 240 \0\x02
@@ -266,13 +266,20 @@ write 32 240 P\x02
 write 48 240 P\x02
 but
 $ report -v --last 600 disc.tab
-remarked volume: UDF 2.50, which udfsalvage does not read\nThe guarantee does not hold: the volume does not open: the rules do not accept this UDF revision\n
+remarked volume: UDF 2.50: add --profile wide\nThe guarantee does not hold: the volume does not open: the rules do not accept this UDF revision\n
 
-write 32 240 `\x02
-write 48 240 `\x02
+write 32 240 \0\x03
+write 48 240 \0\x03
 but
 $ extract -v --last 600 --profile wide --to new disc.tab
-remarked volume: UDF 2.60, which udfsalvage does not read\n
+remarked volume: UDF 3.00, which udfsalvage does not read\n
+
+disc virtual
+but
+$ list -v --last 600 disc.tab
+remarked volume: UDF 1.50: add --profile wide\n
+
+disc type1
 
 write 32 217 *OSTA CD-UDF
 write 48 217 *OSTA CD-UDF

@@ -305,6 +305,77 @@ write 274 108 \x02
 but
 $ report --last 600 disc.tab
 nodes node 0 whole directory 120 2001-07-04T09:30:00.000000Z /\nnode 1 whole file 5000 2001-07-04T09:30:00.000000Z /A\nnode 2 fault-5 unread - - /B\nunnamed 1:0 whole file 2 2001-07-04T09:30:00.000000Z\nend\n
+
+= a_virtual_partition
+# Its table is the last block (UDF 1.50 2.2.10); the strict rules do not read it.
+let WHOLE node 0 whole directory 120 2001-07-04T09:30:00.000000Z /\nnode 1 whole file 5000 2001-07-04T09:30:00.000000Z /A\nnode 2 whole file 2 2001-07-04T09:30:00.000000Z /B\n
+
+disc virtual
+but
+$ report --last 600 disc.tab
+line volume fault 8 MapKind
+
+but
+$ report --last 600 --profile wide disc.tab
+status 0
+out UDFREPORT2 last 600\nprofile wide\nknown 601 conflict 0\nvolume ok revision 1.50 map type1 virtual\nlabel name TEST\n«WHOLE»end\n
+
+but 600
+$ report --last 600 --profile wide disc.tab
+line volume holes 600
+
+but 292
+$ report --last 600 --profile wide disc.tab
+nodes-have node 2 torn unread - - /B\nmissing 292\nreread 292 unknown\nend\n
+
+write 600 192 \xff\xff\xff\xff
+but
+$ report --last 600 --profile wide disc.tab
+nodes-have node 2 fault-6 unread - - /B\n
+
+write 600 27 \x05
+but
+$ report --last 600 --profile wide disc.tab
+line volume fault 17 FoundTable
+
+= a_metadata_partition
+# Either entry names its blocks; where the mirror has blocks of its own, either copy of a block is read (UDF 2.50 2.2.13).
+let WHOLE node 0 whole directory 120 2001-07-04T09:30:00.000000Z /\nnode 1 whole file 5000 2001-07-04T09:30:00.000000Z /A\nnode 2 whole file 2 2001-07-04T09:30:00.000000Z /B\n
+
+disc metadata
+but
+$ report --last 600 disc.tab
+line volume fault 5 Domain
+
+but
+$ report --last 600 --profile wide disc.tab
+status 0
+out UDFREPORT2 last 600\nprofile wide\nknown 601 conflict 0\nvolume ok revision 2.50 map type1 metadata\nlabel name TEST\n«WHOLE»end\n
+
+but 302
+$ report --last 600 --profile wide disc.tab
+out UDFREPORT2 last 600\nprofile wide\nknown 600 conflict 0\nvolume ok revision 2.50 map type1 metadata\nlabel name TEST\n«WHOLE»end\n
+
+but 303 315
+$ report --last 600 --profile wide disc.tab
+nodes-have node 1 torn unread - - /A\nmissing 315\n
+
+but 302 303
+$ report --last 600 --profile wide disc.tab
+line volume holes 302 303
+
+disc mirror
+but 302 314 335
+$ report --last 600 --profile wide disc.tab
+nodes-have node 1 torn unread - - /A\nmissing 335\n
+
+but 312 313 314 335 336
+$ report --last 600 --profile wide disc.tab
+out UDFREPORT2 last 600\nprofile wide\nknown 596 conflict 0\nvolume ok revision 2.50 map type1 metadata\nlabel name TEST\n«WHOLE»end\n
+
+but 314 334
+$ report --last 600 --profile wide disc.tab
+nodes-have node 0 torn directory 120 2001-07-04T09:30:00.000000Z /\nmissing 314\n
 "#;
 
 #[test]

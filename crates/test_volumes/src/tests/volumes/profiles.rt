@@ -333,8 +333,8 @@ fn accepted_numbers(rt: HostRuntime) -> Result<(), Fail> {
         (0x0100, false, true),
         (0x0101, false, true),
         (0x0103, false, false),
-        (0x0250, false, false),
-        (0x0260, false, false),
+        (0x0250, false, true),
+        (0x0260, false, true),
         (0, false, false),
     ];
     for &(revision, strict, wide) in &REVISIONS {

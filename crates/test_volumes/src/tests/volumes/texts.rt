@@ -6,7 +6,7 @@ use udfs_volume::faults::VolumeFault;
 
 #[test]
 fn fault_texts(rt: HostRuntime) -> Result<(), Fail> {
-    static TEXTS: [(VolumeFault, u8, &str); 16] = [
+    static TEXTS: [(VolumeFault, u8, &str); 17] = [
         (VolumeFault::NoAnchor, 1, "NoAnchor"),
         (VolumeFault::Extents, 2, "Extents"),
         (VolumeFault::Pointer, 3, "Pointer"),
@@ -23,6 +23,7 @@ fn fault_texts(rt: HostRuntime) -> Result<(), Fail> {
         (VolumeFault::SparingOrder, 14, "SparingOrder"),
         (VolumeFault::MappedRange, 15, "MappedRange"),
         (VolumeFault::FileSet, 16, "FileSet"),
+        (VolumeFault::FoundTable, 17, "FoundTable"),
     ];
     for &(fault, number, text) in &TEXTS {
         assert_same(&rt, fault as u8, number);
