@@ -3,19 +3,19 @@
 
 ghost use Rattle.std.specs.Prelude.{◌≡◌, ℕ, ◌≤◌, ◌<◌, ◌^◌, ◌++◌, List, [], ◌∷◌, IfOk, IsErrOf, MatchOption, OnErr, Some, length, option_map};
 ghost use Rattle.udfs_lattice.specs.Volumes.{ascending};
-ghost use Rattle.udfs_volume.specs.Answers.{Answer, holes};
+ghost use Rattle.udfs_volume.specs.Answers.{Answer, faulty, found, holes};
 ghost use Rattle.udfs_volume.specs.LayoutParts.{parts_now};
 ghost use Rattle.udfs_volume.specs.Laws.{IsBounded};
-ghost use Rattle.udfs_volume.specs.Seen.{HolesRise, Sees};
+ghost use Rattle.udfs_volume.specs.Seen.{HolesRise, IsRising, Sees};
 ghost use Rattle.udfs_space.specs.Views.{view_by};
 ghost use Rattle.udfs_file.specs.Bodies.{body, cells};
 ghost use Rattle.udfs_file.specs.Entries.{entry_of};
 ghost use Rattle.udfs_file.specs.Stretches.{IsStanding, cells_of};
-ghost use Rattle.udfs_walk.specs.FoundPartitions.{best_numbers, body_blocks, either, file_numbers, form_of, found_blocks, is_file_entry, is_known_at, known_bytes, metadata_numbers, numbers_in_body, places, places_with, stretch_blocks, stretch_unread, stretches_blocks, table_block, table_numbers, virtual_numbers};
+ghost use Rattle.udfs_walk.specs.FoundPartitions.{best_numbers, body_blocks, either, either_copy, file_numbers, form_of, found_blocks, is_file_entry, is_known_at, known_bytes, metadata_numbers, numbers_in_body, places, places_with, stretch_blocks, stretch_unread, stretches_blocks, table_block, table_numbers, virtual_numbers};
 
 use crate::ascending::sort_once;
 use crate::gaps::cells_standing;
-use crate::standings::Standing;
+use crate::standings::{Standing, Torn};
 use crate::targets::{Target, entry_address, target_at};
 use std::alloc::Global;
 use udfs_file::{Body, Entry, Kind, Portion, Stretch, WalkError};
@@ -111,7 +111,8 @@ fn body_numbers<B: BlockStore>(
     ensures fails { IsErrOf result GaveUp.Unread → B.fails }
 {
     if let Standing::Torn(torn) = cells_standing(alloc, view, body)? {
-        return Ok(Seen::Holes(torn.missing));
+        let Torn { missing, .. } = torn;
+        return Ok(Seen::Holes(missing));
     }
     let Some(bytes) = known_bytes(alloc, view, body)? else {
         return Ok(Seen::Fault(VolumeFault::FoundTable));
@@ -279,20 +280,43 @@ fn both_holes(mut some: Vec<u32>, others: &[u32]) -> Seen<Vec<u32>>
     }
 }
 
+/// A list that is found, or what has to be read for it or for another one.
+fn or_holes(some: Vec<u32>, second: Seen<Vec<u32>>) -> Seen<Vec<u32>>
+    requires { IsRising some.items }
+    ensures value { (b : Answer (List ℕ)) → Sees (λ ns. ns.items) second b → Sees (λ ns. ns.items) result (either (holes some.items) b) }
+    ensures rising { HolesRise second → HolesRise result }
+{
+    match second {
+        Seen::Got(numbers) => Seen::Got(numbers),
+        Seen::Holes(others) => both_holes(some, &others),
+        Seen::Fault(_) => Seen::Holes(some),
+        Seen::OutOfMemory => Seen::OutOfMemory,
+    }
+}
+
+/// A list that is found, or what has to be read for it; where it has a fault, this one.
+fn or_fault(fault: VolumeFault, second: Seen<Vec<u32>>) -> Seen<Vec<u32>>
+    ensures value { (b : Answer (List ℕ)) → Sees (λ ns. ns.items) second b → Sees (λ ns. ns.items) result (either (faulty fault) b) }
+    ensures rising { HolesRise second → HolesRise result }
+{
+    match second {
+        Seen::Got(numbers) => Seen::Got(numbers),
+        Seen::Holes(others) => Seen::Holes(others),
+        Seen::Fault(_) => Seen::Fault(fault),
+        Seen::OutOfMemory => Seen::OutOfMemory,
+    }
+}
+
 /// The one of two lists that is found; where neither is, what would have to be read for one of them.
 fn either(first: Seen<Vec<u32>>, second: Seen<Vec<u32>>) -> Seen<Vec<u32>>
     ensures value { (a b : Answer (List ℕ)) → Sees (λ ns. ns.items) first a → Sees (λ ns. ns.items) second b → Sees (λ ns. ns.items) result (either a b) }
     ensures rising { HolesRise first → HolesRise second → HolesRise result }
 {
-    match (first, second) {
-        (Seen::OutOfMemory, _) => Seen::OutOfMemory,
-        (_, Seen::OutOfMemory) => Seen::OutOfMemory,
-        (Seen::Got(numbers), _) => Seen::Got(numbers),
-        (_, Seen::Got(numbers)) => Seen::Got(numbers),
-        (Seen::Holes(some), Seen::Holes(others)) => both_holes(some, &others),
-        (Seen::Holes(some), Seen::Fault(_)) => Seen::Holes(some),
-        (Seen::Fault(_), Seen::Holes(others)) => Seen::Holes(others),
-        (Seen::Fault(fault), Seen::Fault(_)) => Seen::Fault(fault),
+    match first {
+        Seen::Got(numbers) => Seen::Got(numbers),
+        Seen::Holes(some) => or_holes(some, second),
+        Seen::Fault(fault) => or_fault(fault, second),
+        Seen::OutOfMemory => Seen::OutOfMemory,
     }
 }
 
@@ -322,6 +346,22 @@ fn best_numbers<B: BlockStore>(view: StoreView<'_, B>, mut first: Vec<u32>, seco
     first
 }
 
+/// The blocks of the metadata file, or of its mirror those that alone are known, if its list is found too.
+fn either_copy<B: BlockStore>(
+    view: StoreView<'_, B>,
+    first: Vec<u32>,
+    second: Seen<Vec<u32>>,
+) -> Seen<Vec<u32>>
+    ensures value { B.tells → (b : Answer (List ℕ)) → Sees (λ ns. ns.items) second b → Sees (λ ns. ns.items) result (either_copy (view_by B.states view.entry) (found first.items) b) }
+    ensures rising { HolesRise result }
+{
+    match second {
+        Seen::Got(second) => Seen::Got(best_numbers(view, first, &second)),
+        Seen::OutOfMemory => Seen::OutOfMemory,
+        _ => Seen::Got(first),
+    }
+}
+
 /// Of each block of a metadata partition the logical block of the first one that holds it: of two copies, as a mirror with blocks of its own has them, one that is
 /// known.
 fn metadata_numbers<B: BlockStore>(
@@ -338,9 +378,9 @@ fn metadata_numbers<B: BlockStore>(
     if !map.is_duplicated {
         return Ok(either(file, mirror));
     }
-    match (file, mirror) {
-        (Seen::Got(first), Seen::Got(second)) => Ok(Seen::Got(best_numbers(view, first, &second))),
-        (first, second) => Ok(either(first, second)),
+    match file {
+        Seen::Got(first) => Ok(either_copy(view, first, mirror)),
+        file => Ok(either(file, mirror)),
     }
 }
 
