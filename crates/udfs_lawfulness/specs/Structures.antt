@@ -4,7 +4,8 @@
 --     asked profile blocks last                 the blocks that decide it
 --     IsJudged profile blocks last answer       what an answer says
 --     ListsRise answer                          the blocks that it lists rise
-use Rattle.std.specs.Prelude.{◌≡◌, ◌≢◌, ⊤, ℕ, List, [], ◌++◌, Some, Contains}
+use Rattle.std.specs.Prelude.{◌≡◌, ◌≢◌, ⊤, ℕ, true, List, [], ◌++◌, Some, Contains}
+use Rattle.udfs_lattice.specs.States.{is_known}
 use Rattle.udfs_lattice.specs.Volumes.{Agrees, Blocks, IsVolume, Volume, ascending, complete, not_known}
 use Rattle.udfs_volume.specs.Answers.{Answer, found, holes, faulty}
 use Rattle.udfs_volume.specs.Differences.{anchors_apart}
@@ -17,10 +18,11 @@ use Rattle.udfs_volume.specs.declared.faults.VolumeFault.{VolumeFault}
 use Rattle.udfs_volume.specs.declared.profiles.Profile.{Profile}
 use Rattle.udfs_space.specs.Laws.{IsLawfulSparing}
 use Rattle.udfs_space.specs.Sparing.{space}
+use Rattle.udfs_walk.specs.FoundPartitions.{HasCopies}
 use Rattle.udfs_lawfulness.specs.Sequences.{IsPairApart, pairs_in}
 use Rattle.udfs_lawfulness.specs.Tables.{IsMapApart, IsMapUntagged, table_blocks}
 use Rattle.udfs_lawfulness.specs.declared.answers.Reason.{Reason}
-use Rattle.udfs_lawfulness.specs.declared.answers.Reason.TheVariants.{Anchors, Descriptors, Tables, NoTable, Fault}
+use Rattle.udfs_lawfulness.specs.declared.answers.Reason.TheVariants.{Anchors, Descriptors, Tables, NoTable, Metadata, Fault}
 use Rattle.udfs_lawfulness.specs.declared.answers.Structures.{Structures}
 use Rattle.udfs_lawfulness.specs.declared.answers.Structures.TheVariants.{Sound, Unsound, Open}
 
@@ -51,12 +53,21 @@ pub data HasFault (profile : Profile) (blocks : Blocks) (last : ℕ) (fault : Vo
   of_layout : layout_by profile blocks last ≡ faulty fault → HasFault profile blocks last fault
   of_space : (l : Layout) → layout_by profile blocks last ≡ found l → space blocks l ≡ faulty fault → HasFault profile blocks last fault
 
+-- two known blocks of a metadata partition or its entries, for which no volume that agrees has two copies that say the same
+pub record AreCopiesApart (profile : Profile) (blocks : Blocks) (last one other : ℕ) : Type 0 where
+  pub layout_is : Layout
+  pub finds : layout_by profile blocks last ≡ found layout_is
+  pub known : (is_known (blocks one) ≡ true) × (is_known (blocks other) ≡ true)
+  pub differ : blocks one ≢ blocks other
+  pub apart : (volume : Volume) → IsVolume volume last → Agrees blocks volume last → ¬ HasCopies (complete volume last) layout_is
+
 -- what is known contradicts it for this reason
 abbrev pub IsReason : Profile → Blocks → ℕ → Reason → Type 0
 IsReason profile blocks last (Anchors one other) = anchors_apart blocks last ≡ Some (one, other)
 IsReason profile blocks last (Descriptors main reserve) = ArePairApart blocks last main reserve
 IsReason profile blocks last (Tables one other) = HasMap profile blocks last (λ p. IsMapApart blocks p.kind one other)
 IsReason profile blocks last (NoTable place) = HasMap profile blocks last (λ p. IsMapUntagged blocks p.kind place)
+IsReason profile blocks last (Metadata one other) = AreCopiesApart profile blocks last one other
 IsReason profile blocks last (Fault fault) = HasFault profile blocks last fault
 
 -- ---- the blocks that decide it

@@ -30,6 +30,13 @@ pub enum Reason {
     },
     /// A copy of the sparing table begins in this block, and it has no valid tag there (UDF 2.01 2.2.11).
     NoTable(u32),
+    /// A block of a metadata partition, or the entry that names its blocks, does not say the same in the metadata file and its mirror (UDF 2.50 2.2.13).
+    Metadata {
+        /// The block of the metadata file.
+        one: u32,
+        /// The block of the mirror.
+        other: u32,
+    },
     /// The volume does not open, whatever the blocks hold that are not known.
     Fault(VolumeFault),
 }

@@ -13,7 +13,7 @@ ghost use Rattle.udfs_salvage.specs.Found.{Found, found_now, volume_by};
 ghost use Rattle.udfs_lawfulness.specs.Lawfulness.{IsDecided};
 ghost use Rattle.udfs_lawfulness.specs.Left.{AreLeft, GivesListed};
 
-use crate::answers::{Lawfulness, Structures, Why};
+use crate::answers::{Lawfulness, Reason, Structures, Why};
 use crate::names::first_twice;
 use crate::structures::{is_none, structures_by};
 use crate::trees::{asking, first_faulty, why_faulty};
@@ -21,8 +21,8 @@ use std::alloc::{AllocError, Global};
 use udfs_lattice::{BlockStore, BlockTable, GaveUp};
 use udfs_salvage::{OpenVolume, open_by};
 use udfs_space::StoreView;
-use udfs_volume::{Profile, Seen};
-use udfs_walk::{Node, NodesGaveUp, bare_nodes_by, bare_reread_by};
+use udfs_volume::{Profile, Seen, VolumeFault};
+use udfs_walk::{Copies, Node, NodesGaveUp, bare_nodes_by, bare_reread_by, copies_by};
 use udfs_witnesses::add_rising;
 
 /// Lawful, unless blocks that are not known decide it.
@@ -87,6 +87,35 @@ fn by_tree<B: BlockStore>(
     }
 }
 
+/// What is decided by the copies of a metadata partition, if there is one, and then by the tree.
+fn by_copies<B: BlockStore>(
+    alloc: Global,
+    blocks: &B,
+    opened: &OpenVolume,
+    unread: Vec<u32>,
+) -> Result<Lawfulness, GaveUp>
+    requires { IsRising unread.items }
+    ensures decided { B.tells → (profile : Profile) (last : ℕ) → AreLeft profile (B.states blocks.now) last unread.items → volume_by profile (B.states blocks.now) last ≡ found (found_now opened.now)
+        → IfOk result (IsDecided profile (B.states blocks.now) last) }
+    ensures fails { IsErrOf result GaveUp.Unread → B.fails }
+{
+    let mut unread = unread;
+    match copies_by(alloc, opened.view_by(blocks), &opened.parts)? {
+        Copies::Same => {}
+        Copies::Apart { file, mirror } => {
+            return Ok(Lawfulness::Unlawful(Why::Structures(Reason::Metadata {
+                one: file,
+                other: mirror,
+            })));
+        }
+        Copies::Open(more) => add_rising(&mut unread, &more)?,
+        Copies::Faulty => {
+            return Ok(Lawfulness::Unlawful(Why::Volume(VolumeFault::FoundTable)));
+        }
+    }
+    by_tree(alloc, blocks, opened, unread)
+}
+
 /// What is decided where nothing that is known contradicts the structures of a volume, and these blocks decide them that are not known.
 fn by_structures<B: BlockStore>(
     alloc: Global,
@@ -104,7 +133,7 @@ fn by_structures<B: BlockStore>(
 {
     let seen = open_by(alloc, blocks, last, profile)?;
     match seen {
-        Seen::Got(opened) => by_tree(alloc, blocks, &opened, unread),
+        Seen::Got(opened) => by_copies(alloc, blocks, &opened, unread),
         Seen::Holes(more) => {
             let answer = by_list(unread, &more)?;
             Ok(answer)
@@ -115,7 +144,7 @@ fn by_structures<B: BlockStore>(
 }
 
 /// Whether a volume is lawful by the rules of a profile, where `last` is its last block: its anchors, both copies of its descriptor sequence and the
-/// copies of its sparing tables say the same; each path leads to a file or directory without a fault, no directory is in itself, the names in each
+/// copies of its sparing tables and of its metadata partition say the same; each path leads to a file or directory without a fault, no directory is in itself, the names in each
 /// differ, and at most 65,536 paths lead anywhere. What is promised of reports is promised of lawful volumes.
 ///
 /// [`Lawfulness::Lawful`]: so it is, whatever the blocks hold that are not known. [`Lawfulness::Unlawful`]: it is not, whatever they hold, and this is why.

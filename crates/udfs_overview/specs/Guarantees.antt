@@ -29,6 +29,7 @@ reason_words (reason.Anchors one other) = codes "two anchors name different exte
 reason_words (reason.Descriptors main reserve) = codes "two copies of a volume descriptor differ"
 reason_words (reason.Tables one other) = codes "two copies of the sparing table differ"
 reason_words (reason.NoTable place) = codes "a copy of the sparing table has no valid tag"
+reason_words (reason.Metadata one other) = codes "the metadata file and its mirror differ"
 reason_words (reason.Fault fault) = codes "the volume does not open"
 
 -- where; of a volume that does not open, why
@@ -37,6 +38,7 @@ reason_place (reason.Anchors one other) = pair_text one other
 reason_place (reason.Descriptors main reserve) = pair_text main reserve
 reason_place (reason.Tables one other) = pair_text one other
 reason_place (reason.NoTable place) = codes "block " ++ decimal place
+reason_place (reason.Metadata one other) = pair_text one other
 reason_place (reason.Fault fault) = fault_words fault
 
 -- what contradicts the standard

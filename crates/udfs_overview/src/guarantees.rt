@@ -31,6 +31,7 @@ fn reason_words(reason: Reason) -> &'static str
         Reason::Descriptors { .. } => "two copies of a volume descriptor differ",
         Reason::Tables { .. } => "two copies of the sparing table differ",
         Reason::NoTable(_) => "a copy of the sparing table has no valid tag",
+        Reason::Metadata { .. } => "the metadata file and its mirror differ",
         Reason::Fault(_) => "the volume does not open",
     }
 }
@@ -44,6 +45,7 @@ fn push_reason_place(text: &mut String, reason: Reason) -> Result<(), OutOfMemor
         Reason::Descriptors { main, reserve } => push_pair(text, main, reserve),
         Reason::Tables { one, other } => push_pair(text, one, other),
         Reason::NoTable(place) => write!(text, "block {place}"),
+        Reason::Metadata { one, other } => push_pair(text, one, other),
         Reason::Fault(fault) => text.push_str(fault_words(fault)),
     }
 }

@@ -11,6 +11,7 @@ use Rattle.udfs_volume.specs.Sequence.{anchor_places}
 use Rattle.udfs_volume.specs.Laws.{IsLawfulLayoutBy, IsSequenceGroup, IsAnswerOf, ListsGroup, valid_anchors}
 use Rattle.udfs_space.specs.Places.{place}
 use Rattle.udfs_space.specs.Laws.{IsLawfulSparing, IsSparingGroup}
+use Rattle.udfs_walk.specs.FoundPartitions.{HasCopies}
 use Rattle.udfs_salvage.specs.Found.{Found, volume_by}
 
 -- The anchors say the same, and so do the copies of each position and of each sparing table; and the complete
@@ -21,6 +22,8 @@ pub record IsLawfulVolumeBy (profile : Profile) (volume : Volume) (last : ℕ) :
   pub finds : volume_by profile (complete volume last) last ≡ found found_is
   pub layout : IsLawfulLayoutBy profile volume last
   pub sparing : IsLawfulSparing volume last found_is.layout
+  -- the metadata file and its mirror say the same, if there are such
+  pub copies : HasCopies (complete volume last) found_is.layout
 
 -- a group of blocks of which one has to be known: one of the layout, one of the sparing tables, or the file set's block
 abbrev pub IsVolumeGroup : Volume → ℕ → Found → List ℕ → Type 0

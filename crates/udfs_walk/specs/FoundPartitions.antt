@@ -2,7 +2,7 @@
 --     virtual_numbers view l       of each block of a virtual partition the logical block of the first one (UDF 1.50 2.2.10, 2.01 2.2.10)
 --     metadata_numbers view map    of each block of a metadata partition the same (UDF 2.50 2.2.13)
 --     places blocks l              where the blocks of all partitions of a layout are
-use Rattle.std.specs.Prelude.{ℕ, ◌+◌, ◌-◌, ◌*◌, ◌/◌, Bool, true, false, not, List, [], ◌∷◌, ◌++◌, length, map, flat_map, replicate, cond, nat_eq, nat_le, ◌&&◌, Option, Some, None}
+use Rattle.std.specs.Prelude.{ℕ, ◌+◌, ◌-◌, ◌*◌, ◌/◌, Bool, true, false, not, List, [], ◌∷◌, ◌++◌, length, map, flat_map, replicate, cond, nat_eq, nat_le, ◌&&◌, Option, Some, None, option_map, slice_get, ◌≡◌}
 use Rattle.std.specs.List.{range_with_len}
 use Rattle.udfs_lattice.specs.States.{State, is_known}
 use Rattle.udfs_lattice.specs.Volumes.{Blocks, ascending}
@@ -221,3 +221,22 @@ places_with blocks l (Some m) s = and_then (found_blocks (view blocks s) l m) (j
 -- where the blocks of all partitions are
 unfoldable pub places : Blocks → Layout → Answer Space
 places blocks l = and_then (space blocks l) (places_with blocks l l.found)
+
+-- ---- what a lawful volume keeps
+-- what is known of a logical block of the first partition, if it has a place
+abbrev pub state_at : View → ℕ → Option State
+state_at v b = option_map (λ block. block.1) (block_at v 0 b)
+
+-- the metadata file and its mirror have equally many blocks, which hold the same bytes, and are the same where the mirror has none of its own
+pub record AreCopies (v : View) (m : MetadataMap) : Type 0 where
+  pub file : List ℕ
+  pub mirror : List ℕ
+  pub file_is : file_numbers v 250 m.file ≡ found file
+  pub mirror_is : file_numbers v 251 m.mirror ≡ found mirror
+  pub long : length file ≡ length mirror
+  pub shared : m.is_duplicated ≡ false → file ≡ mirror
+  pub equal : (i n k : ℕ) → slice_get file i ≡ Some n → slice_get mirror i ≡ Some k → state_at v n ≡ state_at v k
+
+-- the same of the volume of a layout, if it has a metadata partition
+abbrev pub HasCopies : Blocks → Layout → Type 0
+HasCopies blocks l = (s : Space) (m : MetadataMap) → space blocks l ≡ found s → l.found ≡ Some (Metadata m) → AreCopies (view blocks s) m

@@ -466,3 +466,167 @@ pub fn open_space<B: BlockStore>(
         Seen::OutOfMemory => Ok(Seen::OutOfMemory),
     }
 }
+
+/// What is known of the two copies of a metadata partition, that of the metadata file and that of its mirror (UDF 2.50 2.2.13).
+#[derive(Debug, Drop)]
+pub enum Copies {
+    /// They say the same, and all is known that decides it; or there are no copies.
+    Same,
+    /// These two blocks of the volume do not say the same, whatever others hold.
+    Apart {
+        /// The block of the metadata file, or of its entry.
+        file: u32,
+        /// The block of the mirror, or of its entry.
+        mirror: u32,
+    },
+    /// Nothing that is known contradicts it; these blocks, which are not known, could: ascending, each once, and at least one.
+    Open(Vec<u32>),
+    /// One of the two files has a fault, whatever the blocks hold that are not known.
+    Faulty,
+}
+
+/// The block that holds a logical block of the first partition, which has a place.
+fn block_of(space: &Space, block: u32) -> u32 {
+    space.place(0, block).unwrap_or(0)
+}
+
+/// That the entries of the metadata file and its mirror do not say the same.
+fn entries_apart(space: &Space, map: MetadataMap) -> Copies {
+    Copies::Apart {
+        file: block_of(space, map.file),
+        mirror: block_of(space, map.mirror),
+    }
+}
+
+/// Whether two blocks hold the same bytes, as far as they are known; those that are not are added.
+fn are_alike<B: BlockStore>(
+    blocks: &B,
+    first: u32,
+    second: u32,
+    unread: &mut Vec<u32>,
+) -> Result<bool, GaveUp> {
+    let mut room = [0; 2048];
+    let mut other_room = [0; 2048];
+    let one = blocks.lend(first, &mut room)?;
+    let other = blocks.lend(second, &mut other_room)?;
+    match (one, other) {
+        (Fact::Known(one), Fact::Known(other)) => Ok(one == other),
+        (Fact::Known(_), _) => {
+            unread.push(second)?;
+            Ok(true)
+        }
+        (_, Fact::Known(_)) => {
+            unread.push(first)?;
+            Ok(true)
+        }
+        _ => {
+            unread.push(first)?;
+            unread.push(second)?;
+            Ok(true)
+        }
+    }
+}
+
+/// What is known of two copies of one length, block by block.
+fn compared<B: BlockStore>(
+    alloc: Global,
+    view: StoreView<'_, B>,
+    file: &[u32],
+    mirror: &[u32],
+) -> Result<Copies, GaveUp> {
+    let mut unread = Vec::new(alloc);
+    for i in 0..file.len() {
+        let first = block_of(view.space, file[i]);
+        let second = block_of(view.space, mirror[i]);
+        if first != second && !are_alike(view.blocks, first, second, &mut unread)? {
+            return Ok(Copies::Apart {
+                file: first,
+                mirror: second,
+            });
+        }
+    }
+    if unread.is_empty() {
+        return Ok(Copies::Same);
+    }
+    sort_once(&mut unread);
+    Ok(Copies::Open(unread))
+}
+
+/// What is known of the copies of a metadata partition whose files have these blocks.
+fn copies_of<B: BlockStore>(
+    alloc: Global,
+    view: StoreView<'_, B>,
+    map: MetadataMap,
+    file: &[u32],
+    mirror: &[u32],
+) -> Result<Copies, GaveUp> {
+    if map.is_duplicated && file.len() == mirror.len() {
+        return compared(alloc, view, file, mirror);
+    }
+    if file == mirror {
+        return Ok(Copies::Same);
+    }
+    Ok(entries_apart(view.space, map))
+}
+
+/// What is known of the copies where these blocks have to be read before the one list is found.
+fn copies_behind(some: Vec<u32>, other: Seen<Vec<u32>>) -> Result<Copies, GaveUp> {
+    match other {
+        Seen::Got(_) => Ok(Copies::Open(some)),
+        Seen::Fault(_) => Ok(Copies::Faulty),
+        Seen::OutOfMemory => Err(GaveUp::OutOfMemory),
+        Seen::Holes(others) => match both_holes(some, &others) {
+            Seen::Holes(listed) => Ok(Copies::Open(listed)),
+            _ => Err(GaveUp::OutOfMemory),
+        },
+    }
+}
+
+/// What is known of the copies where the metadata file has these blocks.
+fn copies_with<B: BlockStore>(
+    alloc: Global,
+    view: StoreView<'_, B>,
+    map: MetadataMap,
+    file: &[u32],
+    mirror: Seen<Vec<u32>>,
+) -> Result<Copies, GaveUp> {
+    match mirror {
+        Seen::Got(mirror) => copies_of(alloc, view, map, file, &mirror),
+        Seen::Holes(listed) => Ok(Copies::Open(listed)),
+        Seen::Fault(_) => Ok(Copies::Faulty),
+        Seen::OutOfMemory => Err(GaveUp::OutOfMemory),
+    }
+}
+
+/// What is known of the copies of a metadata partition.
+fn metadata_copies<B: BlockStore>(
+    alloc: Global,
+    view: StoreView<'_, B>,
+    map: MetadataMap,
+) -> Result<Copies, GaveUp> {
+    let file = file_numbers(alloc, view, 250, map.file)?;
+    let mirror = file_numbers(alloc, view, 251, map.mirror)?;
+    match file {
+        Seen::Got(file) => copies_with(alloc, view, map, &file, mirror),
+        Seen::Holes(listed) => copies_behind(listed, mirror),
+        Seen::Fault(_) => Ok(Copies::Faulty),
+        Seen::OutOfMemory => Err(GaveUp::OutOfMemory),
+    }
+}
+
+/// What is known of the copies of the partition of a layout that is found in a file: whether its metadata file and the mirror name the same blocks or, where the
+/// mirror has blocks of its own, blocks with the same bytes (UDF 2.50 2.2.13). In other layouts there are no copies.
+///
+/// # Errors
+///
+/// `OutOfMemory` where memory runs out, and `Unread` where the bytes of a known block could not be read.
+pub fn copies_by<B: BlockStore>(
+    alloc: Global,
+    view: StoreView<'_, B>,
+    parts: &VolumeParts,
+) -> Result<Copies, GaveUp> {
+    match parts.found {
+        Some(FoundMap::Metadata(map)) => metadata_copies(alloc, view, map),
+        _ => Ok(Copies::Same),
+    }
+}

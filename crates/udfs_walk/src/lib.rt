@@ -34,7 +34,7 @@ pub use answers::{Node, NodesError, NodesGaveUp, Unnamed};
 pub use bare::{
     full_entries, full_entries_by, full_nodes, full_nodes_by, full_standing, full_standing_by,
 };
-pub use found_partitions::open_space;
+pub use found_partitions::{Copies, copies_by, open_space};
 pub use node_bodies::{body_at, body_by, tail_at, tail_by};
 pub use paths::Path;
 pub use rereads::{bare_reread, bare_reread_by, reread};
