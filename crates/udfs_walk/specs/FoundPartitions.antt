@@ -2,7 +2,7 @@
 --     virtual_numbers view l       of each block of a virtual partition the logical block of the first one (UDF 1.50 2.2.10, 2.01 2.2.10)
 --     metadata_numbers view map    of each block of a metadata partition the same (UDF 2.50 2.2.13)
 --     places blocks l              where the blocks of all partitions of a layout are
-use Rattle.std.specs.Prelude.{ℕ, ◌+◌, ◌-◌, ◌*◌, ◌/◌, Bool, true, false, not, List, [], ◌∷◌, ◌++◌, length, map, flat_map, replicate, cond, nat_eq, nat_le, ◌&&◌, Option, Some, None, option_map, slice_get, ◌≡◌}
+use Rattle.std.specs.Prelude.{ℕ, ◌+◌, ◌-◌, min, Bool, true, false, not, List, [], ◌∷◌, ◌++◌, length, map, flat_map, replicate, cond, ◌==◌, nat_eq, nat_le, ◌&&◌, Option, Some, None, option_map, slice_get, ◌≡◌}
 use Rattle.std.specs.List.{range_with_len}
 use Rattle.udfs_lattice.specs.States.{State, is_known}
 use Rattle.udfs_lattice.specs.Volumes.{Blocks, ascending}
@@ -85,6 +85,16 @@ abbrev pub bytes_if : List ℕ → Bytes → Option Bytes
 bytes_if [] bytes = Some bytes
 bytes_if (n ∷ ns) bytes = None
 
+-- the bytes of cells are added, if they are known
+abbrev pub AddsCells : Bytes → Bytes → List Cell → Bool → Type 0
+AddsCells old new cs true = (missing_blocks cs ≡ []) × (new ≡ old ++ map byte_of cs)
+AddsCells old new cs false = ¬ (missing_blocks cs ≡ [])
+
+-- the same of the first of the cells that are left, if there are any
+abbrev pub AddsNext : Bytes → Bytes → List Cell → List Cell → Option Bool → Type 0
+AddsNext old new before after None = (before ≡ []) × (new ≡ old)
+AddsNext old new before after (Some known) = (front : List Cell) × (before ≡ front ++ after) × AddsCells old new front known
+
 abbrev pub known_bytes : List Cell → Option Bytes
 known_bytes cs = bytes_if (missing_blocks cs) (map byte_of cs)
 
@@ -108,10 +118,14 @@ is_type type File = false
 is_type type Link = false
 is_type type Unread = false
 
+-- consecutive logical blocks; a number that passes 32 bits is no block
+abbrev pub row : ℕ → ℕ → List ℕ
+row first count = map (λ i. min (first + i) 0xFFFF_FFFF) (range_with_len 0 count)
+
 -- the logical blocks of an extent, one for each block of it that the body needs; FFFFFFFF, which is none, where it is not recorded
 abbrev pub extent_blocks : ℕ → ℕ × LongAd → List ℕ
 extent_blocks size e = let count = blocks_in (cells_in size e) in
-    cond (e.1.kind == 0) (map (λ i. e.1.block + i) (range_with_len 0 count)) (replicate count 0xFFFF_FFFF)
+    cond (e.1.kind == 0) (row e.1.block count) (replicate count 0xFFFF_FFFF)
 
 -- where descriptors are continued in a block that is not known, it has to be read first
 abbrev pub blocks_behind : Next → List ℕ → Answer (List ℕ)
@@ -131,7 +145,7 @@ body_blocks v e (cells cs) = extents_blocks e.size (allocation_descriptors v 0 e
 
 -- the same by the stretches in which a body is told
 abbrev pub stretch_blocks : Stretch → List ℕ
-stretch_blocks (Recorded run count) = map (λ i. run.address.block + i) (range_with_len 0 (blocks_in count))
+stretch_blocks (Recorded run count) = row run.address.block (blocks_in count)
 stretch_blocks (Zeros count) = replicate (blocks_in count) 0xFFFF_FFFF
 stretch_blocks (Missing n count) = []
 

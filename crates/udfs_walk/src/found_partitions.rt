@@ -1,7 +1,7 @@
 //! Where the blocks of all partitions are, also of one that lies where a file of the first one says: a virtual one (UDF 1.50 2.2.10, 2.01 2.2.10)
 //! or a metadata one (UDF 2.50 2.2.13).
 
-ghost use Rattle.std.specs.Prelude.{◌≡◌, ℕ, ◌≤◌, ◌<◌, ◌^◌, ◌++◌, List, [], ◌∷◌, IfOk, IsErrOf, MatchOption, OnErr, Some, length, option_map};
+ghost use Rattle.std.specs.Prelude.{◌≡◌, ℕ, ◌≤◌, ◌<◌, ◌^◌, ◌++◌, List, [], ◌∷◌, IfOk, IsErrOf, OnErr, Some, length, option_map, replicate, true};
 ghost use Rattle.udfs_lattice.specs.Volumes.{ascending};
 ghost use Rattle.udfs_volume.specs.Answers.{Answer, faulty, found, holes};
 ghost use Rattle.udfs_volume.specs.LayoutParts.{parts_now};
@@ -9,16 +9,18 @@ ghost use Rattle.udfs_volume.specs.Laws.{IsBounded};
 ghost use Rattle.udfs_volume.specs.Seen.{HolesRise, IsRising, Sees};
 ghost use Rattle.udfs_space.specs.Views.{view_by};
 ghost use Rattle.udfs_file.specs.Bodies.{body, cells};
+ghost use Rattle.udfs_file.specs.Portions.{IsPortion};
+ghost use Rattle.udfs_file.specs.declared.cells.Cell.{Cell};
 ghost use Rattle.udfs_file.specs.Entries.{entry_of};
 ghost use Rattle.udfs_file.specs.Stretches.{IsStanding, cells_of};
-ghost use Rattle.udfs_walk.specs.FoundPartitions.{best_numbers, body_blocks, either, either_copy, file_numbers, form_of, found_blocks, is_file_entry, is_known_at, known_bytes, metadata_numbers, numbers_in_body, places, places_with, stretch_blocks, stretch_unread, stretches_blocks, table_block, table_numbers, virtual_numbers};
+ghost use Rattle.udfs_walk.specs.FoundPartitions.{AddsCells, AddsNext, best_numbers, body_blocks, either, either_copy, file_numbers, form_of, found_blocks, is_file_entry, is_known_at, known_bytes, metadata_numbers, numbers_in_body, places, places_with, row, stretch_blocks, stretch_unread, stretches_blocks, table_block, table_numbers, virtual_numbers};
 
 use crate::ascending::sort_once;
 use crate::gaps::cells_standing;
 use crate::standings::{Standing, Torn};
 use crate::targets::{Target, entry_address, target_at};
-use std::alloc::Global;
-use udfs_file::{Body, Entry, Kind, Portion, Stretch, WalkError};
+use std::alloc::{AllocError, Global};
+use udfs_file::{Body, Entry, Kind, Portion, StorePortions, Stretch, WalkError};
 use udfs_lattice::{BlockStore, Fact, GaveUp, ReadFault};
 use udfs_space::virtual_tables::virtual_blocks;
 use udfs_space::{Space, StoreView, TableForm};
@@ -38,7 +40,7 @@ const MOST_BLOCKS: usize = 4_194_304;
 const NO_BLOCK: u32 = 0xFFFF_FFFF;
 
 /// The bytes of a block.
-const BLOCK: u64 = 2048;
+const BLOCK: u32 = 2048;
 
 /// The logical block of the first partition that is the last block of the volume, where the entry of a virtual allocation table is.
 fn table_block(parts: &VolumeParts) -> u32
@@ -72,6 +74,44 @@ fn one_hole(alloc: Global, n: u32) -> Seen<Vec<u32>>
     }
 }
 
+/// Adds the bytes of a portion, and returns whether they are known.
+fn add_portion(bytes: &mut Vec<u8>, portion: Portion<'_>) -> Result<bool, AllocError>
+    ensures { IfOk result (λ known. (cs : List Cell) → IsPortion portion cs → AddsCells bytes.old.items bytes.new.items cs known) }
+{
+    match portion {
+        Portion::Bytes(known) => {
+            bytes.extend_from_slice(known)?;
+            Ok(true)
+        }
+        Portion::Zeros(count) => {
+            for _ in 0..count {
+                bytes.push(0)?;
+            }
+            Ok(true)
+        }
+        Portion::Missing(_) => Ok(false),
+    }
+}
+
+/// Adds the bytes of the next portion of a body, and returns whether they are known, or `None` where there is none.
+fn add_next<'a, B: BlockStore>(
+    bytes: &mut Vec<u8>,
+    portions: &mut StorePortions<'a, B>,
+    room: &mut [u8; 2048],
+) -> Result<Option<bool>, GaveUp>
+    ensures step { IfOk result (λ known. B.tells → AddsNext bytes.old.items bytes.new.items portions.old portions.new known) }
+    ensures count { IfOk result (λ known. known ≡ Some true → length portions.new < length portions.old) }
+    ensures fails { IsErrOf result GaveUp.Unread → B.fails }
+{
+    match portions.next(room)? {
+        Some(portion) => {
+            let known = add_portion(bytes, portion)?;
+            Ok(Some(known))
+        }
+        None => Ok(None),
+    }
+}
+
 /// The bytes of a body, if all are known.
 fn known_bytes<B: BlockStore>(
     alloc: Global,
@@ -82,18 +122,13 @@ fn known_bytes<B: BlockStore>(
     ensures fails { IsErrOf result GaveUp.Unread → B.fails }
 {
     let mut bytes = Vec::new(alloc);
+    let mut portions = body.portions_by(view);
     let mut room = [0; 2048];
-    let mut left = body.portions_by(view);
     'portions: loop {
-        match left.next(&mut room)? {
+        match add_next(&mut bytes, &mut portions, &mut room)? {
+            Some(true) => {}
+            Some(false) => return Ok(None),
             None => return Ok(Some(bytes)),
-            Some(Portion::Bytes(known)) => bytes.extend_from_slice(known)?,
-            Some(Portion::Zeros(count)) => {
-                for _ in 0..count {
-                    bytes.push(0)?;
-                }
-            }
-            Some(Portion::Missing(_)) => return Ok(None),
         }
     }
 }
@@ -171,22 +206,37 @@ fn virtual_numbers<B: BlockStore>(
     }
 }
 
-/// Adds the logical blocks of a stretch, one for each block of it that is begun, or returns the block that is not known in which they are named.
-fn add_blocks(numbers: &mut Vec<u32>, stretch: Stretch) -> Result<Option<u32>, GaveUp>
-    ensures { IfOk result (λ unread. MatchOption unread (numbers.new.items ≡ numbers.old.items ++ stretch_blocks stretch) (λ n. (numbers.new.items ≡ numbers.old.items) × (stretch_unread stretch ≡ Some n))) }
+/// Adds consecutive logical blocks.
+fn add_row(numbers: &mut Vec<u32>, first: u32, count: u32) -> Result<(), AllocError>
+    ensures { IfOk result (λ done. numbers.new.items ≡ numbers.old.items ++ row first count) }
 {
-    let count = stretch.count().div_ceil(BLOCK);
+    for i in 0..count {
+        numbers.push(first.saturating_add(i))?;
+    }
+    Ok(())
+}
+
+/// Adds that so many blocks have no place.
+fn add_none(numbers: &mut Vec<u32>, count: u32) -> Result<(), AllocError>
+    ensures { IfOk result (λ done. numbers.new.items ≡ numbers.old.items ++ replicate count 0xFFFF_FFFF) }
+{
+    for _ in 0..count {
+        numbers.push(NO_BLOCK)?;
+    }
+    Ok(())
+}
+
+/// Adds the logical blocks of a stretch, one for each block of it that is begun, or returns the block that is not known in which they are named.
+fn add_blocks(numbers: &mut Vec<u32>, stretch: Stretch) -> Result<Option<u32>, AllocError>
+    ensures { IfOk result (λ unread. (unread ≡ stretch_unread stretch) × (numbers.new.items ≡ numbers.old.items ++ stretch_blocks stretch)) }
+{
     match stretch {
-        Stretch::Recorded(run, _) => {
-            for i in 0..count {
-                numbers.push(run.address.block.saturating_add(i as u32))?;
-            }
+        Stretch::Recorded(run, count) => {
+            add_row(numbers, run.address.block, count.div_ceil(BLOCK))?;
             Ok(None)
         }
-        Stretch::Zeros(_) => {
-            for _ in 0..count {
-                numbers.push(NO_BLOCK)?;
-            }
+        Stretch::Zeros(count) => {
+            add_none(numbers, count.div_ceil(BLOCK))?;
             Ok(None)
         }
         Stretch::Missing(n, _) => Ok(Some(n)),
@@ -510,7 +560,7 @@ fn are_alike<B: BlockStore>(
     let one = blocks.lend(first, &mut room)?;
     let other = blocks.lend(second, &mut other_room)?;
     match (one, other) {
-        (Fact::Known(one), Fact::Known(other)) => Ok(one == other),
+        (Fact::Known(one), Fact::Known(other)) => Ok(one.as_slice() == other.as_slice()),
         (Fact::Known(_), _) => {
             unread.push(second)?;
             Ok(true)
@@ -538,7 +588,8 @@ fn compared<B: BlockStore>(
     for i in 0..file.len() {
         let first = block_of(view.space, file[i]);
         let second = block_of(view.space, mirror[i]);
-        if first != second && !are_alike(view.blocks, first, second, &mut unread)? {
+        let alike = are_alike(view.blocks, first, second, &mut unread)?;
+        if !alike {
             return Ok(Copies::Apart {
                 file: first,
                 mirror: second,
