@@ -9,7 +9,7 @@ use Rattle.udfs_tag.specs.declared.layouts.LongAd.{LongAd}
 use Rattle.udfs_osta.specs.Labels.{label_of}
 use Rattle.udfs_volume.specs.declared.anchors.AnchorExtents.{AnchorExtents}
 use Rattle.udfs_volume.specs.declared.profiles.Profile.{Profile}
-use Rattle.udfs_volume.specs.Layout.{Layout, PartitionMap, bp, has_contents, layout_of, partition_number, partition_of, sequence_number, the_maps, volume_fault}
+use Rattle.udfs_volume.specs.Layout.{Layout, PartitionMap, bp, has_contents, layout_of, partition_number, partition_of, sequence_number, all_maps, volume_fault}
 use Rattle.udfs_volume.specs.Sequence.{Descriptor, extents_of}
 use Rattle.udfs_osta.specs.declared.labels.Label.{Label}
 use Rattle.udfs_osta.specs.Stamps.{offset_bits, stamp_kind, year_of}
@@ -29,7 +29,7 @@ use Rattle.udfs_lawfulness.specs.Sparing.{IsSparingTable, sparing_rows}
 use Rattle.udfs_lawfulness.specs.LawfulTables.{FollowOn}
 use Rattle.udfs_lawfulness.specs.Tags.{IsTagged, tag_table}
 use Rattle.udfs_lawfulness.specs.Texts.{HasStampFields, IsDstring, StampFields, stamp_rows}
-use Rattle.udfs_lawfulness.specs.Volumes.{PartitionFields, VolumeFields, IsAnchorAt, IsPartitionAt, IsVolumeAt, anchor_table, partition_table, sparable_table, type1_table, volume_table}
+use Rattle.udfs_lawfulness.specs.Volumes.{PartitionFields, VolumeFields, IsAnchorAt, IsPartitionAt, IsVolumeAt, anchor_table, partition_table, metadata_table, sparable_table, type1_table, virtual_table, volume_table}
 
 -- these are bytes
 abbrev pub AreBytes : List ℕ → Type 0
@@ -82,7 +82,7 @@ pub record IsReadVolume (profile : Profile) (last : ℕ) (bytes : List ℕ) (pla
   pub valid : is_valid bytes place 6 ≡ true
   pub sequence : sequence_number (descriptor_in bytes) ≡ v.sequence
   pub sound : volume_fault profile last (descriptor_in bytes) ≡ None
-  pub maps : the_maps profile last (descriptor_in bytes) ≡ Some v.maps
+  pub maps : all_maps profile last (descriptor_in bytes) ≡ Some (record { numbered = v.maps; found = v.found })
   pub label : label_of (part (descriptor_in bytes).content (bp 84) 128) ≡ v.label
   pub revision : uint16_at (descriptor_in bytes).content (bp 240) ≡ v.revision
   pub file_set : long_ad_at (descriptor_in bytes).content (bp 248) ≡ v.file_set
@@ -181,6 +181,8 @@ pub record TablesFollowOn : Type 0 where
   pub volumes : FollowOn 0 volume_table 440
   pub type1_maps : FollowOn 0 type1_table 6
   pub sparable_maps : FollowOn 0 sparable_table 64
+  pub virtual_maps : FollowOn 0 virtual_table 64
+  pub metadata_maps : FollowOn 0 metadata_table 64
   pub sparing : FollowOn 0 sparing_rows 56
   pub file_sets : FollowOn 0 file_set_table 512
   pub continuations : FollowOn 0 extent_table 24

@@ -70,5 +70,6 @@ pub record IsLayout (profile : Profile) (last : ℕ) (blocks : List Placed) (l :
   pub last_is : l.last ≡ last
   pub revision : l.revision ≡ fields.revision
   pub label : l.label ≡ fields.label
+  pub found : l.found ≡ fields.found
   pub file_set : l.file_set ≡ fields.file_set
   pub profile_is : l.profile ≡ profile

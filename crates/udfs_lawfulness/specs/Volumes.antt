@@ -5,12 +5,17 @@
 --     IsPartitionAt bytes place f                     a partition descriptor
 --     IsVolumeAt profile last bytes place v           a logical volume descriptor, with its maps
 --     AreMaps profile last left bytes maps            partition maps at the beginning of bytes, in a map table of `left` bytes
-use Rattle.std.specs.Prelude.{◌≡◌, ⊤, ℕ, ◌+◌, ◌≤◌, ◌⊎◌, List, [], ◌∷◌, ◌++◌, length, replicate, codes, Contains}
+--     AreAllMaps profile last left bytes maps found   the same, with that of a partition that is found in a file (UDF 2.01 2.2.8, 2.50 2.2.10)
+use Rattle.std.specs.Prelude.{◌≡◌, ◌↔◌, ⊤, ℕ, ◌+◌, ◌%◌, ◌≤◌, ◌⊎◌, true, List, [], ◌∷◌, ◌++◌, length, replicate, codes, Contains, Option, Some, None}
 use Rattle.udfs_tag.specs.declared.layouts.LongAd.{LongAd}
 use Rattle.udfs_osta.specs.declared.labels.Label.{Label}
 use Rattle.udfs_osta.specs.Labels.{label_of}
 use Rattle.udfs_volume.specs.declared.anchors.AnchorExtents.{AnchorExtents}
+use Rattle.udfs_volume.specs.declared.found_maps.FoundMap.{FoundMap}
+use Rattle.udfs_volume.specs.declared.found_maps.FoundMap.TheVariants.{Virtual, Metadata}
+use Rattle.udfs_volume.specs.declared.found_maps.MetadataMap.{MetadataMap}
 use Rattle.udfs_volume.specs.declared.profiles.Profile.{Profile}
+use Rattle.udfs_volume.specs.declared.profiles.Profile.TheVariants.{Strict, Wide}
 use Rattle.udfs_volume.specs.Layout.{NumberedMap, PartitionMap, type1, sparable, blocks_in}
 use Rattle.udfs_volume.specs.Profiles.{packet_lengths, revisions}
 use Rattle.udfs_lawfulness.specs.LawfulTables.{Row, row, IsField, Holds}
@@ -151,6 +156,71 @@ AreMaps profile last left bytes [] = ⊤
 AreMaps profile last left bytes (m ∷ ms) = (piece : List ℕ) × (rest : List ℕ) × (later : ℕ) × (bytes ≡ piece ++ rest) × (left ≡ length piece + later)
     × IsMap profile last piece m.0 m.1 × AreMaps profile last later rest ms
 
+-- A map of a virtual partition, of type 2 (UDF 1.50 and 2.01 2.2.8): type, length, reserved, partition type identifier, volume sequence number, partition
+-- number, reserved.
+abbrev pub virtual_table : List Row
+virtual_table = map_type ∷ map_length ∷ row 2 2 ∷ row 4 32 ∷ row 36 2 ∷ row 38 2 ∷ row 40 24 ∷ []
+
+-- A map of a metadata partition, of type 2 (UDF 2.50 2.2.10): type, length, reserved, partition type identifier, volume sequence number, partition number,
+-- locations of the metadata file, of its mirror and of its bitmap, allocation unit size, alignment unit size, flags, reserved.
+abbrev pub metadata_table : List Row
+metadata_table = map_type ∷ map_length ∷ row 2 2 ∷ row 4 32 ∷ row 36 2 ∷ row 38 2 ∷ row 40 4 ∷ row 44 4 ∷ row 48 4 ∷ row 52 4 ∷ row 56 2 ∷ row 58 1 ∷ row 59 5 ∷ []
+
+-- a map of type 2 of 64 bytes with this identifier, beside the partition with this number
+pub record IsNamed (piece text : List ℕ) (number : ℕ) : Type 0 where
+  pub long : length piece ≡ 64
+  pub kind : Holds piece map_type 2
+  pub size : Holds piece map_length 64
+  pub name : List ℕ
+  pub name_field : IsField piece (row 4 32) name
+  pub name_is : IsEntity name text
+  pub number_is : Holds piece (row 38 2) number
+
+-- a map of a metadata partition: where the entries of its files are, and whether the mirror has blocks of its own (bit 0 of the flags)
+pub record IsMetadata (piece : List ℕ) (m : MetadataMap) (number : ℕ) : Type 0 where
+  pub named : IsNamed piece (codes "*UDF Metadata Partition") number
+  pub file_is : Holds piece (row 40 4) m.file
+  pub mirror_is : Holds piece (row 44 4) m.mirror
+  pub flags : ℕ
+  pub flags_are : Holds piece (row 58 1) flags
+  pub is_duplicated : (m.is_duplicated ≡ true) ↔ (flags % 2 ≡ 1)
+
+-- a map of a partition that is found in a file of the one with this number
+abbrev pub IsFoundMap : List ℕ → FoundMap → ℕ → Type 0
+IsFoundMap piece Virtual number = IsNamed piece (codes "*UDF Virtual Partition") number
+IsFoundMap piece (Metadata m) number = IsMetadata piece m number
+
+-- a virtual partition stands beside one whose blocks lie one after the other; a metadata partition beside either
+abbrev pub StandsBeside : FoundMap → PartitionMap → Type 0
+StandsBeside Virtual type1 = ⊤
+StandsBeside Virtual (sparable packet bytes tables) = ⊥
+StandsBeside (Metadata m) other = ⊤
+
+-- a map, and after it that of a partition that is found in a file of its partition
+pub record AreFound (last left : ℕ) (bytes : List ℕ) (m : NumberedMap) (f : FoundMap) : Type 0 where
+  pub piece : List ℕ
+  pub second : List ℕ
+  pub rest : List ℕ
+  pub later : ℕ
+  pub bytes_are : bytes ≡ piece ++ second ++ rest
+  pub left_is : left ≡ length piece + length second + later
+  pub first_is : IsMap Wide last piece m.0 m.1
+  pub found_is : IsFoundMap second f m.1
+  pub beside : StandsBeside f m.0
+
+-- All maps at the beginning of bytes of which the map table has so many. By the wide rules the second of two may be that of a partition that is found in a file.
+abbrev pub AreAllMaps : Profile → ℕ → ℕ → List ℕ → List NumberedMap → Option FoundMap → Type 0
+AreAllMaps profile last left bytes ms None = AreMaps profile last left bytes ms
+AreAllMaps Strict last left bytes ms (Some f) = ⊥
+AreAllMaps Wide last left bytes [] (Some f) = ⊥
+AreAllMaps Wide last left bytes (m ∷ []) (Some f) = AreFound last left bytes m f
+AreAllMaps Wide last left bytes (m ∷ n ∷ ms) (Some f) = ⊥
+
+-- how many maps there are
+abbrev pub map_total : List NumberedMap → Option FoundMap → ℕ
+map_total ms None = length ms
+map_total ms (Some f) = length ms + 1
+
 -- two maps are of different kinds
 abbrev pub Differ : PartitionMap → PartitionMap → Type 0
 Differ type1 type1 = ⊥
@@ -206,6 +276,8 @@ pub record VolumeFields : Type 0 where
   pub revision : ℕ
   pub file_set : LongAd
   pub maps : List NumberedMap
+  -- the map of a partition that is found in a file of that of the only one of these, if there is one
+  pub found : Option FoundMap
 
 -- A logical volume descriptor at this block: logical blocks of 2048 bytes, the domain of OSTA UDF with a revision that is taken, in the
 -- first two bytes of its suffix (UDF 2.1.5.3), and one or two maps in its map table, which begins at 440.
@@ -228,9 +300,9 @@ pub record IsVolumeAt (profile : Profile) (last : ℕ) (bytes : List ℕ) (place
   pub file_set_is : IsLongAd contents_use v.file_set
   pub table_length : ℕ
   pub table_length_is : Holds bytes table_length_row table_length
-  pub count_is : Holds bytes map_count_row (length v.maps)
-  pub few : (length v.maps ≡ 1) ⊎ (length v.maps ≡ 2)
+  pub count_is : Holds bytes map_count_row (map_total v.maps v.found)
+  pub few : (map_total v.maps v.found ≡ 1) ⊎ (map_total v.maps v.found ≡ 2)
   pub table : List ℕ
   pub table_field : IsField bytes (row 440 1608) table
-  pub maps_are : AreMaps profile last table_length table v.maps
+  pub maps_are : AreAllMaps profile last table_length table v.maps v.found
   pub differ : AllDiffer v.maps
