@@ -38,6 +38,7 @@ pub mod EntryTables
 pub mod AreaTables
 pub mod IdentifierTables
 pub mod FileTables
+pub mod FoundTables
 pub mod BodyBytes
 pub mod SparingTables
 pub mod TextTables

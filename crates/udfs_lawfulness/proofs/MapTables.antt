@@ -70,7 +70,7 @@ entity_of field text l e = (23 - length text, field_by field 1 23 (zero_filled 2
 
 -- ---- pieces
 -- what holds of the beginning of bytes holds of them
-field_front : (bytes piece more field : List ℕ) (p c : ℕ) → bytes ≡ piece ++ more → IsField piece (row p c) field → IsField bytes (row p c) field
+pub field_front : (bytes piece more field : List ℕ) (p c : ℕ) → bytes ≡ piece ++ more → IsField piece (row p c) field → IsField bytes (row p c) field
 field_front bytes piece more field p c e f = record {
   front = f.front;
   rest = f.rest ++ more;
@@ -120,7 +120,7 @@ tables_of bytes p (suc n) l = subst (AreTables bytes p) (sym (places_more bytes 
 
 -- ---- one map
 module _ (profile : Profile) (last : ℕ) where
-  map_is : (bytes piece more : List ℕ) (left later : ℕ) (kind : PartitionMap) (number : ℕ) → bytes ≡ piece ++ more → left ≡ length piece + later
+  pub map_is : (bytes piece more : List ℕ) (left later : ℕ) (kind : PartitionMap) (number : ℕ) → bytes ≡ piece ++ more → left ≡ length piece + later
       → IsMap profile last piece kind number → (read_map profile last left bytes ≡ Some (kind, number)) × (map_size kind ≡ length piece)
   map_is bytes piece more left later type1 number e l h = (
     ap (λ b. cond b (Some (type1, uint16_at bytes 4)) (cond (is_sparable bytes && nat_le 64 left && are_tables profile last bytes) (Some (sparable (uint16_at bytes 40) (uint32_at bytes 44) (table_places bytes), uint16_at bytes 38)) None)) test
@@ -188,7 +188,7 @@ module _ (profile : Profile) (last : ℕ) where
           (all_of (has_numbers profile bytes) _ numbers inside)
 
   -- the map that is read takes as many bytes as it is long, and is one by its table
-  abbrev IsMapAt : ℕ → List ℕ → NumberedMap → Type 0
+  abbrev pub IsMapAt : ℕ → List ℕ → NumberedMap → Type 0
   IsMapAt left bytes m = (map_size m.0 ≤ left) × (map_size m.0 ≤ 64) × IsMap profile last (take (map_size m.0) bytes) m.0 m.1
 
   type1_at : (left : ℕ) (bytes : List ℕ) → 64 ≤ length bytes → (is_type1 bytes && nat_le 6 left) ≡ true → IsMapAt left bytes (type1, uint16_at bytes 4)
@@ -278,7 +278,7 @@ module _ (profile : Profile) (last : ℕ) where
   abbrev sparable_read : List ℕ → NumberedMap
   sparable_read bytes = (sparable (uint16_at bytes 40) (uint32_at bytes 44) (table_places bytes), uint16_at bytes 38)
 
-  map_of : (left : ℕ) (bytes : List ℕ) (m : NumberedMap) → 64 ≤ length bytes → read_map profile last left bytes ≡ Some m → IsMapAt left bytes m
+  pub map_of : (left : ℕ) (bytes : List ℕ) (m : NumberedMap) → 64 ≤ length bytes → read_map profile last left bytes ≡ Some m → IsMapAt left bytes m
   map_of left bytes m l e = go (is_type1 bytes && nat_le 6 left) refl e
     where
       next : (b : Bool) → (is_sparable bytes && nat_le 64 left && are_tables profile last bytes) ≡ b → cond b (Some (sparable_read bytes)) None ≡ Some m → IsMapAt left bytes m
