@@ -115,7 +115,7 @@ neither_map last left bytes piece more f number e h = none (no_type1 f h) (no_sp
 
 -- both maps
 module _ (last left : ℕ) (bytes : List ℕ) (m : NumberedMap) (f : FoundMap) (h : AreFound last left bytes m f) where
-  first_map : (read_map Wide last left bytes ≡ Some (m.0, m.1)) × (map_size m.0 ≡ length h.piece)
+  pub first_map : (read_map Wide last left bytes ≡ Some (m.0, m.1)) × (map_size m.0 ≡ length h.piece)
   first_map = map_is Wide last bytes h.piece (h.second ++ h.rest) left (length h.second + h.later) m.0 m.1 h.bytes_are (let l : left ≡ length h.piece + length h.second + h.later = h.left_is in omega (arith, l)) h.first_is
 
   behind_is : drop (map_size m.0) bytes ≡ h.second ++ h.rest

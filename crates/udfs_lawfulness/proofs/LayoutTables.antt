@@ -10,10 +10,11 @@ use Rattle.udfs_tag.specs.Faults.{first_fault}
 use Rattle.udfs_tag.specs.Tags.{identifier, is_sound, is_valid}
 use Rattle.udfs_osta.specs.Labels.{label_of}
 use Rattle.udfs_volume.specs.Answers.{found, and_then, unless_fault}
+use Rattle.udfs_volume.specs.declared.found_maps.FoundMap.{FoundMap}
 use Rattle.udfs_volume.specs.declared.faults.VolumeFault.TheVariants.{Contents, PartitionRange}
 use Rattle.udfs_volume.specs.declared.profiles.Profile.{Profile}
 use Rattle.udfs_volume.specs.declared.profiles.Profile.TheVariants.{Strict, Wide}
-use Rattle.udfs_volume.specs.Layout.{Described, Layout, NumberedMap, Partition, before_described, described, has_contents, is_in_range, is_range, laid_out, layout_of, logical_volume, partition, partition_number, partition_of, partitions_fault, placed_of, prevailing, sequence_number, size_within, the_maps, volume_fault, with_maps, with_volume}
+use Rattle.udfs_volume.specs.Layout.{AllMaps, Described, Layout, all_maps, layout_with, NumberedMap, Partition, before_described, described, has_contents, is_in_range, is_range, laid_out, layout_of, logical_volume, partition, partition_number, partition_of, partitions_fault, placed_of, prevailing, sequence_number, size_within, volume_fault, with_found, with_maps, with_volume}
 use Rattle.udfs_volume.specs.Sequence.{Descriptor}
 use Rattle.udfs_volume.proofs.Bounds.{and_then-found, unless_fault-found}
 use Rattle.udfs_volume.proofs.Known.{both}
@@ -186,15 +187,33 @@ module _ (profile : Profile) (last : ℕ) (blocks : List Placed) (good : AreSoun
       }
 
   -- ---- the layout
-  abbrev laid : Descriptor → List Described → Layout
-  laid lv ps = record {
+  abbrev laid : Option FoundMap → Descriptor → List Described → Layout
+  laid f lv ps = record {
     last = last;
     revision = uint16_at lv.content 224;
     label = label_of (part lv.content 68 128);
     partitions = map (λ p. placed_of profile last (partition_of p)) ps;
+    found = f;
     file_set = long_ad_at lv.content 232;
     profile = profile;
   }
+
+  -- with a partition that is found in a file, if there is one
+  told_by : (f : Option FoundMap) (lv : Descriptor) (ps : List Described) (l : Layout) → with_found f (unless_fault (partitions_fault profile last ps) (laid None lv ps)) ≡ found l
+      → (partitions_fault profile last ps ≡ None) × (laid f lv ps ≡ l)
+  told_by None lv ps l e = unless_fault-found (partitions_fault profile last ps) (laid None lv ps) l e
+  told_by (Some g) lv ps l e = let a : (x : Layout) × (unless_fault (partitions_fault profile last ps) (laid None lv ps) ≡ found x) × (found (layout_with g x) ≡ found l) =
+      and_then-found (unless_fault (partitions_fault profile last ps) (laid None lv ps)) (λ x. found (layout_with g x)) l e in
+      let b : (partitions_fault profile last ps ≡ None) × (laid None lv ps ≡ a.0) = unless_fault-found (partitions_fault profile last ps) (laid None lv ps) a.0 a.1 in
+      (b.0, ap (layout_with g) b.1 ∙ same_layout (layout_with g a.0) l a.2)
+    where
+      same_layout : (a b : Layout) → found a ≡ found b → a ≡ b
+      same_layout a b q = cc
+
+  made_by : (f : Option FoundMap) (lv : Descriptor) (ps : List Described) → partitions_fault profile last ps ≡ None
+      → with_found f (unless_fault (partitions_fault profile last ps) (laid None lv ps)) ≡ found (laid f lv ps)
+  made_by None lv ps e = ap (λ o. unless_fault o (laid None lv ps)) e
+  made_by (Some g) lv ps e = ap (λ o. and_then (unless_fault o (laid None lv ps)) (λ x. found (layout_with g x))) e
 
   faults_to : (ps : List Described) → partitions_fault profile last ps ≡ None → (list_all has_contents ps ≡ true) × (list_all (λ p. is_in_range profile last (partition_of p)) ps ≡ true)
   faults_to ps e = let t : (not (list_all has_contents ps) ≡ false) × (first_fault ((not (list_all (λ p. is_in_range profile last (partition_of p)) ps), PartitionRange) ∷ []) ≡ None) = no_first (not (list_all has_contents ps)) Contents _ e in
@@ -204,10 +223,11 @@ module _ (profile : Profile) (last : ℕ) (blocks : List Placed) (good : AreSoun
   unfolding layout_of
   layout_to l e = by_volume (logical_volume ds) refl e
     where
-      by_partitions : (w : Placed) → IsPrevailing IsVolumeNumbered blocks w → Includes blocks w → is_volume (D w) ≡ true → volume_fault profile last (D w) ≡ None → (ms : List NumberedMap) → the_maps profile last (D w) ≡ Some ms
-          → (o : Option (List Described)) → described ds ms ≡ o → laid_out profile last (D w) o ≡ found l → IsLayout profile last blocks l
-      by_partitions w p i t n ms m None d e = absurd (let z : ⊥ = cc in z)
-      by_partitions w p i t n ms m (Some ps) d e = let u : (partitions_fault profile last ps ≡ None) × (laid (D w) ps ≡ l) = unless_fault-found (partitions_fault profile last ps) (laid (D w) ps) l e in
+      by_partitions : (w : Placed) → IsPrevailing IsVolumeNumbered blocks w → Includes blocks w → is_volume (D w) ≡ true → volume_fault profile last (D w) ≡ None → (ms : List NumberedMap) (f : Option FoundMap) → all_maps profile last (D w) ≡ Some (record { numbered = ms; found = f })
+          → (o : Option (List Described)) → described ds ms ≡ o → with_found f (laid_out profile last (D w) o) ≡ found l → IsLayout profile last blocks l
+      by_partitions w p i t n ms None m None d e = absurd (let z : ⊥ = cc in z)
+      by_partitions w p i t n ms (Some g) m None d e = absurd (let z : ⊥ = cc in z)
+      by_partitions w p i t n ms f m (Some ps) d e = let u : (partitions_fault profile last ps ≡ None) × (laid f (D w) ps ≡ l) = told_by f (D w) ps l e in
           let g : (list_all has_contents ps ≡ true) × (list_all (λ p. is_in_range profile last (partition_of p)) ps ≡ true) = faults_to ps u.0 in
           subst (IsLayout profile last blocks) u.1 (record {
             block = w;
@@ -226,34 +246,35 @@ module _ (profile : Profile) (last : ℕ) (blocks : List Placed) (good : AreSoun
             last_is = refl;
             revision = refl;
             label = refl;
+            found = refl;
             file_set = refl;
             profile_is = refl;
           })
         where
           v : VolumeFields
-          v = record { sequence = sequence_number (D w); label = label_of (part (D w).content 68 128); revision = uint16_at (D w).content 224; file_set = long_ad_at (D w).content 232; maps = ms }
+          v = record { sequence = sequence_number (D w); label = label_of (part (D w).content 68 128); revision = uint16_at (D w).content 224; file_set = long_ad_at (D w).content 232; maps = ms; found = f }
 
-      by_maps : (w : Placed) → IsPrevailing IsVolumeNumbered blocks w → Includes blocks w → is_volume (D w) ≡ true → volume_fault profile last (D w) ≡ None → (o : Option (List NumberedMap)) → the_maps profile last (D w) ≡ o
+      by_maps : (w : Placed) → IsPrevailing IsVolumeNumbered blocks w → Includes blocks w → is_volume (D w) ≡ true → volume_fault profile last (D w) ≡ None → (o : Option AllMaps) → all_maps profile last (D w) ≡ o
           → with_maps profile last ds (D w) o ≡ found l → IsLayout profile last blocks l
       by_maps w p i t n None m e = absurd (let z : ⊥ = cc in z)
-      by_maps w p i t n (Some ms) m e = by_partitions w p i t n ms m (described ds ms) refl e
+      by_maps w p i t n (Some ms) m e = by_partitions w p i t n ms.numbered ms.found m (described ds ms.numbered) refl e
 
       by_volume : (o : Option Descriptor) → logical_volume ds ≡ o → with_volume profile last ds o ≡ found l → IsLayout profile last blocks l
       by_volume None q e = absurd (let z : ⊥ = cc in z)
       by_volume (Some lv) q e = let p : (w : Placed) × IsPrevailing IsVolumeNumbered blocks w × Includes blocks w × (D w ≡ lv) × (is_volume (D w) ≡ true) =
           prevail_to D is_volume sequence_number IsVolumeNumbered blocks volume_of of_volume lv q in
-          let a : (x : Descriptor) × (unless_fault (volume_fault profile last lv) lv ≡ found x) × (with_maps profile last ds x (the_maps profile last x) ≡ found l) =
-          and_then-found (unless_fault (volume_fault profile last lv) lv) (λ v. with_maps profile last ds v (the_maps profile last v)) l e in
+          let a : (x : Descriptor) × (unless_fault (volume_fault profile last lv) lv ≡ found x) × (with_maps profile last ds x (all_maps profile last x) ≡ found l) =
+          and_then-found (unless_fault (volume_fault profile last lv) lv) (λ v. with_maps profile last ds v (all_maps profile last v)) l e in
           let b : (volume_fault profile last lv ≡ None) × (lv ≡ a.0) = unless_fault-found (volume_fault profile last lv) lv a.0 a.1 in
-          by_maps p.0 p.1 p.2 p.4 (ap (volume_fault profile last) p.3 ∙ b.0) (the_maps profile last (D p.0)) refl (ap (λ x. with_maps profile last ds x (the_maps profile last x)) (p.3 ∙ b.1) ∙ a.2)
+          by_maps p.0 p.1 p.2 p.4 (ap (volume_fault profile last) p.3 ∙ b.0) (all_maps profile last (D p.0)) refl (ap (λ x. with_maps profile last ds x (all_maps profile last x)) (p.3 ∙ b.1) ∙ a.2)
 
   layout_from : (l : Layout) → IsLayout profile last blocks l → layout_of profile last ds ≡ found l
   unfolding layout_of
   layout_from l h = ap (with_volume profile last ds) p.0
-      ∙ ap (λ o. and_then (unless_fault o (D h.block)) (λ v. with_maps profile last ds v (the_maps profile last v))) read.sound
+      ∙ ap (λ o. and_then (unless_fault o (D h.block)) (λ v. with_maps profile last ds v (all_maps profile last v))) read.sound
       ∙ ap (with_maps profile last ds (D h.block)) read.maps
-      ∙ ap (laid_out profile last (D h.block)) r.are
-      ∙ ap (λ o. unless_fault o (laid (D h.block) r.ps)) none
+      ∙ ap (λ o. with_found h.fields.found (laid_out profile last (D h.block) o)) r.are
+      ∙ made_by h.fields.found (D h.block) r.ps none
       ∙ ap found is
     where
       p : (logical_volume ds ≡ Some (D h.block)) × Includes blocks h.block
@@ -268,12 +289,13 @@ module _ (profile : Profile) (last : ℕ) (blocks : List Placed) (good : AreSoun
       none : partitions_fault profile last r.ps ≡ None
       none = λ i. first_fault ((not (r.contents i), Contents) ∷ (not (r.ranges i), PartitionRange) ∷ [])
 
-      is : laid (D h.block) r.ps ≡ l
+      is : laid h.fields.found (D h.block) r.ps ≡ l
       is = λ i. record {
         last = sym h.last_is i;
         revision = (read.revision ∙ sym h.revision) i;
         label = (read.label ∙ sym h.label) i;
         partitions = r.placed i;
+        found = sym h.found i;
         file_set = (read.file_set ∙ sym h.file_set) i;
         profile = sym h.profile_is i;
       }

@@ -1,6 +1,6 @@
 -- Anchors, partition descriptors and logical volume descriptors are read as their tables give them.
-use Rattle.std.proofs.Common.{◌≡◌, refl, sym, ◌∙◌, ap, subst, inl, inr, ◌⊎◌, ℕ, ◌+◌, ◌*◌, ◌≤◌, Bool, true, false, not, List, [], ◌∷◌, length, take, drop, cond, ◌||◌, arith, Option, Some, None, nat_eq, eqb-true}
-use Rattle.std.specs.Prelude.{codes, is_none}
+use Rattle.std.proofs.Common.{◌≡◌, refl, sym, ◌∙◌, ap, subst, inl, inr, ◌⊎◌, ℕ, ◌+◌, ◌-◌, ◌*◌, ◌≤◌, Bool, true, false, not, List, [], ◌∷◌, length, take, drop, cond, ◌||◌, arith, Option, Some, None, nat_eq, eqb-true}
+use Rattle.std.specs.Prelude.{codes, is_none, option_map}
 use Rattle.std.specs.Str.{bytes_eq}
 use Rattle.std.proofs.lemmas.Bool.{eq-eqb}
 use Rattle.std.proofs.lemmas.List.{drop-drop, length-drop}
@@ -17,13 +17,16 @@ use Rattle.udfs_osta.specs.Labels.{label_of}
 use Rattle.udfs_volume.specs.declared.anchors.AnchorExtents.{AnchorExtents}
 use Rattle.udfs_volume.specs.declared.faults.VolumeFault.TheVariants.{Domain, BlockSize, MapCount, MapKind}
 use Rattle.udfs_volume.specs.declared.profiles.Profile.{Profile}
-use Rattle.udfs_volume.specs.Layout.{PartitionMap, has_contents, has_domain, has_revision, map_count, read_maps, the_maps, unless_repeated, volume_fault}
+use Rattle.udfs_volume.specs.declared.found_maps.FoundMap.{FoundMap}
+use Rattle.udfs_volume.specs.declared.profiles.Profile.TheVariants.{Strict, Wide}
+use Rattle.udfs_volume.specs.Layout.{AllMaps, NumberedMap, PartitionMap, all_maps, before_maps, found_after, found_maps, has_contents, has_domain, has_revision, map_count, map_size, or_found, read_map, read_maps, the_maps, unless_repeated, volume_fault}
 use Rattle.udfs_volume.specs.Profiles.{revisions}
 use Rattle.udfs_volume.specs.Sequence.{Descriptor, extents_of}
 use Rattle.udfs_lawfulness.specs.Extents.{IsExtentAd}
 use Rattle.udfs_lawfulness.specs.EcmaLaws.{AnchorLaw, IsReadPartition, IsReadVolume, PartitionLaw, VolumeLaw, descriptor_in}
 use Rattle.udfs_lawfulness.specs.LawfulTables.{row, IsField}
-use Rattle.udfs_lawfulness.specs.Volumes.{AllDiffer, AreMaps, IsAnchorAt, IsEntity, IsPartitionAt, IsVolumeAt, PartitionFields, VolumeFields}
+use Rattle.udfs_lawfulness.specs.Volumes.{AllDiffer, AreAllMaps, AreFound, AreMaps, IsAnchorAt, IsEntity, IsPartitionAt, IsVolumeAt, PartitionFields, VolumeFields, map_total}
+use Rattle.udfs_lawfulness.proofs.FoundTables.{first_map, found_by, found_from, second_none}
 use Rattle.udfs_lawfulness.proofs.ExtentTables.{long_from_row, long_in_row}
 use Rattle.udfs_lawfulness.proofs.MapTables.{among_if, among_of, entity_is, entity_of, maps_are, maps_of, some-unless_repeated, unless_repeated-some}
 use Rattle.udfs_lawfulness.proofs.Reading.{field_by, field_fits, field_is, field_of, holds_by, holds_is, holds_of, inner_is, inner_part, inner_by}
@@ -184,6 +187,9 @@ module _ (profile : Profile) (last : ℕ) (bytes : List ℕ) (block : IsBlock by
   size_is : length bytes ≡ 2048
   size_is = block.whole
 
+  abbrev v_maps : AllMaps
+  v_maps = record { numbered = v.maps; found = v.found }
+
   abbrev domain : List ℕ
   domain = part bytes 216 32
 
@@ -211,13 +217,13 @@ module _ (profile : Profile) (last : ℕ) (bytes : List ℕ) (block : IsBlock by
     counts (either_if (nat_eq (map_count d) 1) (nat_eq (map_count d) 2) (not_not (nat_eq (map_count d) 1 || nat_eq (map_count d) 2) t3.0)),
   )
     where
-      t1 : ((not (has_domain d) || not (has_revision profile d)) ≡ false) × (first_fault ((not (nat_eq (uint32_at d.content 196) 2048), BlockSize) ∷ (not (nat_eq (map_count d) 1 || nat_eq (map_count d) 2), MapCount) ∷ (is_none (the_maps profile last d), MapKind) ∷ []) ≡ None)
+      t1 : ((not (has_domain d) || not (has_revision profile d)) ≡ false) × (first_fault ((not (nat_eq (uint32_at d.content 196) 2048), BlockSize) ∷ (not (nat_eq (map_count d) 1 || nat_eq (map_count d) 2), MapCount) ∷ (is_none (all_maps profile last d), MapKind) ∷ []) ≡ None)
       t1 = no_first (not (has_domain d) || not (has_revision profile d)) Domain _ e
 
-      t2 : (not (nat_eq (uint32_at d.content 196) 2048) ≡ false) × (first_fault ((not (nat_eq (map_count d) 1 || nat_eq (map_count d) 2), MapCount) ∷ (is_none (the_maps profile last d), MapKind) ∷ []) ≡ None)
+      t2 : (not (nat_eq (uint32_at d.content 196) 2048) ≡ false) × (first_fault ((not (nat_eq (map_count d) 1 || nat_eq (map_count d) 2), MapCount) ∷ (is_none (all_maps profile last d), MapKind) ∷ []) ≡ None)
       t2 = no_first (not (nat_eq (uint32_at d.content 196) 2048)) BlockSize _ t1.1
 
-      t3 : (not (nat_eq (map_count d) 1 || nat_eq (map_count d) 2) ≡ false) × (first_fault ((is_none (the_maps profile last d), MapKind) ∷ []) ≡ None)
+      t3 : (not (nat_eq (map_count d) 1 || nat_eq (map_count d) 2) ≡ false) × (first_fault ((is_none (all_maps profile last d), MapKind) ∷ []) ≡ None)
       t3 = no_first (not (nat_eq (map_count d) 1 || nat_eq (map_count d) 2)) MapCount _ t2.1
 
       counts : (nat_eq (map_count d) 1 ≡ true) ⊎ (nat_eq (map_count d) 2 ≡ true) → (map_count d ≡ 1) ⊎ (map_count d ≡ 2)
@@ -225,8 +231,8 @@ module _ (profile : Profile) (last : ℕ) (bytes : List ℕ) (block : IsBlock by
       counts (inr e) = inr (eqb-true (map_count d) 2 e)
 
   -- and back
-  sound_by : has_domain d ≡ true → has_revision profile d ≡ true → uint32_at d.content 196 ≡ 2048 → (map_count d ≡ 1) ⊎ (map_count d ≡ 2) → the_maps profile last d ≡ Some v.maps → volume_fault profile last d ≡ None
-  sound_by p q r c m = λ i. first_fault ((not (p i) || not (q i), Domain) ∷ (not (eq-eqb (uint32_at d.content 196) 2048 r i), BlockSize) ∷ (not (count c i), MapCount) ∷ (some_of (the_maps profile last d) v.maps m i, MapKind) ∷ [])
+  sound_by : has_domain d ≡ true → has_revision profile d ≡ true → uint32_at d.content 196 ≡ 2048 → (map_count d ≡ 1) ⊎ (map_count d ≡ 2) → all_maps profile last d ≡ Some v_maps → volume_fault profile last d ≡ None
+  sound_by p q r c m = λ i. first_fault ((not (p i) || not (q i), Domain) ∷ (not (eq-eqb (uint32_at d.content 196) 2048 r i), BlockSize) ∷ (not (count c i), MapCount) ∷ (some_of (all_maps profile last d) v_maps m i, MapKind) ∷ [])
     where
       or_true : (a b : Bool) → b ≡ true → (a || b) ≡ true
       or_true true b e = refl
@@ -236,9 +242,62 @@ module _ (profile : Profile) (last : ℕ) (bytes : List ℕ) (block : IsBlock by
       count (inl e) = ap (λ b. b || nat_eq (map_count d) 2) (eq-eqb (map_count d) 1 e)
       count (inr e) = or_true (nat_eq (map_count d) 1) (nat_eq (map_count d) 2) (eq-eqb (map_count d) 2 e)
 
+  -- where they are found in a file of the partition of the first
+  found_read : (n left : ℕ) (x : List ℕ) → map_count d ≡ n → uint32_at d.content 248 ≡ left → drop 424 (drop 16 bytes) ≡ x → found_maps Wide last d ≡ cond (nat_eq n 2) (found_after (read_map Wide last left x) left x) None
+  found_read n left x p q r = λ i. cond (nat_eq (p i) 2) (found_after (read_map Wide last (q i) (r i)) (q i) (r i)) None
+
   -- what the maps are read from
   reads : (n left : ℕ) (x : List ℕ) → map_count d ≡ n → uint32_at d.content 248 ≡ left → drop 424 (drop 16 bytes) ≡ x → the_maps profile last d ≡ unless_repeated (read_maps profile last n left x)
   reads n left x p q r = λ i. unless_repeated (read_maps profile last (p i) (q i) (r i))
+
+  -- what maps are by their tables
+  abbrev Told : Profile → List NumberedMap → Option FoundMap → Type 0
+  Told p ms f = (map_total ms f ≡ map_count d) × AreAllMaps p last (uint32_at bytes 264) table ms f × AllDiffer ms
+
+  told : (ms : List NumberedMap) (f : Option FoundMap) → (map_count d ≡ 1) ⊎ (map_count d ≡ 2) → all_maps profile last d ≡ Some (record { numbered = ms; found = f }) → Told profile ms f
+  told ms f c e = go (the_maps profile last d) refl e
+    where
+      some_is : (a b : AllMaps) → Some a ≡ Some b → a ≡ b
+      some_is a b q = cc
+
+      room : (map_count d ≡ 1) ⊎ (map_count d ≡ 2) → 64 * map_count d ≤ length table
+      room (inl e) = omega (arith, e, table_size)
+      room (inr e) = omega (arith, e, table_size)
+
+      own : (ns : List NumberedMap) → the_maps profile last d ≡ Some ns → Told profile ns None
+      own ns q = let r : (read_maps profile last (map_count d) (uint32_at bytes 264) table ≡ Some ns) × AllDiffer ns =
+          unless_repeated-some (read_maps profile last (map_count d) (uint32_at bytes 264) table) ns (sym (reads (map_count d) (uint32_at bytes 264) table refl (after_tag bytes 4 248) table_is) ∙ q) in
+          let m : (length ns ≡ map_count d) × AreMaps profile last (uint32_at bytes 264) table ns = maps_of profile last (map_count d) (uint32_at bytes 264) table ns (room c) r.0 in
+          (m.0, m.1, r.1)
+
+      by_count : (b : Bool) → nat_eq (map_count d) 2 ≡ b → cond b (found_after (read_map Wide last (uint32_at bytes 264) table) (uint32_at bytes 264) table) None ≡ Some (record { numbered = ms; found = f }) → Told Wide ms f
+      by_count true t e = let w : (m : NumberedMap) × (g : FoundMap) × (record { numbered = ms; found = f } ≡ record { numbered = m ∷ []; found = Some g }) × AreFound last (uint32_at bytes 264) table m g =
+          found_from last (uint32_at bytes 264) table (record { numbered = ms; found = f }) (omega (arith, table_size)) e in
+          subst (λ x. Told Wide x.numbered x.found) (sym w.2) (sym (eqb-true (map_count d) 2 t), w.3, (tt, tt))
+      by_count false t e = absurd (let z : ⊥ = cc in z)
+
+      by_profile : (p : Profile) → found_maps p last d ≡ Some (record { numbered = ms; found = f }) → Told p ms f
+      by_profile Strict e = absurd (let z : ⊥ = cc in z)
+      by_profile Wide e = by_count (nat_eq (map_count d) 2) refl (sym (found_read (map_count d) (uint32_at bytes 264) table refl (after_tag bytes 4 248) table_is) ∙ e)
+
+      go : (o : Option (List NumberedMap)) → the_maps profile last d ≡ o → or_found o (found_maps profile last d) ≡ Some (record { numbered = ms; found = f }) → Told profile ms f
+      go (Some ns) q e = subst (λ x. Told profile x.numbered x.found) (some_is (record { numbered = ns; found = None }) (record { numbered = ms; found = f }) e) (own ns q)
+      go None q e = by_profile profile e
+
+  -- and back
+  read_by : (p : Profile) (ms : List NumberedMap) (f : Option FoundMap) (left : ℕ) (x : List ℕ) → p ≡ profile → map_count d ≡ map_total ms f → uint32_at d.content 248 ≡ left → drop 424 (drop 16 bytes) ≡ x
+      → AreAllMaps p last left x ms f → AllDiffer ms → all_maps p last d ≡ Some (record { numbered = ms; found = f })
+  read_by p ms None left x same c l t h differ =
+      ap (λ o. or_found o (found_maps p last d)) ((λ i. unless_repeated (read_maps p last (c i) (l i) (t i))) ∙ ap unless_repeated (maps_are p last ms left x h) ∙ some-unless_repeated ms differ)
+  read_by Strict ms (Some f) left x same c l t h differ = absurd h
+  read_by Wide [] (Some f) left x same c l t h differ = absurd h
+  read_by Wide (m ∷ []) (Some f) left x same c l t h differ =
+      ap (λ o. or_found o (found_maps Wide last d)) ((λ i. unless_repeated (read_maps Wide last (c i) (l i) (t i)))
+      ∙ ap (λ o. unless_repeated (before_maps o (λ size. read_maps Wide last 1 (left - size) (drop size x)))) (first_map last left x m f h).0
+      ∙ ap (λ o. unless_repeated (option_map (λ ns. m ∷ ns) (before_maps o (λ size. Some [])))) (second_none last left x m f h (left - map_size m.0)))
+      ∙ found_read 2 left x c l t
+      ∙ found_by last left x m f h
+  read_by Wide (m ∷ n ∷ ms) (Some f) left x same c l t h differ = absurd h
 
   volume_from : IsReadVolume profile last bytes place v → IsVolumeAt profile last bytes place v
   volume_from h = record {
@@ -261,28 +320,21 @@ module _ (profile : Profile) (last : ℕ) (bytes : List ℕ) (block : IsBlock by
     file_set_is = long_in_row bytes 248 v.file_set block.bytes (omega (arith, size_is)) (ap long_ad_of (sym (drop-drop 232 16 bytes)) ∙ h.file_set);
     table_length = uint32_at bytes 264;
     table_length_is = holds_of bytes 264 4 (omega (arith, size_is));
-    count_is = holds_by bytes 268 4 (length v.maps) (omega (arith, size_is)) (sym (after_tag bytes 4 252) ∙ sym maps.0);
+    count_is = holds_by bytes 268 4 (map_total v.maps v.found) (omega (arith, size_is)) (sym (after_tag bytes 4 252) ∙ sym maps.0);
     few = few s.3;
     table = table;
     table_field = field_of bytes 440 1608 (omega (arith, size_is));
     maps_are = maps.1;
-    differ = read.1;
+    differ = maps.2;
   }
     where
       s : (has_domain d ≡ true) × (has_revision profile d ≡ true) × (uint32_at d.content 196 ≡ 2048) × ((map_count d ≡ 1) ⊎ (map_count d ≡ 2))
       s = sound_tests h.sound
 
-      read : (read_maps profile last (map_count d) (uint32_at bytes 264) table ≡ Some v.maps) × AllDiffer v.maps
-      read = unless_repeated-some (read_maps profile last (map_count d) (uint32_at bytes 264) table) v.maps (sym (reads (map_count d) (uint32_at bytes 264) table refl (after_tag bytes 4 248) table_is) ∙ h.maps)
+      maps : Told profile v.maps v.found
+      maps = told v.maps v.found s.3 h.maps
 
-      room : (map_count d ≡ 1) ⊎ (map_count d ≡ 2) → 64 * map_count d ≤ length table
-      room (inl e) = omega (arith, e, table_size)
-      room (inr e) = omega (arith, e, table_size)
-
-      maps : (length v.maps ≡ map_count d) × AreMaps profile last (uint32_at bytes 264) table v.maps
-      maps = maps_of profile last (map_count d) (uint32_at bytes 264) table v.maps (room s.3) read.0
-
-      few : (map_count d ≡ 1) ⊎ (map_count d ≡ 2) → (length v.maps ≡ 1) ⊎ (length v.maps ≡ 2)
+      few : (map_count d ≡ 1) ⊎ (map_count d ≡ 2) → (map_total v.maps v.found ≡ 1) ⊎ (map_total v.maps v.found ≡ 2)
       few (inl e) = inl (maps.0 ∙ e)
       few (inr e) = inr (maps.0 ∙ e)
 
@@ -307,16 +359,15 @@ module _ (profile : Profile) (last : ℕ) (bytes : List ℕ) (block : IsBlock by
       revision_taken : has_revision profile d ≡ true
       revision_taken = among_of (revisions profile) (uint16_at d.content 224) (subst (Includes (revisions profile)) (sym revision) (included (revisions profile) v.revision h.revision_taken))
 
-      count : map_count d ≡ length v.maps
-      count = after_tag bytes 4 252 ∙ holds_is bytes 268 4 (length v.maps) h.count_is
+      count : map_count d ≡ map_total v.maps v.found
+      count = after_tag bytes 4 252 ∙ holds_is bytes 268 4 (map_total v.maps v.found) h.count_is
 
-      few : (length v.maps ≡ 1) ⊎ (length v.maps ≡ 2) → (map_count d ≡ 1) ⊎ (map_count d ≡ 2)
+      few : (map_total v.maps v.found ≡ 1) ⊎ (map_total v.maps v.found ≡ 2) → (map_count d ≡ 1) ⊎ (map_count d ≡ 2)
       few (inl e) = inl (count ∙ e)
       few (inr e) = inr (count ∙ e)
 
-      maps : the_maps profile last d ≡ Some v.maps
-      maps = reads (length v.maps) h.table_length h.table count (after_tag bytes 4 248 ∙ holds_is bytes 264 4 h.table_length h.table_length_is) (table_is ∙ field_is bytes 440 1608 h.table h.table_field)
-          ∙ ap unless_repeated (maps_are profile last v.maps h.table_length h.table h.maps_are) ∙ some-unless_repeated v.maps h.differ
+      maps : all_maps profile last d ≡ Some v_maps
+      maps = read_by profile v.maps v.found h.table_length h.table refl count (after_tag bytes 4 248 ∙ holds_is bytes 264 4 h.table_length h.table_length_is) (table_is ∙ field_is bytes 440 1608 h.table h.table_field) h.maps_are h.differ
 
 pub volume_law : VolumeLaw
 volume_law profile last bytes block place v = (λ h. volume_from profile last bytes block place v h, λ h. volume_to profile last bytes block place v h)
