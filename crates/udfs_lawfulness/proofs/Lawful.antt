@@ -2,6 +2,7 @@
 use Rattle.std.proofs.Common.{◌≡◌, refl, sym, ◌∙◌, ap, subst, ℕ, true, List, [], ◌∷◌, length, arith, Some, None}
 use Rattle.std.specs.Prelude.{Contains, slice_get}
 use Rattle.std.proofs.lemmas.List.{length-map}
+use Rattle.udfs_walk.proofs.FoundPlaces.{no_copies}
 use Rattle.udfs_lattice.specs.declared.facts.Fact.TheVariants.{Known}
 use Rattle.udfs_tag.specs.Crc.{polynomial, reduced, crc_of}
 use Rattle.udfs_tag.specs.Tags.{tag_of}
@@ -45,6 +46,7 @@ forms_volume = record {
   finds = finds;
   layout = forms_layout_is_lawful;
   sparing = forms_sparing_is_lawful;
+  copies = no_copies _ _ refl;
 }
 
 forms_are_lawful : IsLawfulBy Strict many_forms 600

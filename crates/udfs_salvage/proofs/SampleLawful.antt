@@ -1,5 +1,6 @@
 -- The sample volumes are lawful: what the layers below say of it, joined.
 use Rattle.std.proofs.Common.{◌≡◌, refl, ap, ◌∙◌, [], ◌∷◌}
+use Rattle.udfs_walk.proofs.FoundPlaces.{no_copies}
 use Rattle.udfs_volume.specs.declared.profiles.Profile.{Profile}
 use Rattle.udfs_volume.specs.declared.profiles.Profile.TheVariants.{Strict, Wide}
 use Rattle.udfs_lattice.specs.Volumes.{Blocks, Volume}
@@ -55,6 +56,7 @@ sample_is_whole maps = record {
     finds = finds maps;
     layout = (lawful_layout maps).is_lawful;
     sparing = (sample_places_are_lawful maps (sample_contents maps)).1;
+    copies = no_copies _ _ refl;
   };
   tree = (tree_of maps).0;
 }

@@ -1,6 +1,7 @@
 -- The sample volume with a map of type 1 whose file A has 5,000 bytes and an extent of 4,500, which ends in its third block: it is lawful by the
 -- wide rules, which read A by the tail, and not by the strict ones.
 use Rattle.std.proofs.Common.{◌≡◌, refl, sym, ◌∙◌, ap, subst, ℕ, true, [], ◌∷◌, Some, cond, nat_eq}
+use Rattle.udfs_walk.proofs.FoundPlaces.{no_copies}
 use Rattle.udfs_lattice.specs.States.{IsBlock}
 use Rattle.udfs_lattice.specs.Volumes.{Blocks, Volume, complete}
 use Rattle.udfs_tag.specs.Crc.{polynomial, reduced, crc_of}
@@ -85,6 +86,7 @@ strict_volume = record {
   finds = finds;
   layout = lawful_layout.is_lawful;
   sparing = (sample_places_are_lawful one_type1 contents).1;
+  copies = no_copies _ _ refl;
 }
 
 to_a : walked strict_view sample_root (0 ∷ []) ≡ Some at_a

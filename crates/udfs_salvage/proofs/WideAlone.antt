@@ -1,5 +1,6 @@
 -- The altered sample volumes, of revision 2.00, and of 1.02 with packets of 64 blocks, are lawful by the wide rules, and not by the strict ones.
 use Rattle.std.proofs.Common.{◌≡◌, refl, sym, ◌∙◌, ap, subst, inl, inr, ℕ, true, [], ◌∷◌, drop}
+use Rattle.udfs_walk.proofs.FoundPlaces.{no_copies}
 use Rattle.udfs_lattice.specs.Volumes.{Blocks, Volume, complete}
 use Rattle.udfs_lattice.proofs.Inclusion.{Includes, included}
 use Rattle.udfs_tag.specs.Crc.{polynomial, reduced, crc_of}
@@ -110,6 +111,7 @@ is_volume a = record {
   finds = finds a;
   layout = altered_is_lawful a (contents a);
   sparing = record { tables = λ p i. tables a p (included (altered_layout a).partitions p i); placed = (space_of a, space_is a) };
+  copies = no_copies (complete (volume a) 600) (altered_layout a) refl;
 }
 
 nodes : (a : Altered) → AreNodesIn (view (blocks a) (space_of a)) (maps_of a)

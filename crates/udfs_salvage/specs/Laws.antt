@@ -11,6 +11,7 @@ use Rattle.udfs_volume.specs.Sequence.{anchor_places}
 use Rattle.udfs_volume.specs.Laws.{IsLawfulLayoutBy, IsSequenceGroup, IsAnswerOf, ListsGroup, valid_anchors}
 use Rattle.udfs_space.specs.Places.{place}
 use Rattle.udfs_space.specs.Laws.{IsLawfulSparing, IsSparingGroup}
+use Rattle.udfs_walk.specs.FoundLaws.{IsFoundGroup, first_space}
 use Rattle.udfs_walk.specs.FoundPartitions.{HasCopies}
 use Rattle.udfs_salvage.specs.Found.{Found, volume_by}
 
@@ -25,9 +26,11 @@ pub record IsLawfulVolumeBy (profile : Profile) (volume : Volume) (last : ℕ) :
   -- the metadata file and its mirror say the same, if there are such
   pub copies : HasCopies (complete volume last) found_is.layout
 
--- a group of blocks of which one has to be known: one of the layout, one of the sparing tables, or the file set's block
+-- a group of blocks of which one has to be known: one of the layout, one of the sparing tables, one of the file by which a partition is found, or the file
+-- set's block
 abbrev pub IsVolumeGroup : Volume → ℕ → Found → List ℕ → Type 0
 IsVolumeGroup volume last f group = IsSequenceGroup volume last group ⊎ IsSparingGroup f.layout.partitions group
+    ⊎ IsFoundGroup volume last f.layout (first_space f.space) group
     ⊎ ((n : ℕ) × (place f.space f.layout.file_set.reference f.layout.file_set.block ≡ Some n) × (group ≡ n ∷ []))
 
 -- what is found is what is found with all known, or one of these groups is unread

@@ -8,6 +8,7 @@ pub mod RunLemmas
 pub mod RouteOrder
 pub mod Trees
 pub mod TargetLemmas
+pub mod FoundPlaces
 pub mod Owed
 pub mod NamedLemmas
 pub mod KnownGaps

@@ -32,3 +32,4 @@ pub mod TreeLaws
 pub mod KnownLaws
 pub mod TreeSample
 pub mod FoundPartitions
+pub mod FoundLaws
