@@ -279,8 +279,6 @@ but
 $ list -v --last 600 disc.tab
 remarked volume: UDF 1.50: add --profile wide\n
 
-disc type1
-
 write 32 217 *OSTA CD-UDF
 write 48 217 *OSTA CD-UDF
 but

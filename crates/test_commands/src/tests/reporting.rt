@@ -308,9 +308,9 @@ nodes node 0 whole directory 120 2001-07-04T09:30:00.000000Z /\nnode 1 whole fil
 
 = a_virtual_partition
 # Its table is the last block (UDF 1.50 2.2.10); the strict rules do not read it.
+disc virtual
 let WHOLE node 0 whole directory 120 2001-07-04T09:30:00.000000Z /\nnode 1 whole file 5000 2001-07-04T09:30:00.000000Z /A\nnode 2 whole file 2 2001-07-04T09:30:00.000000Z /B\n
 
-disc virtual
 but
 $ report --last 600 disc.tab
 line volume fault 8 MapKind
@@ -339,10 +339,10 @@ $ report --last 600 --profile wide disc.tab
 line volume fault 17 FoundTable
 
 = a_metadata_partition
-# Either entry names its blocks; where the mirror has blocks of its own, either copy of a block is read (UDF 2.50 2.2.13).
+# Either entry names its blocks (UDF 2.50 2.2.13).
+disc metadata
 let WHOLE node 0 whole directory 120 2001-07-04T09:30:00.000000Z /\nnode 1 whole file 5000 2001-07-04T09:30:00.000000Z /A\nnode 2 whole file 2 2001-07-04T09:30:00.000000Z /B\n
 
-disc metadata
 but
 $ report --last 600 disc.tab
 line volume fault 5 Domain
@@ -364,8 +364,12 @@ but 302 303
 $ report --last 600 --profile wide disc.tab
 line volume holes 302 303
 
+= a_mirror_with_blocks_of_its_own
+# Either copy of a block is read (UDF 2.50 2.2.13).
 disc mirror
-but 302 314 335
+let WHOLE node 0 whole directory 120 2001-07-04T09:30:00.000000Z /\nnode 1 whole file 5000 2001-07-04T09:30:00.000000Z /A\nnode 2 whole file 2 2001-07-04T09:30:00.000000Z /B\n
+
+but 302 335
 $ report --last 600 --profile wide disc.tab
 nodes-have node 1 torn unread - - /A\nmissing 335\n
 
