@@ -1,6 +1,6 @@
 -- A partition that is found in a file of another one.
 use Rattle.std.proofs.Common.{◌≡◌, refl, sym, ◌∙◌, ap, subst, ℕ, ◌+◌, ◌-◌, ◌%◌, ◌<◌, ◌≤◌, ◌⊎◌, inl, inr, Bool, true, false, cond, List, [], ◌∷◌, ◌++◌, All, length, arith, slice_index_or, slice_get, nat_eq, nat_lt, Option, Some, None}
-use Rattle.std.specs.Prelude.{zero, suc, find, flat_map, option_map}
+use Rattle.std.specs.Prelude.{zero, suc, find, flat_map, option_map, slice_index}
 use Rattle.std.specs.List.{range_with_len}
 use Rattle.std.proofs.lemmas.List.Concat.{flat_map-cons}
 use Rattle.std.proofs.lemmas.List.Elements.{All-nil, All-cons}
@@ -157,6 +157,11 @@ got_number ns ms i n d l e = sym (ap (λ x. slice_get x i) d) ∙ at ns i l e
     at [] j l e = absurd (let z : ⊥ = omega (arith, l) in z)
     at (x ∷ xs) zero l e = ap Some (sym e)
     at (x ∷ xs) (suc j) l e = at xs j (omega (arith, l)) e
+
+pub at_index : (ns : List ℕ) (b : ℕ) → b < length ns → slice_get ns b ≡ Some (slice_index ns b)
+at_index [] b l = absurd (let z : ⊥ = omega (arith, l) in z)
+at_index (n ∷ ns) zero l = refl
+at_index (n ∷ ns) (suc b) l = at_index ns b (omega (arith, l))
 
 -- the packet of a block, by its number and the place of that
 pub packet_of : (first : Span) (ns : List ℕ) (b n : ℕ) (o : Option ℕ) → slice_get ns b ≡ Some n → o ≡ place_in first n → packet_at b o ≡ found_packet first ns b

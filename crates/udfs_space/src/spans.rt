@@ -1,13 +1,13 @@
 //! Where the logical blocks of one partition are.
 
-ghost use Rattle.std.specs.Prelude.{◌≡◌, ◌≤◌, ◌<◌, ℕ, All, IfOk, IfSome, IsErrOf, find, is_none, length, nat_eq, slice_get};
+ghost use Rattle.std.specs.Prelude.{◌≡◌, ◌≤◌, ◌<◌, ◌++◌, ℕ, All, IfOk, IfSome, IsErrOf, find, is_none, length, nat_eq, slice_get};
 ghost use Rattle.std.specs.List.{list_any, range_with_len};
 ghost use Rattle.udfs_volume.specs.Laws.{IsBoundedPartition};
 ghost use Rattle.udfs_volume.specs.Layout.{blocks_in};
 ghost use Rattle.udfs_volume.specs.LayoutParts.{partition_now};
 ghost use Rattle.udfs_volume.specs.Parts.{sparable_now};
 ghost use Rattle.udfs_volume.specs.Seen.{IfGot, Sees};
-ghost use Rattle.udfs_space.specs.FoundSpans.{found_span};
+ghost use Rattle.udfs_space.specs.FoundSpans.{found_span, packet_at};
 ghost use Rattle.udfs_space.specs.Parts.{AreSound, FitAll, IsSound, IsSoundEntry, OriginalsRise, is_other};
 ghost use Rattle.udfs_space.specs.Places.{StandBeside, place_in};
 ghost use Rattle.udfs_space.specs.Sparing.{counted, span, spared};
@@ -93,12 +93,7 @@ impl Span {
     {
         let mut spared = Vec::new(alloc);
         for b in 0..blocks.len() {
-            if let Some(mapped) = first.place(blocks[b]) {
-                spared.push(SparingEntry {
-                    original: b as u32,
-                    mapped,
-                })?;
-            }
+            push_packet(&mut spared, first, b as u32, blocks[b])?;
         }
         Ok(Span {
             start: 0,
@@ -168,6 +163,21 @@ impl Span {
             return self.length - block;
         }
         (self.packet - block % self.packet).min(self.length - block)
+    }
+}
+
+/// Adds the packet of one block of a partition that is found in a file, which is this logical block of the first one, if that has a place.
+fn push_packet(
+    spared: &mut Vec<SparingEntry>,
+    first: &Span,
+    original: u32,
+    block: u32,
+) -> Result<(), AllocError>
+    ensures { IfOk result (λ done. spared.new.items ≡ spared.old.items ++ packet_at original (place_in first.now block)) }
+{
+    match first.place(block) {
+        Some(mapped) => spared.push(SparingEntry { original, mapped }),
+        None => Ok(()),
     }
 }
 
