@@ -35,8 +35,7 @@ pub(crate) struct Span {
 
 impl Model for Span {
     ghost use Rattle.udfs_space.specs.Sparing as sparing;
-    ghost use Rattle.udfs_space.specs.FoundSpans.{found_span};
-ghost use Rattle.udfs_space.specs.Parts.{IsSound};
+    ghost use Rattle.udfs_space.specs.Parts.{IsSound};
 
     ghost Value = { sparing.Span };
 
