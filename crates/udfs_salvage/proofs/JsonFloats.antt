@@ -20,7 +20,7 @@ use Rattle.udfs_salvage.specs.Reports.{Report}
 use Rattle.udfs_salvage.specs.Texts.{has_two}
 use Rattle.udfs_walk.specs.Rereads.{holes_of, missing_of}
 use Rattle.udfs_salvage.specs.JsonNodes.{count, hole_data, list_data, node_data, node_in, size_data, tail_in, time_data, unnamed_data}
-use Rattle.udfs_salvage.specs.JsonReports.{label_data, label_data_of, map_name, nodes_data, open_members, packet_length_of, report_data_by, reread_data, volume_data, with_map_members, with_packet}
+use Rattle.udfs_salvage.specs.JsonReports.{label_data, label_data_of, map_names, nodes_data, open_members, packet_length_of, report_data_by, reread_data, volume_data, with_map_members, with_packet}
 
 pub none_in : {A : Type 0} (f : A → Data) (xs : List A) → ((x : A) → has_float (f x) ≡ false) → has_float (list_data f xs) ≡ false
 none_in f [] h = refl
@@ -54,16 +54,16 @@ pub reread_none : (b : Blocks) (n : ℕ) → has_float (reread_data b n) ≡ fal
 unfolding reread_data
 reread_none b n = refl
 
-open_none : (ps : List Partition) (packet : Option ℕ) (r : ℕ) → has_float (object (with_map_members ps (with_packet packet (open_members r)))) ≡ false
+open_none : (ns : List (List ℕ)) (packet : Option ℕ) (r : ℕ) → has_float (object (with_map_members ns (with_packet packet (open_members r)))) ≡ false
 open_none [] None r = refl
 open_none [] (Some n) r = refl
 open_none (p ∷ []) None r = refl
 open_none (p ∷ []) (Some n) r = refl
-open_none (p ∷ q ∷ ps) None r = rw (none_in (λ x. string (map_name x.kind)) (p ∷ q ∷ ps) (λ x. refl)) refl
-open_none (p ∷ q ∷ ps) (Some n) r = rw (none_in (λ x. string (map_name x.kind)) (p ∷ q ∷ ps) (λ x. refl)) refl
+open_none (p ∷ q ∷ ps) None r = rw (none_in string (p ∷ q ∷ ps) (λ x. refl)) refl
+open_none (p ∷ q ∷ ps) (Some n) r = rw (none_in string (p ∷ q ∷ ps) (λ x. refl)) refl
 
 pub volume_none : (a : Answer Found) → has_float (volume_data a) ≡ false
-volume_none (found f) = open_none f.layout.partitions (packet_length_of f.layout.partitions) f.layout.revision
+volume_none (found f) = open_none (map_names f.layout.partitions f.layout.found) (packet_length_of f.layout.partitions) f.layout.revision
 volume_none (holes blocks) = rw (none_in count blocks (λ x. refl)) refl
 volume_none (faulty f) = refl
 

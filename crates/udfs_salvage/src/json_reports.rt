@@ -53,18 +53,18 @@ fn map_values(alloc: Global, partitions: &[Partition]) -> Result<Vec<Value>, All
 }
 
 /// The names of the partitions' maps, and of that of the one that is found in a file.
-fn maps_value(
+fn all_values(
     alloc: Global,
     partitions: &[Partition],
     found: Option<FoundMap>,
-) -> Result<Value, AllocError>
-    ensures { IfOk result (λ v. view v ≡ list_data string (map_names (map partition_now partitions.now) found)) }
+) -> Result<Vec<Value>, AllocError>
+    ensures { IfOk result (λ vs. map view vs.items ≡ map string (map_names (map partition_now partitions.now) found)) }
 {
     let mut items = map_values(alloc, partitions)?;
     if let Some(map) = found {
         items.push(Value::try_from_str(alloc, found_name(map))?)?;
     }
-    Ok(Value::Array(items))
+    Ok(items)
 }
 
 /// The packet length of the first sparable map.
@@ -103,16 +103,15 @@ fn with_maps(
 ) -> Result<Map<String, Value>, AllocError>
     ensures { IfOk result (λ with. members_view with.entries ≡ put_maps (map_names (map partition_now partitions.now) found) (members_view members.entries)) }
 {
-    if partitions.len() >= 2 || found.is_some() {
-        let maps = maps_value(alloc, partitions, found)?;
-        put(&mut members, alloc, "maps", maps)?;
+    let mut values = all_values(alloc, partitions, found)?;
+    if values.len() >= 2 {
+        put(&mut members, alloc, "maps", Value::Array(values))?;
         return Ok(members);
     }
-    let Some(first) = partitions.first() else {
+    let Some(value) = values.pop() else {
         return Ok(members);
     };
-    let map = map_value(alloc, first)?;
-    put(&mut members, alloc, "map", map)?;
+    put(&mut members, alloc, "map", value)?;
     Ok(members)
 }
 

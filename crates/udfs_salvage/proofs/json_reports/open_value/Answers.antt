@@ -2,7 +2,7 @@ use Rattle.std.proofs.Common.{ap, map}
 use Rattle.serde_json.proofs.Views.{view-Object}
 use Rattle.serde_json.specs.Data.{object}
 use Rattle.udfs_volume.specs.LayoutParts.{partition_now}
-use Rattle.udfs_salvage.specs.JsonReports.{packet_length_of}
+use Rattle.udfs_salvage.specs.JsonReports.{map_names, packet_length_of}
 use Rattle.udfs_salvage.proofs.JsonVolumes.{volume_members}
 use Rattle.udfs_salvage.proofs.json_reports.open_value.Goals as goal
 
@@ -23,4 +23,4 @@ returns c =
       c.packet_of-packet.ensures,
       c.deref.ensures.value,
       c.deref-2.ensures.value,
-    ) (ap object (volume_members ps (packet_length_of ps) parts.revision))
+    ) (ap object (volume_members (map_names ps parts.found) (packet_length_of ps) parts.revision))
