@@ -6,4 +6,4 @@ use Rattle.udfs_salvage.proofs.Putting.{puts_same, puts_with}
 use Rattle.udfs_salvage.proofs.lines.put_open.Goals as goal
 
 pub returns : goal.returns
-returns g c = puts_with (puts_with c.put_revision.ensures (puts_same (ap (λ ps. map_texts (map partition_now ps)) c.deref.ensures.value) c.put_maps.ensures)) c.put.ensures
+returns g c = puts_with (puts_with c.put_revision.ensures (puts_with (puts_same (ap (λ ps. map_texts (map partition_now ps)) c.deref.ensures.value) c.put_maps.ensures) c.put_found.ensures)) c.put.ensures
