@@ -175,7 +175,10 @@ fn push_packet(
     ensures { IfOk result (λ done. spared.new.items ≡ spared.old.items ++ packet_at original (place_in first.now block)) }
 {
     match first.place(block) {
-        Some(mapped) => spared.push(SparingEntry { original, mapped }),
+        Some(mapped) => {
+            spared.push(SparingEntry { original, mapped })?;
+            Ok(())
+        }
         None => Ok(()),
     }
 }
