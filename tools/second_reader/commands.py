@@ -9,7 +9,7 @@ from volume import STRICT, WIDE
 def run(words):
     """What a command with these words prints, what it prints on standard error, and its status."""
     parser = argparse.ArgumentParser()
-    parser.add_argument("command", choices=("report", "json", "reread", "list", "remarks", "extract", "merge"))
+    parser.add_argument("command", choices=("report", "json", "reread", "list", "remarks", "guarantee", "extract", "merge"))
     parser.add_argument("--last", type=int, default=0)
     parser.add_argument("--profile", choices=("strict", "wide"), default="strict")
     parser.add_argument("--ddrescue", nargs=2, action="append", default=[])
@@ -34,6 +34,8 @@ def run(words):
             text = report.list(asked.torn, asked.paths, "\0" if asked.null else "\n")
         elif asked.command in ("reread", "remarks"):
             text = "".join("%s\n" % line for line in (report.reread if asked.command == "reread" else report.remarks))
+        elif asked.command == "guarantee":
+            text = "%s %d\n" % report.guarantee()
         else:
             text = report.json() if asked.command == "json" else report.text()
         return text, "", 0 if good else 1

@@ -32,6 +32,7 @@ class Entry:
             raise NodeFault(LENGTHS)
         self.area = data[fixed + attributes : fixed + attributes + descriptors]
         self.size, self.time, self.type = number(data, 56, 8), time_of(data[time : time + 12]), data[27]
+        self.cut = False  # whether its list of descriptors goes on in a block that is not known
 
     def width(self):
         return 8 if self.form == 0 else 16
@@ -71,6 +72,7 @@ class Entry:
                 continued += 1
                 area, at = self.continuation(descriptor, continued), 0
                 if isinstance(area, int):
+                    self.cut = True
                     return body + [Stretch(self.size - covered, None, None, area)]
                 continue
             used = min(descriptor.length, self.size - covered)
@@ -172,7 +174,7 @@ class Found:
 
     def __init__(self, volume, reference, block):
         self.kind, self.size, self.time, self.standing = "unread", None, None, "whole"
-        self.missing, self.holes, self.body, self.names, self.moved, self.tail = [], [], [], [], False, False
+        self.missing, self.holes, self.body, self.names, self.moved, self.tail, self.cut = [], [], [], [], False, False, False
         place = volume.place(reference, block)
         if not volume.known(place):
             self.standing, self.missing = "torn", [place]
@@ -181,6 +183,7 @@ class Found:
             entry = Entry(volume, reference, block, volume.known(place))
             self.kind, self.size, self.time = entry.kind(), entry.size, entry.time
             self.body, self.tail = entry.body()
+            self.cut = entry.cut
             if self.kind == "directory":
                 self.names, fault, self.moved = names_of(self.body, self.size, volume.rules["anywhere"])
                 if fault:

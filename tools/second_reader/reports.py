@@ -5,6 +5,7 @@ import re
 
 from files import Walk
 from inputs import LAST_NUMBER, Refused
+from lawful import guarantee
 from remarks import of_folders, remarks
 from volume import Holes, VOLUME_FAULTS, Volume, VolumeFault, WIDE
 
@@ -20,7 +21,7 @@ class Report:
         if past:
             raise Refused("fault 2 PastEnd %d" % min(past))
         self.table, self.last, self.rules = table, last, rules
-        self.nodes, self.unnamed, self.reread, self.label, self.maps = [], [], [], None, []
+        self.nodes, self.unnamed, self.reread, self.label, self.maps, self.found = [], [], [], None, [], None
         volume = Volume(table, last, rules)
         self.remarks = remarks(volume)
         try:
@@ -33,6 +34,7 @@ class Report:
             self.volume = {"state": "fault", "fault": fault.args[0], "name": VOLUME_FAULTS[fault.args[0] - 1]}
             return
         walk = Walk(volume)
+        self.found = walk.find
         folders = [node for node in walk.nodes if node.kind == "directory" and node.standing != "loop"]
         self.remarks += of_folders(sum(walk.find(*node.icb).moved for node in folders))
         self.nodes, self.unnamed, self.label, self.maps = walk.nodes, walk.unnamed, volume.label, volume.maps
@@ -45,6 +47,10 @@ class Report:
 
     def good(self):
         return bool(self.nodes) and all(node.standing == "whole" for node in self.nodes)
+
+    def guarantee(self):
+        volume = Volume(self.table, self.last, self.rules)
+        return guarantee(volume, self.volume["state"], self.reread, self.nodes, self.found)
 
     def volume_line(self):
         if self.volume["state"] == "holes":
