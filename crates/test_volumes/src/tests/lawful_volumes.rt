@@ -104,6 +104,41 @@ static CONTINUED: [Row; 4] = [
 /// The entry of the file B is in block 520, where the first packet of the second partition is mapped.
 static TWO_MAPS: [Row; 1] = [(&[], &[], "lawful")];
 
+/// The volume with descriptors of many forms, whose files are in a packet that is spared.
+static FORMS: [Row; 13] = [
+    (&[], &[], "lawful"),
+
+    // the bytes of the file A decide nothing, but the block in which its descriptors go on does
+    (&[], &[406, 409], "lawful"),
+    (&[], &[408], "open [408]"),
+    (&[], &[406, 408], "open [406, 408]"),
+
+    // each block of the directory, and each information control block
+    (&[], &[402], "open [402]"),
+    (&[], &[403], "open [403]"),
+    (&[], &[401], "open [401]"),
+    (&[], &[404, 405], "open [404, 405]"),
+
+    // a byte that the CRC of the entry of A covers
+    (&[(404, 180, &[7])], &[], "Tag /A"),
+
+    // the tag of the allocation extent names another place
+    (&[(408, 12, &[9])], &[], "Chain /A"),
+
+    // the name β leads to the root
+    (&[(402, 2044, &[1])], &[], "loop /\u{3b2}"),
+
+    // two names are A, one in units of 8 bits and one in units of 16
+    (&[(403, 11, &[0, 0x41])], &[406], "same name /A"),
+
+    // the copies of the sparing table map the packet to different blocks
+    (
+        &[(200, 60, &[0x91])],
+        &[],
+        "Tables { one: 100, other: 200 }",
+    ),
+];
+
 static UNREAD: [Row; 1] = [(&[], &[520, 200], "open [200, 520]")];
 
 static NOTHING_KNOWN: [Row; 1] = [(&[], &[], "open [256, 344, 600]")];
@@ -114,6 +149,7 @@ fn volumes_are_lawful(rt: HostRuntime) -> Result<(), Fail> {
     check_alike(&rt, rt.alloc(), Start::Type1, asked, &TYPE1)?;
     check(&rt, rt.alloc(), Start::Continued, asked, &CONTINUED)?;
     check(&rt, rt.alloc(), Start::TwoMaps, asked, &TWO_MAPS)?;
+    check_alike(&rt, rt.alloc(), Start::Forms, asked, &FORMS)?;
     check_by(
         &rt,
         rt.alloc(),

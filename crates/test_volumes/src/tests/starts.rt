@@ -24,6 +24,8 @@ pub enum Start {
     MisplacedNames,
     /// The same with the last 32 bytes in block 282, by an extent of their own.
     NamesApart,
+    /// Sparable, of UDF 2.01, with descriptors of many forms: see [`with_many_forms`].
+    Forms,
 }
 
 impl Start {
@@ -50,6 +52,7 @@ impl Start {
                 disc.write(&APART)?;
                 Ok(disc)
             }
+            Start::Forms => with_many_forms(alloc),
         }
     }
 }
@@ -121,5 +124,75 @@ fn named(alloc: Global, last_tag: &[u8; 16], second: u32) -> Result<Disc, AllocE
     disc.write_at(second, 0, &last_tag[8..])?;
     disc.write_at(second, 8, &[1, 0, 0, 2, 0, 8, 0, 0, 4])?;
     disc.write_at(second, 30, b"\x08B")?;
+    Ok(disc)
+}
+
+/// The root in block 401 is an extended entry with a long descriptor, and its directory is in the blocks 402 and 403: `A`, with 1940 bytes of
+/// implementation use before its name, and `β`, a name of one unit of 16 bits, which begins in the first of them and ends in the second. The entry of `A`
+/// in block 404 has a CRC over 208 bytes and long descriptors: of block 406, of one that is not recorded, and of block 408, where they go on with
+/// ten bytes of block 409. The entry of `β` in block 405 has its bytes itself.
+const FORMS: [Bytes; 45] = [
+    (32, 240, &[1, 2]),
+    (48, 240, &[1, 2]),
+    (33, 25, b"+NSR03"),
+    (49, 25, b"+NSR03"),
+    (401, 0, &[0x0a, 1, 3, 0, 0x0f, 0, 0, 0, 0, 0, 0, 0, 1]),
+    (401, 20, &[4]),
+    (401, 27, &[4]),
+    (401, 34, &[1]),
+    (401, 56, &[0x10, 8]),
+    (401, 92, &STAMP),
+    (401, 212, &[16]),
+    (401, 216, &[0x10, 8, 0, 0, 2]),
+    (402, 0, &TAG_OF_VERSION_3),
+    (402, 16, &[1, 0, 0x0a]),
+    (402, 20, &[0, 8, 0, 0, 1]),
+    (402, 40, &TAG_OF_VERSION_3),
+    (402, 56, &[1, 0, 0, 2]),
+    (402, 60, &[0, 8, 0, 0, 4]),
+    (402, 76, &[0x94, 7]),
+    (402, 2018, b"\x08A"),
+    (402, 2020, &TAG_OF_VERSION_3),
+    (402, 2036, &[1, 0, 0, 3]),
+    (402, 2040, &[0, 8, 0, 0, 5]),
+    (403, 10, &[16, 3, 0xb2]),
+    (404, 0, &[5, 1, 3, 0, 0xe8, 0, 0, 0, 0xab, 0x60, 0xd0, 0, 4]),
+    (404, 20, &[4]),
+    (404, 27, &[5]),
+    (404, 34, &[1]),
+    (404, 56, &[0x0a, 0x10]),
+    (404, 84, &STAMP),
+    (404, 172, &[0x30]),
+    (404, 176, &[0, 8, 0, 0, 6]),
+    (404, 192, &[0, 8, 0, 0x40, 7]),
+    (404, 208, &[0, 8, 0, 0xc0, 8]),
+    (405, 0, &[5, 1, 3, 0, 0x0e, 0, 0, 0, 0, 0, 0, 0, 5]),
+    (405, 20, &[4]),
+    (405, 27, &[5]),
+    (405, 34, &[3]),
+    (405, 56, &[2]),
+    (405, 84, &STAMP),
+    (405, 172, &[2]),
+    (405, 176, b"Hi"),
+    (408, 0, &[2, 1, 3, 0, 0x0e, 0, 0, 0, 0, 0, 0, 0, 8]),
+    (408, 20, &[16]),
+    (408, 24, &[10, 0, 0, 0, 9]),
+];
+
+/// The tag of an identifier in logical block 2, of version 3.
+const TAG_OF_VERSION_3: [u8; 13] = [1, 1, 3, 0, 7, 0, 0, 0, 0, 0, 0, 0, 2];
+
+/// 2001-07-04 at 10:30 local time, one hour ahead of UTC (ECMA-167 1/7.3).
+const STAMP: [u8; 8] = [0x3c, 0x10, 0xd1, 7, 7, 4, 0x0a, 0x1e];
+
+/// The sparable volume with these files in place of its own.
+fn with_many_forms(alloc: Global) -> Result<Disc, AllocError> {
+    let mut disc = Disc::sparable(alloc)?;
+    for n in 401..410 {
+        disc.fill(n, 0)?;
+    }
+    disc.fill(406, 0x61)?;
+    disc.fill(409, 0x62)?;
+    disc.write(&FORMS)?;
     Ok(disc)
 }
