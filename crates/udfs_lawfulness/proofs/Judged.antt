@@ -40,7 +40,7 @@ shorter_reserve e = go (nat_le e.main.length e.reserve.length) refl
     go true q = let l : e.main.length ≤ e.reserve.length = leb-true e.main.length e.reserve.length q in omega (arith, l)
     go false q = omega arith
 
-reserve_fits : (P : Profile) (N : ℕ) (e : AnchorExtents) → are_extents_by P N e ≡ true → e.reserve.block + shorter e / 2048 ≤ N + 1
+pub reserve_fits : (P : Profile) (N : ℕ) (e : AnchorExtents) → are_extents_by P N e ≡ true → e.reserve.block + shorter e / 2048 ≤ N + 1
 reserve_fits Strict N e h = let s : shorter e / 2048 ≤ e.reserve.length / 2048 = shorter_reserve e in
     let m : e.reserve.block + e.reserve.length / 2048 ≤ N + 1 = leb-true (e.reserve.block + e.reserve.length / 2048) (N + 1) (both (nat_eq e.main.length e.reserve.length && nat_eq (e.main.length % 2048) 0
     && is_within 32768 524288 e.main.length && fits_to N e.main) (fits_to N e.reserve) h).1 in omega (arith, s, m)
@@ -48,7 +48,7 @@ reserve_fits Wide N e h = let s : shorter e / 2048 ≤ e.reserve.length / 2048 =
     let m : e.reserve.block + e.reserve.length / 2048 ≤ N + 1 = leb-true (e.reserve.block + e.reserve.length / 2048) (N + 1)
     (both (nat_eq (e.reserve.length % 2048) 0 && is_within 2048 524288 e.reserve.length) (fits_to N e.reserve) (both (is_extent N e.main) (is_extent N e.reserve) h).1).1 in omega (arith, s, m)
 
-taken : (P : Profile) (T : Blocks) (N : ℕ) (e : AnchorExtents) → anchor T N ≡ found e → ((f : VolumeFault) → layout_by P T N ≡ faulty f → ⊥) → are_extents_by P N e ≡ true
+pub taken : (P : Profile) (T : Blocks) (N : ℕ) (e : AnchorExtents) → anchor T N ≡ found e → ((f : VolumeFault) → layout_by P T N ≡ faulty f → ⊥) → are_extents_by P N e ≡ true
 taken P T N e a none = go (are_extents_by P N e) refl
   where
     go : (b : Bool) → are_extents_by P N e ≡ b → are_extents_by P N e ≡ true

@@ -16,6 +16,8 @@ pub mod TreeNodes
 pub mod Refuted
 pub mod LawfulKept
 pub mod Decided
+pub mod WholeNodes
+pub mod Whole
 pub mod Fronts
 pub mod Keys
 pub mod Twice
@@ -29,6 +31,7 @@ pub mod LayoutByTables
 pub mod SparingByTables
 pub mod Reading
 pub mod TagTables
+pub mod CrcExample
 pub mod ExtentTables
 pub mod MapTables
 pub mod VolumeTables

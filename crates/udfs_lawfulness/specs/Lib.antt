@@ -9,6 +9,7 @@ pub mod Asking
 pub mod Spelling
 pub mod Lawfulness
 pub mod Left
+pub mod Whole
 pub mod Forms
 pub mod Laws
 pub mod ByTables
@@ -22,4 +23,5 @@ pub mod Volumes
 pub mod Layouts
 pub mod Sparing
 pub mod Texts
+pub mod CrcExample
 pub mod EcmaLaws

@@ -2,6 +2,7 @@
 //!
 //! Each says "if and only if": what is read of the bytes is what the table gives, the table gives nothing else, and what is refused has no such
 //! fields by the table.
+ghost use Rattle.udfs_lawfulness.specs.CrcExample.{CrcExample};
 ghost use Rattle.udfs_lawfulness.specs.EcmaLaws.{AllocationExtentLaw, AnchorLaw, AreaLaw, BodyBytesLaw, DirectoryLaw, EntryLaw, ExtentAdLaw, FileLaw, FileSetLaw, IdentifierLaw, LabelLaw, LayoutLaw, LongAdLaw, NameLaw, PartitionLaw, ShortAdLaw, SoundTagLaw, SparingLaw, StampLaw, TablesFollowOn, TagLaw, VolumeLaw};
 
 /// The rows of each table follow one another: they leave out no byte, and no byte is in two of them.
@@ -13,6 +14,11 @@ pub fn tables_leave_out_no_byte()
 /// their byte positions (ECMA-167 3/7.2, 4/7.2).
 pub fn tags_are_by_the_table()
     ensures { TagLaw }
+{}
+
+/// The CRC by which tags are valid is the one of the standard's example (ECMA-167 3/7.2.6).
+pub fn crcs_are_by_the_example()
+    ensures { CrcExample }
 {}
 
 /// A tag is sound at a place, whatever its identifier, if and only if it is so by its table, with that identifier.
