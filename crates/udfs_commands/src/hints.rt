@@ -375,13 +375,8 @@ fn of_lost_folder(
     Ok(Some(line))
 }
 
-/// What is said of a path of `--only` that is that of no node, where patterns may be taken.
-fn of_no_node(
-    alloc: Global,
-    only: &[&str],
-    number: usize,
-    patterns: bool,
-) -> Result<Option<String>, AllocError> {
+/// What is said of a path of `--only` that stands for no node.
+fn of_no_node(alloc: Global, only: &[&str], number: usize) -> Result<Option<String>, AllocError> {
     match only.get(number.saturating_sub(1)) {
         Some(path) if !path.starts_with('/') => Ok(Some(format!(in alloc;
             "{} does not begin with /: use a path that list --paths prints",
@@ -390,20 +385,16 @@ fn of_no_node(
         Some(path) => Ok(Some(format!(in alloc;
             "{} is not one of the paths that list --paths prints{}",
             Shown(path),
-            why_no_path(path, patterns)
+            why_no_path(path)
         )?)),
         None => Ok(None),
     }
 }
 
-/// What may be wrong with a path that no node has: it is a pattern, or has a tab in place of its escape, or other letters.
-fn why_no_path(path: &str, patterns: bool) -> &'static str {
+/// What may be wrong with a path that no node has: it is a pattern that fits none, or has a tab in place of its escape, or other letters.
+fn why_no_path(path: &str) -> &'static str {
     if path.contains('*') || path.contains('?') {
-        return if patterns {
-            ", and as a pattern it fits none: * and ? do not pass a /, and ** is a whole name"
-        } else {
-            ": patterns are not taken; name a folder for all that is in it"
-        };
+        return ", and as a pattern it fits none: * and ? do not pass a /, and ** is a whole name";
     }
     if path.contains('\t') {
         return ": write a tab as it does, \\u0009";
@@ -441,7 +432,7 @@ fn of_extract(
         Refusal::Folder => of_folder(alloc, request, reason),
         Refusal::LostSpared => of_lost_place(alloc, request),
         Refusal::LostFolder => of_lost_folder(alloc, request, reason),
-        Refusal::NoNode(number) => of_no_node(alloc, request.only.as_slice(), *number, false),
+        Refusal::NoNode(number) => of_no_node(alloc, request.only.as_slice(), *number),
         _ => Ok(None),
     }
 }
@@ -527,7 +518,7 @@ fn of_other<F: Files>(
             )?
         }
         (Refusal::NoNode(number), Request::Reread(reread)) => {
-            return of_no_node(alloc, reread.only.as_slice(), *number, true);
+            return of_no_node(alloc, reread.only.as_slice(), *number);
         }
         (_, Request::Extract(extract)) => return of_extract(alloc, refusal, extract, reason),
         _ => return Ok(None),

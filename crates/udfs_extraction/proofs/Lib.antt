@@ -16,6 +16,7 @@ mod PlaceLemmas
 mod LostPlaceLemmas
 mod BarePathLemmas
 mod ListedLemmas
+mod AskedLemmas
 mod NoNode
 mod RefusedLemmas
 pub mod ManifestJob

@@ -27,7 +27,7 @@ use Rattle.udfs_words.specs.declared.request.ExtractRequest.{ExtractRequest}
 use Rattle.udfs_common.specs.Reach.{Reach}
 use Rattle.udfs_common.specs.Volumes.{OfToldVolume}
 use Rattle.udfs_extraction.specs.BarePaths.{bare}
-use Rattle.udfs_extraction.specs.Extracting.{IsElsewhere, IsPutAt, PutsBy, PutsNone, node_line}
+use Rattle.udfs_extraction.specs.Extracting.{IsElsewhere, IsPutAt, PutsBy, PutsNone, asked, node_line}
 use Rattle.udfs_extraction.specs.LostFiles.{IsLostPutAt, IsNewFolder, PutsLost, SparesLost}
 use Rattle.udfs_extraction.specs.LostPlaces.{lost_report}
 use Rattle.udfs_extraction.specs.LostTrees.{AreFoundOf, IsTreePut, PutsTrees, tree_lines}
@@ -97,9 +97,9 @@ module _ {F I M S W : Type 0} (reach : Reach F I M S W) where
 -- has changed by then but those of nodes that are asked for and of which a file is to be written
 pub record MakesNodes {F I M S W : Type 0} (reach : Reach F I M S W) (r : ExtractRequest) (place : Option (List ℕ)) (old one two : F) (before after : Stream) (blocks : Blocks) (report : Report) (good : Bool) : Type 0 where
   pub puts : PutsBy report.volume
-      (PutsListed (texts r.only.items) (node_line [] r.short_names report) (IsNodePut reach r one blocks report) (PutsManifest reach r place one two report) report.nodes before after good)
+      (PutsListed (asked (texts r.only.items) report) (node_line [] r.short_names report) (IsNodePut reach r one blocks report) (PutsManifest reach r place one two report) report.nodes before after good)
       (PutsNone old one report.volume before after good × (two ≡ one))
-  pub elsewhere : (q : List ℕ) → IsElsewhere (texts r.only.items) (fill_of r.fill) r.short_names report r.folder.now q → reach.files.holds one q ≡ reach.files.holds old q
+  pub elsewhere : (q : List ℕ) → IsElsewhere (asked (texts r.only.items) report) (fill_of r.fill) r.short_names report r.folder.now q → reach.files.holds one q ≡ reach.files.holds old q
 
 -- the lost files are made and reported, and nothing outside of their folder changes; or they are not asked for
 abbrev pub MakesLost : {F I M S W O : Type 0} → Reach F I M S W → (O → Stream) → Option (Bor (List ℕ)) → F → F → O → O → Blocks → Report → Bool → Type 0

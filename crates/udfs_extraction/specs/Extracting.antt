@@ -10,7 +10,8 @@
 --     SparesNodes                      no file that was there changes, nor anything outside of the folder, whatever crashes
 --     Puts                             nodes from the first after the root on, with their fates and lines
 --     IsDone only P index node fate    this holds of a node that is asked for, and any other is passed over
---     PutsOf                           what is made and reported of the nodes that are asked for, where any other is passed over
+--     asked only report                the paths of the nodes that the words of `--only` stand for
+--     PutsOf                           what is made and reported of these nodes and all below them, where any other is passed over
 use Rattle.std.specs.Prelude.{◌≡◌, ◌≢◌, ◌⊎◌, ℕ, ◌≤◌, Bool, true, false, List, [], ◌∷◌, ◌++◌, ⊤, suc, Option, Some, None, cond, codes, drop, length, slice_get, if◌then◌else◌, ◌&&◌}
 use Rattle.std.specs.List.{list_all}
 use Rattle.udfs_file.specs.declared.cells.Cell.{Cell}
@@ -38,6 +39,7 @@ use Rattle.udfs_salvage.specs.WalkedNodes.{AreNodesFrom}
 use Rattle.udfs_walk.specs.Unsettled.{is_whole}
 use Rattle.udfs_salvage.specs.declared.extraction.Fill.{Fill}
 use Rattle.udfs_salvage.specs.Choosing.{chosen, is_chosen, is_node}
+use Rattle.udfs_remarks.specs.Wanted.{all_wanted}
 use Rattle.udfs_extraction.specs.ShortNames.{own_name, placed}
 use Rattle.udfs_extraction.specs.declared.nodes.Deed.{Deed}
 use Rattle.udfs_extraction.specs.declared.nodes.Deed.TheVariants.{Folder, File, Skip}
@@ -195,9 +197,13 @@ pub record PutsChosen (only : List (List ℕ)) (lined : Fate → NodeFields → 
   pub all : length fates ≡ length (drop 1 nodes)
   pub says : good ≡ (all_good fates && list_all (λ n. is_whole n.standing) (chosen only nodes))
 
--- what is made and reported of the nodes of a report that are asked for
+-- the paths of the nodes that the words of `--only` stand for
+abbrev pub asked : List (List ℕ) → Report → List (List ℕ)
+asked only report = all_wanted false report.nodes only
+
+-- what is made and reported of the nodes of a report that some words ask for
 abbrev pub PutsOf : {F : Type 0} → List (List ℕ) → Bool → (Report → ℕ → NodeFields → Fate → Type 0) → F → F → Report → Stream → Stream → Bool → Type 0
-PutsOf only short P before after report old new good = PutsBy report.volume (PutsChosen only (node_line [] short report) (P report) report.nodes old new good) (PutsNone before after report.volume old new good)
+PutsOf only short P before after report old new good = PutsBy report.volume (PutsChosen (asked only report) (node_line [] short report) (P report) report.nodes old new good) (PutsNone before after report.volume old new good)
 
 -- no node that is asked for, and of which a file is to be written, has its file at this path
 abbrev pub IsElsewhere : List (List ℕ) → Fill → Bool → Report → List ℕ → List ℕ → Type 0

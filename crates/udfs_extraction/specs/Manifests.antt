@@ -17,7 +17,7 @@ use Rattle.udfs_salvage.specs.NodeTexts.{names_text}
 use Rattle.udfs_salvage.specs.Reports.{Report}
 use Rattle.udfs_salvage.specs.Choosing.{goes_on}
 use Rattle.udfs_extraction.specs.BarePaths.{bare}
-use Rattle.udfs_extraction.specs.Extracting.{IsIn, PutsBy, PutsChosen, PutsNone, node_line, path_below}
+use Rattle.udfs_extraction.specs.Extracting.{IsIn, PutsBy, PutsChosen, PutsNone, asked, node_line, path_below}
 use Rattle.udfs_common.specs.Guarding.{NoneLeads, SomeLeads}
 use Rattle.udfs_common.specs.Keeping.{IsKept}
 use Rattle.udfs_extraction.specs.ShortNames.{placed}
@@ -87,7 +87,7 @@ pub record PutsWith (only : List (List ℕ)) (lined : Fate → NodeFields → Li
 
 -- what is made and printed for a report, and the text
 abbrev pub PutsNoted : {F : Type 0} → List (List ℕ) → Bool → (Report → ℕ → NodeFields → Fate → Type 0) → (Report → List Fate → List ℕ → Type 0) → F → F → Report → Stream → Stream → Bool → Option (List ℕ) → Type 0
-PutsNoted only short P Is before after report old new good manifest = PutsBy report.volume (PutsWith only (node_line [] short report) (P report) (Is report) report.nodes old new good manifest) (PutsNone before after report.volume old new good × (manifest ≡ None))
+PutsNoted only short P Is before after report old new good manifest = PutsBy report.volume (PutsWith (asked only report) (node_line [] short report) (P report) (Is report) report.nodes old new good manifest) (PutsNone before after report.volume old new good × (manifest ≡ None))
 
 -- ---- the manifest is put
 

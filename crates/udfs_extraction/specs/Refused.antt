@@ -1,5 +1,5 @@
 -- Why `extract` fails, and what was made and reported by then.
---     NamesNoNode          a path that is asked for is no node's, and it is named
+--     NamesNoNode          a word of `--only` stands for no node, and it is named
 --     StopsBehind          memory ran out, or the output failed and all were put
 --     StopsNodes           nodes were put and reported, and then that was so
 --     StopsPutting         what a report has for the folder was not put and reported, or only in part
@@ -42,10 +42,10 @@ use Rattle.udfs_common.specs.Volumes.{IsNoVolume, IsVolumeUnread, OfToldVolume}
 use Rattle.udfs_common.specs.declared.refusal.Refusal.{Refusal}
 use Rattle.udfs_common.specs.declared.refusal.Refusal.TheVariants.{Folder, LostFolder, LostSpared, Memory, NoNode, Output, Spared, TooManyPaths, Unkept}
 use Rattle.udfs_remarks.specs.NoReports.{IsUntold}
+use Rattle.udfs_remarks.specs.Wanted.{stands_for_some}
 use Rattle.udfs_extraction.specs.BarePaths.{bare}
 use Rattle.udfs_extraction.specs.ByRequest.{IsNodePut, IsPlace, Makes, MakesLost, MakesNodes, fill_of}
-use Rattle.udfs_salvage.specs.Choosing.{is_node}
-use Rattle.udfs_extraction.specs.Extracting.{IsDone, IsPutAt, Puts, PutsBy, PutsOf, SparesNodes, TellsLines, node_line}
+use Rattle.udfs_extraction.specs.Extracting.{IsDone, IsPutAt, Puts, PutsBy, PutsOf, SparesNodes, TellsLines, asked, node_line}
 use Rattle.udfs_extraction.specs.LostFiles.{EachLost, IsLostPutAt, lost_lines}
 use Rattle.udfs_extraction.specs.LostPlaces.{lost_report}
 use Rattle.udfs_extraction.specs.LostTrees.{AreFoundOf, CutAt, IsTreePut, IsUnfoundOf, StopsTrees, tree_lines}
@@ -60,8 +60,8 @@ pub record NamesNoNode (only : List (List ℕ)) (nodes : List NodeFields) (refus
   pub place : ℕ
   pub word : List ℕ
   pub stands : slice_get only place ≡ Some word
-  pub is_none : is_node nodes word ≡ false
-  pub first : (k : ℕ) (earlier : List ℕ) → k < place → slice_get only k ≡ Some earlier → is_node nodes earlier ≡ true
+  pub is_none : stands_for_some nodes word ≡ false
+  pub first : (k : ℕ) (earlier : List ℕ) → k < place → slice_get only k ≡ Some earlier → stands_for_some nodes earlier ≡ true
   pub named : refusal ≡ NoNode (place + 1)
 
 -- memory ran out; or the output failed, and all of them were put
@@ -75,7 +75,7 @@ pub record StopsNodes (lined : Fate → NodeFields → List ℕ) (P : ℕ → No
   pub puts : Puts lined P nodes old new heard fates
   pub why : StopsBehind heard (length fates) (length (drop 1 nodes)) refusal
 
--- nothing was reported: memory ran out, or a path is no node's, and nothing was made; or the folder could not be made
+-- nothing was reported: memory ran out, or a word stands for no node, and nothing was made; or the folder could not be made
 abbrev pub StopsBefore : {F : Type 0} → Type 0 → List (List ℕ) → List NodeFields → F → F → Stream → Stream → Refusal → Type 0
 StopsBefore Failed only nodes before after old new refusal = (new ≡ old) × (((after ≡ before) × ((refusal ≡ Memory alloc_error) ⊎ NamesNoNode only nodes refusal)) ⊎ ((refusal ≡ Folder) × Failed))
 
@@ -88,7 +88,7 @@ pub record StopsLine {F : Type 0} (before after : F) (volume : Answer Found) (ol
 -- extracting the nodes ended with this error; of a volume that does not open, printing its line did
 abbrev pub StopsPutting : {F : Type 0} → Type 0 → List (List ℕ) → Bool → (Report → ℕ → NodeFields → Fate → Type 0) → F → F → Report → Stream → Stream → Refusal → Type 0
 StopsPutting Failed only short P before after report old new refusal =
-    PutsBy report.volume (StopsBefore Failed only report.nodes before after old new refusal ⊎ StopsNodes (node_line [] short report) (IsDone only (P report)) report.nodes old new refusal) (StopsLine before after report.volume old new refusal)
+    PutsBy report.volume (StopsBefore Failed only report.nodes before after old new refusal ⊎ StopsNodes (node_line [] short report) (IsDone (asked only report) (P report)) report.nodes old new refusal) (StopsLine before after report.volume old new refusal)
 
 -- nothing was reported, and the folder could not be made; or entries have their fates, and their lines as far as the output took them
 abbrev pub StopsLost : Type 0 → (Unnamed → Fate → Type 0) → Bool → List Unnamed → Stream → Stream → Refusal → Type 0
@@ -127,7 +127,7 @@ module _ {F I M S W : Type 0} (files : Ghosts F I M S W) (output : W → Stream)
   -- a block could not be read again: nodes from the first after the root on have their fates, and their lines as far as the output took them
   abbrev pub NodesCut : List (List ℕ) → List ℕ → Fill → Bool → F → Stream → Stream → Blocks → Report → Type 0
   NodesCut only folder fill short new before after blocks report =
-      PutsBy report.volume ((heard : Bool) × (fates : List Fate) × Puts (node_line [] short report) (IsDone only (IsPutAt files output new blocks report fill short folder)) report.nodes before after heard fates) ⊥
+      PutsBy report.volume ((heard : Bool) × (fates : List Fate) × Puts (node_line [] short report) (IsDone (asked only report) (IsPutAt files output new blocks report fill short folder)) report.nodes before after heard fates) ⊥
 
 -- ---- by the request
 

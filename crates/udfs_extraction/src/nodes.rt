@@ -5,12 +5,12 @@ ghost use Rattle.udfs_host_fs.specs.Disk.{Goes, Fails, SinkFails};
 ghost use Rattle.udfs_salvage.specs.Listings.{listing_by};
 ghost use Rattle.udfs_words.specs.Requests.{texts};
 ghost use Rattle.udfs_extraction.specs.ByRequest.{IsNodePut, fill_of};
-ghost use Rattle.udfs_extraction.specs.Extracting.{IsDone, IsElsewhere, IsIn, IsPutAt, Puts, Spares, SparesNodes, Stay, all_good, is_good, node_line};
+ghost use Rattle.udfs_extraction.specs.Extracting.{IsDone, IsElsewhere, IsIn, IsPutAt, Puts, Spares, SparesNodes, Stay, all_good, asked, is_good, node_line};
 ghost use Rattle.udfs_extraction.specs.Manifests.{IsManifest, PutsNoted, notes_text};
 ghost use Rattle.udfs_extraction.specs.Refused.{NodesCut, NodesStop};
 ghost use Rattle.udfs_extraction.specs.Stopping.{IfStopped};
 
-use crate::choosing::all_are_nodes;
+use crate::choosing::asked_paths;
 use crate::fate_remarks::remark_on_totals;
 use crate::manifest::Noted;
 use crate::node_files::put_folder;
@@ -26,6 +26,7 @@ use udfs_lattice::{BlockStore, GaveUp, ReadFault};
 use udfs_reading::Sink;
 use udfs_remarks::no_reports::refused_run;
 use udfs_remarks::remarks::{UNREAD, remark_on_left_out, remark_on_listing_by};
+use udfs_remarks::wanted::texts_of;
 use udfs_salvage::choosing::chosen_are_whole;
 use udfs_salvage::{Fill, Listing, ReportStore, Volume, write_volume_line};
 use udfs_words::request::ExtractRequest;
@@ -155,7 +156,7 @@ fn remark_closed<B: ReportStore, F: Files>(alloc: Global, listing: &Listing<'_, 
     }
 }
 
-/// Makes the folder and what the report has for it, as far as it is asked for; where the volume does not open, it makes nothing, and prints the line of the
+/// Makes the folder and what the report has for it, as far as the words of `only` ask for it; where the volume does not open, it makes nothing, and prints the line of the
 /// volume. Where `digest` says so, the digests of the files are taken while they are written.
 ///
 /// # Errors
@@ -182,17 +183,21 @@ pub fn put_report<B: ReportStore, F: Files, O: Sink>(
     ensures no_node { (i : ℕ) → IsErrOf result (Stop.Refused (Refusal.NoNode i)) → files.new ≡ files.old }
     ensures stays { F.tells → Stay (F.holds files.old) (F.holds files.new) }
     ensures outside { (q : List ℕ) → (¬ IsIn folder.now q) → F.holds files.new q ≡ F.holds files.old q }
-    ensures elsewhere { (q : List ℕ) → IsElsewhere (texts only.now) fill short (listing_by B.states listing.now) folder.now q → F.holds files.new q ≡ F.holds files.old q }
+    ensures elsewhere { (q : List ℕ) → IsElsewhere (asked (texts only.now) (listing_by B.states listing.now)) fill short (listing_by B.states listing.now) folder.now q → F.holds files.new q ≡ F.holds files.old q }
     ensures crash { F.tells → Goes F.moment F.may_leave F.left_since files.old files.new (Spares folder.now (F.holds files.old)) }
     ensures fails { IsErrOf result Stop.Unread → (B.fails → ⊥) → ⊥ }
 {
     match &listing.volume {
         Volume::Open(_) => {
-            match all_are_nodes(alloc, only, &listing.nodes) {
-                Ok(()) => {}
+            let paths = match asked_paths(alloc, only, listing) {
+                Ok(paths) => paths,
                 Err(refusal) => return Err(Stop::Refused(refusal)),
-            }
-            let whole = match chosen_are_whole(alloc, only, &listing.nodes) {
+            };
+            let chosen = match texts_of(alloc, &paths) {
+                Ok(chosen) => chosen,
+                Err(AllocError) => return Err(Stop::Refused(Refusal::Memory(AllocError))),
+            };
+            let whole = match chosen_are_whole(alloc, &chosen, &listing.nodes) {
                 Ok(whole) => whole,
                 Err(AllocError) => return Err(Stop::Refused(Refusal::Memory(AllocError))),
             };
@@ -200,7 +205,7 @@ pub fn put_report<B: ReportStore, F: Files, O: Sink>(
                 return Err(Stop::Refused(Refusal::Folder));
             }
             let told = match put_nodes(
-                alloc, listing, "", only, fill, short, digest, folder, times, files, out,
+                alloc, listing, "", &chosen, fill, short, digest, folder, times, files, out,
             ) {
                 Ok(told) => told,
                 Err(GaveUp::OutOfMemory) => {
@@ -254,7 +259,7 @@ pub fn make_nodes<B: ReportStore, F: Files, O: Sink>(
     ensures why { IfErr result (λ stop. B.tells → IfStopped (NodesStop F.Files F.Output.stream (texts request.now.only.items) request.now.folder.now (fill_of request.now.fill) request.now.short_names files.old files.new (O.stream out.old) (O.stream out.new) (B.states listing.now.table.now) (listing_by B.states listing.now))
         (NodesCut F.Files F.Output.stream (texts request.now.only.items) request.now.folder.now (fill_of request.now.fill) request.now.short_names files.new (O.stream out.old) (O.stream out.new) (B.states listing.now.table.now) (listing_by B.states listing.now)) stop) }
     ensures no_node { (i : ℕ) → IsErrOf result (Stop.Refused (Refusal.NoNode i)) → files.new ≡ files.old }
-    ensures elsewhere { (q : List ℕ) → IsElsewhere (texts request.now.only.items) (fill_of request.now.fill) request.now.short_names (listing_by B.states listing.now) request.now.folder.now q → F.holds files.new q ≡ F.holds files.old q }
+    ensures elsewhere { (q : List ℕ) → IsElsewhere (asked (texts request.now.only.items) (listing_by B.states listing.now)) (fill_of request.now.fill) request.now.short_names (listing_by B.states listing.now) request.now.folder.now q → F.holds files.new q ≡ F.holds files.old q }
     ensures spares { SparesNodes F.Files request.now.folder.now files.old files.new }
     ensures fails { IsErrOf result Stop.Unread → (B.fails → ⊥) → ⊥ }
 {

@@ -1,3 +1,4 @@
 mod Untold
 mod IndexStates
 mod WantedNodes
+pub mod WantedWords

@@ -2,8 +2,9 @@
 --     is_meant word node             a pattern that the node's names fit, or how `list` shows its path
 --     wanted hides nodes word        the paths that a word stands for; with those of directories that may hide what it is meant for
 --     all_wanted hides nodes words   the same of all words
+--     stands_for_some nodes word     the word stands for a node, or for several
 --     stands_for_nothing nodes word  one of them is no node's, and all directories above it are whole
-use Rattle.std.specs.Prelude.{ℕ, Bool, true, not, ◌&&◌, List, [], ◌∷◌, ◌++◌, codes, flat_map, if◌then◌else◌}
+use Rattle.std.specs.Prelude.{ℕ, Bool, true, not, ◌&&◌, ◌||◌, List, [], ◌∷◌, ◌++◌, codes, flat_map, if◌then◌else◌}
 use Rattle.std.specs.List.{list_any}
 use Rattle.std.specs.Str.{bytes_eq}
 use Rattle.udfs_walk.specs.NodeFields.{NodeFields}
@@ -45,6 +46,10 @@ wanted hides nodes word = if is_node nodes word then word ∷ [] else or_itself 
 -- what all words stand for
 abbrev pub all_wanted : Bool → List NodeFields → List (List ℕ) → List (List ℕ)
 all_wanted hides nodes words = flat_map (wanted hides nodes) words
+
+-- the report prints a node's path so, or the word is meant for one
+abbrev pub stands_for_some : List NodeFields → List ℕ → Bool
+stands_for_some nodes word = is_node nodes word || list_any (is_meant word) nodes
 
 -- one of the paths is no node's, and all directories above it are whole
 abbrev pub stands_for_nothing : List NodeFields → List ℕ → Bool

@@ -1,12 +1,14 @@
 //! What the words of `--only` stand for among the nodes of a volume: a path as the report prints it or as `list` shows it, or a pattern for all that fit it.
 
 ghost use Rattle.std.specs.Prelude.{◌≡◌, ◌++◌, ◌∷◌, [], IfOk, OnOk, map};
+ghost use Rattle.std.specs.List.{list_any};
 ghost use Rattle.std.specs.String.{string_bytes};
 ghost use Rattle.udfs_overview.specs.TornLists.{shown_path};
 ghost use Rattle.udfs_salvage.specs.InLine.{may_list};
 ghost use Rattle.udfs_salvage.specs.Listings.{listing_by};
 ghost use Rattle.udfs_salvage.specs.NodeTexts.{names_text, path_name};
-ghost use Rattle.udfs_remarks.specs.Wanted.{is_meant, may_hide_meant, meant, meant_at, or_itself, wanted};
+ghost use Rattle.udfs_words.specs.Requests.{texts};
+ghost use Rattle.udfs_remarks.specs.Wanted.{is_meant, may_hide_meant, meant, meant_at, or_itself, stands_for_some, wanted};
 
 use std::alloc::{AllocError, Global};
 use udfs_file::Kind;
@@ -165,4 +167,72 @@ pub fn stands_for<B: BlockStore>(
 {
     let paths = wanted(alloc, hides, &listing.nodes, word)?;
     Ok(paths)
+}
+
+/// Whether a word is meant for one of these nodes.
+fn is_meant_for_one(alloc: Global, nodes: &[Node], word: &str) -> Result<bool, AllocError>
+    ensures { IfOk result (λ yes. yes ≡ list_any (is_meant word.now) nodes.now) }
+{
+    for node in nodes {
+        if is_meant(alloc, word, node)? {
+            return Ok(true);
+        }
+    }
+    Ok(false)
+}
+
+/// Whether a word stands for one of these nodes.
+fn is_for_one(alloc: Global, nodes: &[Node], word: &str) -> Result<bool, AllocError>
+    ensures { IfOk result (λ yes. yes ≡ stands_for_some nodes.now word.now) }
+{
+    if is_node(alloc, nodes, word)? {
+        return Ok(true);
+    }
+    is_meant_for_one(alloc, nodes, word)
+}
+
+/// Whether a word of `--only` stands for a node of a listing, or for several: the report prints a node's path so, or `list` does, or a node's path fits it as a
+/// pattern.
+///
+/// # Errors
+///
+/// If memory runs out.
+pub fn stands_for_some<B: BlockStore>(
+    alloc: Global,
+    listing: &Listing<'_, B>,
+    word: &str,
+) -> Result<bool, AllocError>
+    ensures { IfOk result (λ yes. yes ≡ stands_for_some (listing_by B.states listing.now).nodes word.now) }
+{
+    let yes = is_for_one(alloc, &listing.nodes, word)?;
+    Ok(yes)
+}
+
+/// The texts of some paths.
+///
+/// # Errors
+///
+/// If memory runs out.
+pub fn texts_of<'a>(alloc: Global, paths: &'a [String]) -> Result<Vec<&'a str>, AllocError>
+    ensures { IfOk result (λ words. texts words.items ≡ map string_bytes paths.now) }
+{
+    let mut words = Vec::new(alloc);
+    for path in paths {
+        words.push(path.as_str())?;
+    }
+    Ok(words)
+}
+
+/// Adds some paths to others.
+///
+/// # Errors
+///
+/// If memory runs out. Then some may be added.
+pub fn push_all(paths: &mut Vec<String>, found: Vec<String>) -> Result<(), AllocError>
+    ensures { OnOk result (map string_bytes paths.new.items ≡ map string_bytes paths.old.items ++ map string_bytes found.items) }
+{
+    for path in found {
+        paths.push(path)?;
+    }
+    Ok(())
 }

@@ -17,22 +17,11 @@ use std::alloc::{AllocError, Global};
 use udfs_common::refusal::Refusal;
 use udfs_lattice::{BlockStore, ReadFault};
 use udfs_remarks::no_reports::refused_report;
-use udfs_remarks::wanted::stands_for;
+use udfs_remarks::wanted::{push_all, stands_for, texts_of};
 use udfs_salvage::in_line::{first_nowhere, keep_in_line};
 use udfs_salvage::{Listing, ReportStore, StoreError};
 use udfs_volume::Profile;
 use udfs_words::request::RereadRequest;
-
-/// The texts of some paths.
-fn texts_of<'a>(alloc: Global, paths: &'a [String]) -> Result<Vec<&'a str>, AllocError>
-    ensures { IfOk result (λ words. texts words.items ≡ map string_bytes paths.now) }
-{
-    let mut words = Vec::new(alloc);
-    for path in paths {
-        words.push(path.as_str())?;
-    }
-    Ok(words)
-}
 
 /// Whether one of these paths is that of no node of a listing, above which all directories are whole.
 fn is_any_nowhere<B: BlockStore>(
@@ -47,14 +36,20 @@ fn is_any_nowhere<B: BlockStore>(
     Ok(first.is_some())
 }
 
-/// Adds some paths to others.
-fn push_all(paths: &mut Vec<String>, found: Vec<String>) -> Result<(), AllocError>
-    ensures { OnOk result (map string_bytes paths.new.items ≡ map string_bytes paths.old.items ++ map string_bytes found.items) }
+/// Whether a word stands for nothing that stands for these paths. Where they are several, it does not: each is a node's, or in a directory that may hide it.
+fn is_for_nothing<B: BlockStore>(
+    alloc: Global,
+    word: &str,
+    found: &[String],
+    listing: &Listing<'_, B>,
+) -> Result<bool, AllocError>
+    requires { map string_bytes found.now ≡ wanted true (listing_by B.states listing.now).nodes word.now }
+    ensures { IfOk result (λ nothing. nothing ≡ stands_for_nothing (listing_by B.states listing.now).nodes word.now) }
 {
-    for path in found {
-        paths.push(path)?;
+    if found.len() > 1 {
+        return Ok(false);
     }
-    Ok(())
+    is_any_nowhere(alloc, found, listing)
 }
 
 /// Adds the paths that a word stands for in a listing, and returns whether it stands for nothing.
@@ -68,7 +63,7 @@ fn add_paths<B: BlockStore>(
     ensures nothing { IfOk result (λ nothing. nothing ≡ stands_for_nothing (listing_by B.states listing.now).nodes word.now) }
 {
     let found = stands_for(alloc, true, listing, word)?;
-    let nothing = is_any_nowhere(alloc, &found, listing)?;
+    let nothing = is_for_nothing(alloc, word, &found, listing)?;
     push_all(paths, found)?;
     Ok(nothing)
 }

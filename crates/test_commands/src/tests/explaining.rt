@@ -107,8 +107,8 @@ refused udfsalvage: cannot make the folder\n  out already exists, or is where an
 $ extract -v --last 600 --to new --only /A --only /none disc.tab
 refused udfsalvage: --only 2 is no node\n  /none is not one of the paths that list --paths prints: capital and small letters differ\n
 
-$ extract -v --last 600 --to new --only /* disc.tab
-refused udfsalvage: --only 1 is no node\n  /* is not one of the paths that list --paths prints: patterns are not taken; name a folder for all that is in it\n
+$ extract -v --last 600 --to new --only /*.none disc.tab
+refused udfsalvage: --only 1 is no node\n  /*.none is not one of the paths that list --paths prints, and as a pattern it fits none: * and ? do not pass a /, and ** is a whole name\n
 
 $ forget -v --out t.tab --blocks none.txt disc.tab
 refused udfsalvage: cannot open list\n  none.txt: the system does not say why\n

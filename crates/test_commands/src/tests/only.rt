@@ -145,6 +145,46 @@ but
 $ extract -v --last 600 --to out --only /B --only /E disc.tab
 refused udfsalvage: --only 2 is no node\n  /E is not one of the paths that list --paths prints: capital and small letters differ\n
 
+= a_pattern_takes_all_that_fit_it
+# `*` is any part of a name, `?` one character, and a name `**` any number of names; a folder that fits is taken with all below it. Only `**` passes a `/`.
+fill 274 00
+directory 1 D=20 DX=30 B=4
+directory 20 A=3 C=4
+directory 30 A=3
+but
+
+$ extract --last 600 --to out --only /D* disc.tab
+done 0 written /D/A\nwritten /D/C\nwritten /DX/A\n
+absent out/B
+
+$ extract --last 600 --to out --only /D? disc.tab
+done 0 written /DX/A\n
+no-folder out/D
+
+$ extract --last 600 --to out --only /*/A disc.tab
+done 0 written /D/A\nwritten /DX/A\n
+has-folder out/D
+has-folder out/DX
+absent out/D/C
+absent out/B
+
+$ extract --last 600 --to out --only /**/C --only /? disc.tab
+done 0 written /D/A\nwritten /D/C\nwritten /B\n
+no-folder out/DX
+
+$ extract --last 600 --to out --only /** disc.tab
+done 0 written /D/A\nwritten /D/C\nwritten /DX/A\nwritten /B\n
+
+$ extract --last 600 --to out --only /D --only /*C disc.tab
+refused udfsalvage: --only 2 is no node\n
+no-folder out
+
+$ extract --last 600 --to out --only /d* disc.tab
+refused udfsalvage: --only 1 is no node\n
+
+$ extract --last 600 --to out --only D* disc.tab
+refused udfsalvage: --only 1 is no node\n
+
 = only_what_is_asked_for_is_judged
 # A torn file that is not asked for lacks nothing, and neither does a torn folder with a file that is asked for.
 but 278
@@ -185,6 +225,18 @@ $ extract --last 600 --to out --only /.. disc.tab
 refused udfsalvage: --only 1 is no node\n
 
 $ extract --last 600 --to out --only //etc/x disc.tab
+refused udfsalvage: --only 1 is no node\n
+
+= a_path_as_list_shows_it
+# The report prints a mark that turns the direction of text as it is, and `list` as an escape. Both are taken.
+directory 1 turned=3
+but
+
+$ extract --last 600 --to out --only /\\u202Ea disc.tab
+status 0
+files 2
+
+$ extract --last 600 --to out --only /\\u202Eb disc.tab
 refused udfsalvage: --only 1 is no node\n
 
 = nodes_of_one_path

@@ -8,7 +8,7 @@ use Rattle.udfs_salvage.specs.Listings.{listing_by}
 use Rattle.udfs_salvage.proofs.ChoosingLemmas.{word_at, word_there}
 use Rattle.udfs_salvage.proofs.InLineLists.{got_below}
 use Rattle.udfs_remarks.specs.Wanted.{all_wanted, stands_for_nothing, wanted}
-use Rattle.udfs_reports.proofs.PathLemmas.{all_of, one_more}
+use Rattle.udfs_remarks.proofs.WantedWords.{all_of, one_more}
 use Rattle.udfs_reports.proofs.paths.judge_paths.Goals as goal
 
 pub loop-index-preserved : goal.loop-index-preserved
