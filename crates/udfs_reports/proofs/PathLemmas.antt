@@ -74,7 +74,7 @@ all_joined P (x ∷ xs) ys some more = let parts = both_hold (P x) (list_all P x
 under_itself : (path : List ℕ) → is_under path (path ++ codes "/") ≡ true
 under_itself path = go (bytes_eq path (codes "/")) (bytes_eq (path ++ codes "/") path)
   where
-    go : (a b : Bool) → ((a || b) || goes_on path (path ++ codes "/")) ≡ true
+    go : (a b : Bool) → (a || b || goes_on path (path ++ codes "/")) ≡ true
     go true b = refl
     go false true = refl
     go false false = on_behind path []
@@ -84,7 +84,7 @@ hides_its_own word n hides =
     let rest = (both_hold (is_glob word) (not (is_whole n.standing) && (may_list n.kind && may_fit_below word (names_text n.path))) hides).1 in
     let parts = both_hold (not (is_whole n.standing)) (may_list n.kind && may_fit_below word (names_text n.path)) rest in
     let lists = (both_hold (may_list n.kind) (may_fit_below word (names_text n.path)) parts.1).0 in
-    λ i. (parts.0 i && lists i) && under_itself (path_name n.path) i
+    λ i. parts.0 i && lists i && under_itself (path_name n.path) i
 
 shown_itself : (n : NodeFields) (nodes : List NodeFields) → is_shown (n ∷ nodes) (path_name n.path) ≡ true
 shown_itself n nodes = go (bytes_eq (path_name n.path) (path_name n.path)) ((bytes_eq-Decides (path_name n.path) (path_name n.path)).1 refl)
