@@ -321,7 +321,7 @@ fn with_files<'a>(
         command,
         only(
             alloc,
-            "Write only this file or folder, by its path{n}as report prints it",
+            "Write only this file or folder, by its path{n}as report prints it, or a pattern",
         ),
     );
     add_arg(command, manifest(alloc))
