@@ -9,3 +9,4 @@ mod GlobReaching
 pub mod GlobCounting
 mod GlobFronts
 mod GlobBelow
+mod GlobHiding

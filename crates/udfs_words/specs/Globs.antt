@@ -5,8 +5,9 @@
 --     AsksFor word path        it is one of those, or in a folder that is
 --     may_fit_below word path  some path below this one may be one of those
 --     is_glob word             the word may stand for several
+--     HidesAllThatFits         where a path below this one fits, this one does, or some path below it may
 --     FitsOnlyAsManyNames      without a `**` a word stands for paths of as many names alone: nothing else in it passes a `/`
-use Rattle.std.specs.Prelude.{◌≡◌, ℕ, ◌==◌, ◌&&◌, ◌||◌, Bool, true, false, not, List, [], ◌∷◌, codes, length, map, take, if◌then◌else◌}
+use Rattle.std.specs.Prelude.{◌≡◌, ◌⊎◌, ℕ, ◌++◌, ◌==◌, ◌&&◌, ◌||◌, Bool, true, false, not, List, [], ◌∷◌, codes, length, map, take, if◌then◌else◌}
 use Rattle.std.specs.List.{list_all, list_any, range_with_len}
 use Rattle.std.specs.Str.{bytes_eq, chars}
 
@@ -74,3 +75,8 @@ is_single name = not (bytes_eq name (codes "**"))
 abbrev pub FitsOnlyAsManyNames : Type 0
 FitsOnlyAsManyNames = (word path : List ℕ) → list_all is_single (names_in (chars word)) ≡ true → fits_path word path ≡ true
     → length (names_in (chars path)) ≡ length (names_in (chars word))
+
+-- where more names below a path make one that the word stands for, the path is one itself, or some path below it may be
+abbrev pub HidesAllThatFits : Type 0
+HidesAllThatFits = (word path : List ℕ) (more : List (List ℕ)) → fits (map name_step (names_in (chars word))) (names_in (chars path) ++ more) ≡ true
+    → (fits_path word path ≡ true) ⊎ (may_fit_below word path ≡ true)

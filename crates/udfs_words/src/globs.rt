@@ -3,7 +3,7 @@
 ghost use Rattle.std.specs.Prelude.{◌≡◌, ◌↔◌, ◌==◌, ◌||◌, ℕ, suc, IfOk, codes, false, length, map, take, true};
 ghost use Rattle.std.specs.List.{list_any, range_with_len};
 ghost use Rattle.std.specs.Str.{bytes_eq};
-ghost use Rattle.udfs_words.specs.Globs.{AsksFor, FitsOnlyAsManyNames, char_step, fits, fits_name, fits_path, is_glob, may_fit_below, name_step};
+ghost use Rattle.udfs_words.specs.Globs.{AsksFor, FitsOnlyAsManyNames, HidesAllThatFits, char_step, fits, fits_name, fits_path, is_glob, may_fit_below, name_step};
 ghost use Rattle.udfs_words.specs.GlobRows.{last_from, next_row};
 
 use crate::glob_names::names_of;
@@ -174,4 +174,10 @@ pub fn is_glob(word: &str) -> bool
 /// A law: without a `**` a word stands for paths of as many names alone, so nothing else in it passes a `/`.
 pub fn passes_no_slash()
     ensures { FitsOnlyAsManyNames }
+{}
+
+/// A law: where a path below this one is one that a word stands for, this one is too, or some path below it may be. So in a folder above what a word stands for
+/// nothing is passed over.
+pub fn hides_all_that_fits()
+    ensures { HidesAllThatFits }
 {}
