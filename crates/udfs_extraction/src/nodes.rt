@@ -193,11 +193,12 @@ pub fn put_report<B: ReportStore, F: Files, O: Sink>(
                 Ok(paths) => paths,
                 Err(refusal) => return Err(Stop::Refused(refusal)),
             };
-            let chosen = match texts_of(alloc, &paths) {
-                Ok(chosen) => chosen,
+            let words = match texts_of(alloc, paths.as_slice()) {
+                Ok(words) => words,
                 Err(AllocError) => return Err(Stop::Refused(Refusal::Memory(AllocError))),
             };
-            let whole = match chosen_are_whole(alloc, &chosen, &listing.nodes) {
+            let chosen = words.as_slice();
+            let whole = match chosen_are_whole(alloc, chosen, &listing.nodes) {
                 Ok(whole) => whole,
                 Err(AllocError) => return Err(Stop::Refused(Refusal::Memory(AllocError))),
             };
@@ -205,7 +206,7 @@ pub fn put_report<B: ReportStore, F: Files, O: Sink>(
                 return Err(Stop::Refused(Refusal::Folder));
             }
             let told = match put_nodes(
-                alloc, listing, "", &chosen, fill, short, digest, folder, times, files, out,
+                alloc, listing, "", chosen, fill, short, digest, folder, times, files, out,
             ) {
                 Ok(told) => told,
                 Err(GaveUp::OutOfMemory) => {

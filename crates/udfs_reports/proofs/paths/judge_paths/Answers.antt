@@ -1,4 +1,4 @@
-use Rattle.std.proofs.Common.{rules, ◌<◌, length, ◌≡◌, ◌++◌, ◌∙◌, sym, ap, subst, arith, Bor, ℕ, List, Some, map, slice_get, take, true, ⊎_elim, refl}
+use Rattle.std.proofs.Common.{rules, ◌<◌, length, ◌≡◌, ◌++◌, ◌+◌, ◌∙◌, sym, ap, subst, arith, Bor, ℕ, List, Some, inr, map, slice_get, take, true, ⊎_elim, refl}
 use Rattle.std.specs.Prelude.{flat_map}
 use Rattle.std.specs.String.{string_bytes}
 use Rattle.std.proofs.lemmas.Bool.{cases_lt}
