@@ -49,11 +49,11 @@ meant_are word (n ∷ ns) = all_joined (is_node (n ∷ ns)) (meant_at false word
 -- where it is meant for one there are some
 never_none : (word : List ℕ) (ns : List NodeFields) → list_any (is_meant word) ns ≡ true → meant false ns word ≡ [] → ⊥
 never_none word [] some none = absurd (let z : ⊥ = cc in z)
-never_none word (n ∷ ns) some none = go (is_meant word n) some none
+never_none word (n ∷ ns) some none = go (never_none word ns) (is_meant word n) some none
   where
-    go : (b : Bool) → (b || list_any (is_meant word) ns) ≡ true → (if b then path_name n.path ∷ [] else []) ++ meant false ns word ≡ [] → ⊥
-    go true some none = absurd (let z : ⊥ = cc in z)
-    go false some none = never_none word ns some none
+    go : (list_any (is_meant word) ns ≡ true → meant false ns word ≡ [] → ⊥) → (b : Bool) → (b || list_any (is_meant word) ns) ≡ true → (if b then path_name n.path ∷ [] else []) ++ meant false ns word ≡ [] → ⊥
+    go fewer true some none = absurd (let z : ⊥ = cc in z)
+    go fewer false some none = fewer some none
 
 -- the paths that a word stands for are those of nodes, where it stands for some
 pub wanted_are : (word : List ℕ) (ns : List NodeFields) → stands_for_some ns word ≡ true → list_all (is_node ns) (wanted false ns word) ≡ true

@@ -13,15 +13,15 @@ use Rattle.udfs_salvage.specs.NodeTexts.{names_text, path_name}
 use Rattle.udfs_salvage.proofs.ChoosingLemmas.{on_behind}
 use Rattle.udfs_remarks.specs.Wanted.{is_meant, may_hide_meant, meant, meant_at, or_itself, stands_for_nothing, wanted}
 
+or_right : (a b : Bool) → b ≡ true → (a || b) ≡ true
+or_right true b h = refl
+or_right false b h = h
+
 -- where one is so, some is
 any_at : (p : List ℕ → Bool) (words : List (List ℕ)) (k : ℕ) (w : List ℕ) → slice_get words k ≡ Some w → p w ≡ true → list_any p words ≡ true
 any_at p [] k w at is = let bad : None ≡ Some w = at in absurd (let z : ⊥ = cc in z)
 any_at p (v ∷ words) zero w at is = let same : v ≡ w = cc in ap (λ b. b || list_any p words) (ap p same ∙ is)
-any_at p (v ∷ words) (suc k) w at is = go (p v)
-  where
-    go : (b : Bool) → (b || list_any p words) ≡ true
-    go true = refl
-    go false = any_at p words k w at is
+any_at p (v ∷ words) (suc k) w at is = or_right (p v) (list_any p words) (any_at p words k w at is)
 
 -- where none is so, none is
 none_any : (p : List ℕ → Bool) (words : List (List ℕ)) → ((k : ℕ) (w : List ℕ) → slice_get words k ≡ Some w → p w ≡ false) → list_any p words ≡ false
