@@ -14,7 +14,7 @@ use Rattle.udfs_words.specs.declared.request.ExtractRequest.{ExtractRequest}
 use Rattle.udfs_common.specs.Reach.{Reach}
 use Rattle.udfs_common.specs.declared.refusal.Refusal.{Refusal}
 use Rattle.udfs_common.specs.declared.refusal.Refusal.TheVariants as refusals
-use Rattle.udfs_extraction.specs.ByRequest.{Makes, MakesLost, MakesNodes, MakesTrees, fill_of}
+use Rattle.udfs_extraction.specs.ByRequest.{Makes, MakesLost, MakesNodes, MakesTrees, fill_of, is_wide}
 use Rattle.udfs_extraction.specs.Extracting.{SparesNodes}
 use Rattle.udfs_extraction.specs.ListedStops.{ListedStops}
 use Rattle.udfs_extraction.specs.LostPlaces.{lost_report}
@@ -66,7 +66,7 @@ module _ {F I M S W O : Type 0} (reach : Reach F I M S W) (stream : O → Stream
 
   -- the nodes or their manifest were not put, or not all
   pub listing_stops : (old new : F) (before after : O) (last : ℕ) (blocks : Blocks) (report : Report) (stop : Stop) → (stop ≡ stops.Unread → SparesNodes reach.files r.folder.now old new)
-      → IfStopped (ListStops reach r place old new (stream before) (stream after) blocks report) (NodesCut reach.files reach.output (texts r.only.items) r.folder.now (fill_of r.fill) r.short_names new (stream before) (stream after) blocks report) stop
+      → IfStopped (ListStops reach r place old new (stream before) (stream after) blocks report) (NodesCut reach.files reach.output (texts r.only.items) r.folder.now (fill_of r.fill) (is_wide r.volume.profile) r.short_names new (stream before) (stream after) blocks report) stop
       → IfStopped (Refuses old new before after last blocks report) (Cuts old new before after last blocks report) stop
   listing_stops old new before after last blocks report (stops.Refused refusal) still why = inr (inl why)
   listing_stops old new before after last blocks report stops.Unread still why = inr (inl (why, still refl))

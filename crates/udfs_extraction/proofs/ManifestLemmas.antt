@@ -23,7 +23,7 @@ use Rattle.udfs_common.specs.declared.refusal.Refusal.{Refusal}
 use Rattle.udfs_common.specs.declared.refusal.Refusal.TheVariants.{Unkept}
 use Rattle.udfs_salvage.specs.Choosing.{chosen, goes_on, is_node}
 use Rattle.udfs_extraction.specs.Extracting.{IsDone, IsElsewhere, Puts, PutsBy, PutsNone, SparesNodes, Stay, all_good, asked, node_line, path_below}
-use Rattle.udfs_extraction.specs.ByRequest.{IsNodePut, MakesNodes, PutsManifest, fill_of}
+use Rattle.udfs_extraction.specs.ByRequest.{IsNodePut, MakesNodes, PutsManifest, fill_of, is_wide}
 use Rattle.udfs_extraction.specs.Manifests.{AreLines, ByManifest, IsBeside, IsLine, IsManifest, IsNoted, IsPutLast, MayPut, MayPutLast, PutsListed, PutsNoted, PutsWith, digest_line, note_text, notes_of, notes_text}
 use Rattle.udfs_extraction.specs.Refused.{Unlisted}
 use Rattle.udfs_extraction.specs.Sparing.{SparesListed}
@@ -134,15 +134,15 @@ puts_with only lined P Is nodes old new good fates heard nothing_failed whole te
 
 module _ {F I M S W : Type 0} (reach : Reach F I M S W) (r : ExtractRequest) (blocks : Blocks) (report : Report) (old one two : F) (before after : Stream) (good : Bool) where
   abbrev WasNoted : Bool → Option (List ℕ) → Type 0
-  WasNoted digest text = PutsNoted (texts r.only.items) r.short_names (IsNodePut reach r one blocks)
+  WasNoted digest text = PutsNoted (texts r.only.items) (is_wide r.volume.profile) r.short_names (IsNodePut reach r one blocks)
       (λ told fates t. digest ≡ true → reach.files.tells → IsManifest (reach.files.holds one) r.folder.now r.short_names told fates t) old one report before after good text
 
   -- of a volume that opens
   with_text : (place text : Option (List ℕ)) (digest : Bool) → digest ≡ is_some place
-      → PutsWith (asked (texts r.only.items) report) (node_line [] r.short_names report) (IsNodePut reach r one blocks report)
+      → PutsWith (asked (texts r.only.items) report) (node_line [] (is_wide r.volume.profile) r.short_names report) (IsNodePut reach r one blocks report)
       (λ fates t. digest ≡ true → reach.files.tells → IsManifest (reach.files.holds one) r.folder.now r.short_names report fates t) report.nodes before after good text
       → ByManifest (two ≡ one) place text (λ there t. reach.files.tells → IsPutLast reach.files there one two t)
-      → PutsListed (asked (texts r.only.items) report) (node_line [] r.short_names report) (IsNodePut reach r one blocks report) (PutsManifest reach r place one two report) report.nodes before after good
+      → PutsListed (asked (texts r.only.items) report) (node_line [] (is_wide r.volume.profile) r.short_names report) (IsNodePut reach r one blocks report) (PutsManifest reach r place one two report) report.nodes before after good
   with_text None text digest is puts put = record { puts = puts.puts; listed = put }
   with_text (Some there) None digest is puts put = let bad : None ≡ Some puts.text = puts.has in absurd (let no : ⊥ = cc in no)
   with_text (Some there) (Some t) digest is puts put =
@@ -163,9 +163,9 @@ pub listed : {F I M S W : Type 0} (reach : Reach F I M S W) (r : ExtractRequest)
 listed reach r blocks report old one two before after good place text digest is puts put elsewhere = record { puts = by report.volume puts; elsewhere = elsewhere }
   where
     by : (volume : Answer Found)
-        → PutsBy volume (PutsWith (asked (texts r.only.items) report) (node_line [] r.short_names report) (IsNodePut reach r one blocks report)
+        → PutsBy volume (PutsWith (asked (texts r.only.items) report) (node_line [] (is_wide r.volume.profile) r.short_names report) (IsNodePut reach r one blocks report)
         (λ fates t. digest ≡ true → reach.files.tells → IsManifest (reach.files.holds one) r.folder.now r.short_names report fates t) report.nodes before after good text) (PutsNone old one report.volume before after good × (text ≡ None))
-        → PutsBy volume (PutsListed (asked (texts r.only.items) report) (node_line [] r.short_names report) (IsNodePut reach r one blocks report) (PutsManifest reach r place one two report) report.nodes before after good)
+        → PutsBy volume (PutsListed (asked (texts r.only.items) report) (node_line [] (is_wide r.volume.profile) r.short_names report) (IsNodePut reach r one blocks report) (PutsManifest reach r place one two report) report.nodes before after good)
         (PutsNone old one report.volume before after good × (two ≡ one))
     by (found f) p = with_text reach r blocks report old one two before after good place text digest is p put
     by (holes needed) n = (n.0, without_text reach r blocks report old one two before after good place text n.1 put)
@@ -182,7 +182,7 @@ spares_listed reach r blocks report old one two before after good place text dig
     by None t is puts may = may
     by (Some there) None is puts may = λ told. inl may
     by (Some there) (Some t) is puts may = λ told.
-        let of = text_of report.volume (asked (texts r.only.items) report) (node_line [] r.short_names report) (IsNodePut reach r one blocks report) (λ fates x. digest ≡ true → reach.files.tells → IsManifest (reach.files.holds one) r.folder.now r.short_names report fates x) report.nodes before after good (Some t) t _ (puts told) refl in
+        let of = text_of report.volume (asked (texts r.only.items) report) (node_line [] (is_wide r.volume.profile) r.short_names report) (IsNodePut reach r one blocks report) (λ fates x. digest ≡ true → reach.files.tells → IsManifest (reach.files.holds one) r.folder.now r.short_names report fates x) report.nodes before after good (Some t) t _ (puts told) refl in
         inr (record { report = report; fates = of.0; text = t; is_manifest = of.1 is told; may = may told })
 
 -- nothing was begun of a manifest, if one is asked for

@@ -11,7 +11,7 @@ use Rattle.udfs_words.specs.declared.request.ExtractRequest.{ExtractRequest}
 use Rattle.udfs_common.specs.Reach.{Reach}
 use Rattle.udfs_common.specs.declared.refusal.Refusal.{Refusal}
 use Rattle.udfs_common.specs.declared.refusal.Refusal.TheVariants as refusals
-use Rattle.udfs_extraction.specs.ByRequest.{fill_of}
+use Rattle.udfs_extraction.specs.ByRequest.{fill_of, is_wide}
 use Rattle.udfs_extraction.specs.Extracting.{SparesNodes}
 use Rattle.udfs_extraction.specs.Refused.{ListStops, NodesCut, NodesStop, lost_stop_of}
 use Rattle.udfs_extraction.specs.Stopping.{IfStopped}
@@ -41,8 +41,8 @@ stopped_is P C s t is h = subst (IfStopped P C) (sym is) h
 -- ---- of the nodes
 
 pub unlisted_by : {F I M S W : Type 0} (reach : Reach F I M S W) (r : ExtractRequest) (place : Option (List ℕ)) (old new : F) (before after : Stream) (blocks : Blocks) (report : Report) (stop : Stop) → SparesNodes reach.files r.folder.now old new
-    → IfStopped (NodesStop reach.files reach.output (texts r.only.items) r.folder.now (fill_of r.fill) r.short_names old new before after blocks report) (NodesCut reach.files reach.output (texts r.only.items) r.folder.now (fill_of r.fill) r.short_names new before after blocks report) stop
-    → IfStopped (ListStops reach r place old new before after blocks report) (NodesCut reach.files reach.output (texts r.only.items) r.folder.now (fill_of r.fill) r.short_names new before after blocks report) stop
+    → IfStopped (NodesStop reach.files reach.output (texts r.only.items) r.folder.now (fill_of r.fill) (is_wide r.volume.profile) r.short_names old new before after blocks report) (NodesCut reach.files reach.output (texts r.only.items) r.folder.now (fill_of r.fill) (is_wide r.volume.profile) r.short_names new before after blocks report) stop
+    → IfStopped (ListStops reach r place old new before after blocks report) (NodesCut reach.files reach.output (texts r.only.items) r.folder.now (fill_of r.fill) (is_wide r.volume.profile) r.short_names new before after blocks report) stop
 unlisted_by reach r place old new before after blocks report (Refused refusal) spares why = inl (why, spares)
 unlisted_by reach r place old new before after blocks report Unread spares why = why
 

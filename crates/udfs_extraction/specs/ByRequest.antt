@@ -1,5 +1,6 @@
 -- What `extract` makes and reports by its request `r`. `reach` is what is known of the files, and `stream` what an output has taken.
 --     fill_of fill                   what is written of torn files
+--     is_wide profile                whether a volume is read by the wide rules
 --     others r, more_others r        paths that may not lead to the folder for lost files, or to that for lost folders
 --     IsPlace reach old r place      where the manifest goes
 --     HaveFreePlaces reach old r     the manifest takes the place of nothing but a manifest, and the folders for what is lost are not there
@@ -34,11 +35,18 @@ use Rattle.udfs_extraction.specs.LostTrees.{AreFoundOf, IsTreePut, PutsTrees, tr
 use Rattle.udfs_extraction.specs.Manifests.{IsFreeManifest, IsManifest, IsPutLast, PutsListed}
 use Rattle.udfs_extraction.specs.Seats.{FoundAt}
 use Rattle.udfs_extraction.specs.declared.nodes.Fate.{Fate}
+use Rattle.udfs_volume.specs.declared.profiles.Profile.{Profile}
+use Rattle.udfs_volume.specs.declared.profiles.Profile.TheVariants as profile
 
 -- zeros in the holes of a torn file, where it is to be filled
 abbrev pub fill_of : Bool → Fill
 fill_of true = Byte 0
 fill_of false = Refuse
+
+-- by the wide rules
+abbrev pub is_wide : Profile → Bool
+is_wide profile.Strict = false
+is_wide profile.Wide = true
 
 -- ---- where they go
 
@@ -97,7 +105,7 @@ module _ {F I M S W : Type 0} (reach : Reach F I M S W) where
 -- has changed by then but those of nodes that are asked for and of which a file is to be written
 pub record MakesNodes {F I M S W : Type 0} (reach : Reach F I M S W) (r : ExtractRequest) (place : Option (List ℕ)) (old one two : F) (before after : Stream) (blocks : Blocks) (report : Report) (good : Bool) : Type 0 where
   pub puts : PutsBy report.volume
-      (PutsListed (asked (texts r.only.items) report) (node_line [] r.short_names report) (IsNodePut reach r one blocks report) (PutsManifest reach r place one two report) report.nodes before after good)
+      (PutsListed (asked (texts r.only.items) report) (node_line [] (is_wide r.volume.profile) r.short_names report) (IsNodePut reach r one blocks report) (PutsManifest reach r place one two report) report.nodes before after good)
       (PutsNone old one report.volume before after good × (two ≡ one))
   pub elsewhere : (q : List ℕ) → IsElsewhere (asked (texts r.only.items) report) (fill_of r.fill) r.short_names report r.folder.now q → reach.files.holds one q ≡ reach.files.holds old q
 

@@ -1,6 +1,7 @@
 -- What a command makes of the nodes of a volume.
 --     deed kind standing size fill     a folder, a file, or nothing
---     node_line word short report fate node    what is printed of a node with its fate, and with its short name where it has one
+--     is_filled wide standing                  a file that was written by the wide rules has zeros for what is missing
+--     node_line word wide short report fate node    what is printed of a node with its fate, and with its short name where it has one
 --     fate_lines lined nodes fates     what is printed of nodes, in order, where `lined` gives the line of each
 --     IsIn folder q                    a path below a folder by escaped names
 --     Spares folder held               nothing outside of the folder changes, nor any file that was there
@@ -12,7 +13,7 @@
 --     IsDone only P index node fate    this holds of a node that is asked for, and any other is passed over
 --     asked only report                the paths of the nodes that the words of `--only` stand for
 --     PutsOf                           what is made and reported of these nodes and all below them, where any other is passed over
-use Rattle.std.specs.Prelude.{◌≡◌, ◌≢◌, ◌⊎◌, ℕ, ◌≤◌, Bool, true, false, List, [], ◌∷◌, ◌++◌, ⊤, suc, Option, Some, None, cond, codes, drop, length, slice_get, if◌then◌else◌, ◌&&◌}
+use Rattle.std.specs.Prelude.{◌≡◌, ◌≢◌, ◌⊎◌, ℕ, ◌≤◌, Bool, true, false, not, List, [], ◌∷◌, ◌++◌, ⊤, suc, Option, Some, None, cond, codes, drop, length, slice_get, if◌then◌else◌, ◌&&◌}
 use Rattle.std.specs.List.{list_all}
 use Rattle.udfs_file.specs.declared.cells.Cell.{Cell}
 use Rattle.udfs_host_fs.specs.Disk.{Disk, Fails, Goes, SinkFails}
@@ -68,23 +69,31 @@ IsFateOf Folder fate = (fate ≢ Written) × (fate ≢ Skipped) × (fate ≢ Pas
 IsFateOf File fate = (fate ≢ Made) × (fate ≢ Skipped) × (fate ≢ Passed)
 IsFateOf Skip fate = fate ≡ Skipped
 
+-- by the wide rules a file that is not whole is told as filled where it was written: it has zeros for what is missing
+abbrev pub is_filled : Bool → Standing → Bool
+is_filled wide s = wide && not (is_whole s)
+
+-- the word of a file that was written, or filled
+abbrev pub written_word : Bool → List ℕ
+written_word filled = if filled then codes "filled " else codes "written "
+
 -- a file that was written has its short name after its path, where it has one; a word may stand before the path, as the name of a lost folder
-abbrev pub written_line : List ℕ → List (List ℕ) → Option (List ℕ) → List ℕ
-written_line word path None = line (codes "written " ++ word ++ names_text path)
-written_line word path (Some own) = line (codes "written " ++ word ++ names_text path ++ codes " as " ++ escaped own)
+abbrev pub written_line : Bool → List ℕ → List (List ℕ) → Option (List ℕ) → List ℕ
+written_line filled word path None = line (written_word filled ++ word ++ names_text path)
+written_line filled word path (Some own) = line (written_word filled ++ word ++ names_text path ++ codes " as " ++ escaped own)
 
 -- a folder that was made has no line, nor has a node that is not asked for
-abbrev pub fate_line : List ℕ → Fate → List (List ℕ) → Option (List ℕ) → List ℕ
-fate_line word Made path own = []
-fate_line word Written path own = written_line word path own
-fate_line word Failed path own = line (codes "failed " ++ word ++ names_text path)
-fate_line word Left path own = line (codes "failed " ++ word ++ names_text path)
-fate_line word Skipped path own = line (codes "skipped " ++ word ++ names_text path)
-fate_line word Passed path own = []
+abbrev pub fate_line : List ℕ → Bool → Fate → List (List ℕ) → Option (List ℕ) → List ℕ
+fate_line word filled Made path own = []
+fate_line word filled Written path own = written_line filled word path own
+fate_line word filled Failed path own = line (codes "failed " ++ word ++ names_text path)
+fate_line word filled Left path own = line (codes "failed " ++ word ++ names_text path)
+fate_line word filled Skipped path own = line (codes "skipped " ++ word ++ names_text path)
+fate_line word filled Passed path own = []
 
 -- that of a node of a report
-abbrev pub node_line : List ℕ → Bool → Report → Fate → NodeFields → List ℕ
-node_line word short report fate n = fate_line word fate n.path (own_name short report n)
+abbrev pub node_line : List ℕ → Bool → Bool → Report → Fate → NodeFields → List ℕ
+node_line word wide short report fate n = fate_line word (is_filled wide n.standing) fate n.path (own_name short report n)
 
 -- the lines of the nodes in order, as far as there are both nodes and fates
 abbrev pub fate_lines : (Fate → NodeFields → List ℕ) → List NodeFields → List Fate → List ℕ
@@ -202,8 +211,8 @@ abbrev pub asked : List (List ℕ) → Report → List (List ℕ)
 asked only report = all_wanted false report.nodes only
 
 -- what is made and reported of the nodes of a report that some words ask for
-abbrev pub PutsOf : {F : Type 0} → List (List ℕ) → Bool → (Report → ℕ → NodeFields → Fate → Type 0) → F → F → Report → Stream → Stream → Bool → Type 0
-PutsOf only short P before after report old new good = PutsBy report.volume (PutsChosen (asked only report) (node_line [] short report) (P report) report.nodes old new good) (PutsNone before after report.volume old new good)
+abbrev pub PutsOf : {F : Type 0} → List (List ℕ) → Bool → Bool → (Report → ℕ → NodeFields → Fate → Type 0) → F → F → Report → Stream → Stream → Bool → Type 0
+PutsOf only wide short P before after report old new good = PutsBy report.volume (PutsChosen (asked only report) (node_line [] wide short report) (P report) report.nodes old new good) (PutsNone before after report.volume old new good)
 
 -- no node that is asked for, and of which a file is to be written, has its file at this path
 abbrev pub IsElsewhere : List (List ℕ) → Fill → Bool → Report → List ℕ → List ℕ → Type 0

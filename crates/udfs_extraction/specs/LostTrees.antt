@@ -117,7 +117,7 @@ pub record TreePut : Type 0 where
 
 -- the lines of a tree's nodes, as far as there are fates
 abbrev pub tree_lines : Blocks → Answer Found → Bool → LostTree → TreePut → List ℕ
-tree_lines blocks volume short tree put = fate_lines (node_line (seat_word (has_two volume) tree.folder put.seat) short (tree_report blocks volume tree)) (tree_report blocks volume tree).nodes put.fates
+tree_lines blocks volume short tree put = fate_lines (node_line (seat_word (has_two volume) tree.folder put.seat) false short (tree_report blocks volume tree)) (tree_report blocks volume tree).nodes put.fates
 
 -- those of all trees
 abbrev pub trees_lines : (LostTree → TreePut → List ℕ) → List LostTree → List TreePut → List ℕ

@@ -86,8 +86,8 @@ pub record PutsWith (only : List (List ℕ)) (lined : Fate → NodeFields → Li
   pub has : manifest ≡ Some text
 
 -- what is made and printed for a report, and the text
-abbrev pub PutsNoted : {F : Type 0} → List (List ℕ) → Bool → (Report → ℕ → NodeFields → Fate → Type 0) → (Report → List Fate → List ℕ → Type 0) → F → F → Report → Stream → Stream → Bool → Option (List ℕ) → Type 0
-PutsNoted only short P Is before after report old new good manifest = PutsBy report.volume (PutsWith (asked only report) (node_line [] short report) (P report) (Is report) report.nodes old new good manifest) (PutsNone before after report.volume old new good × (manifest ≡ None))
+abbrev pub PutsNoted : {F : Type 0} → List (List ℕ) → Bool → Bool → (Report → ℕ → NodeFields → Fate → Type 0) → (Report → List Fate → List ℕ → Type 0) → F → F → Report → Stream → Stream → Bool → Option (List ℕ) → Type 0
+PutsNoted only wide short P Is before after report old new good manifest = PutsBy report.volume (PutsWith (asked only report) (node_line [] wide short report) (P report) (Is report) report.nodes old new good manifest) (PutsNone before after report.volume old new good × (manifest ≡ None))
 
 -- ---- the manifest is put
 

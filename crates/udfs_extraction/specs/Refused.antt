@@ -44,7 +44,7 @@ use Rattle.udfs_common.specs.declared.refusal.Refusal.TheVariants.{Folder, LostF
 use Rattle.udfs_remarks.specs.NoReports.{IsUntold}
 use Rattle.udfs_remarks.specs.Wanted.{stands_for_some}
 use Rattle.udfs_extraction.specs.BarePaths.{bare}
-use Rattle.udfs_extraction.specs.ByRequest.{IsNodePut, IsPlace, Makes, MakesLost, MakesNodes, fill_of}
+use Rattle.udfs_extraction.specs.ByRequest.{IsNodePut, IsPlace, Makes, MakesLost, MakesNodes, fill_of, is_wide}
 use Rattle.udfs_extraction.specs.Extracting.{IsDone, IsPutAt, Puts, PutsBy, PutsOf, SparesNodes, TellsLines, asked, node_line}
 use Rattle.udfs_extraction.specs.LostFiles.{EachLost, IsLostPutAt, lost_lines}
 use Rattle.udfs_extraction.specs.LostPlaces.{lost_report}
@@ -86,9 +86,9 @@ pub record StopsLine {F : Type 0} (before after : F) (volume : Answer Found) (ol
   pub told : refusal ≡ Output
 
 -- extracting the nodes ended with this error; of a volume that does not open, printing its line did
-abbrev pub StopsPutting : {F : Type 0} → Type 0 → List (List ℕ) → Bool → (Report → ℕ → NodeFields → Fate → Type 0) → F → F → Report → Stream → Stream → Refusal → Type 0
-StopsPutting Failed only short P before after report old new refusal =
-    PutsBy report.volume (StopsBefore Failed only report.nodes before after old new refusal ⊎ StopsNodes (node_line [] short report) (IsDone (asked only report) (P report)) report.nodes old new refusal) (StopsLine before after report.volume old new refusal)
+abbrev pub StopsPutting : {F : Type 0} → Type 0 → List (List ℕ) → Bool → Bool → (Report → ℕ → NodeFields → Fate → Type 0) → F → F → Report → Stream → Stream → Refusal → Type 0
+StopsPutting Failed only wide short P before after report old new refusal =
+    PutsBy report.volume (StopsBefore Failed only report.nodes before after old new refusal ⊎ StopsNodes (node_line [] wide short report) (IsDone (asked only report) (P report)) report.nodes old new refusal) (StopsLine before after report.volume old new refusal)
 
 -- nothing was reported, and the folder could not be made; or entries have their fates, and their lines as far as the output took them
 abbrev pub StopsLost : Type 0 → (Unnamed → Fate → Type 0) → Bool → List Unnamed → Stream → Stream → Refusal → Type 0
@@ -120,14 +120,14 @@ module _ {F I M S W : Type 0} (files : Ghosts F I M S W) (output : W → Stream)
       CutAt (IsTreePut files output new blocks report.volume short folder names) (tree_lines blocks report.volume short) trees between after
 
   -- extracting the nodes ended with this error
-  abbrev pub NodesStop : List (List ℕ) → List ℕ → Fill → Bool → F → F → Stream → Stream → Blocks → Report → Refusal → Type 0
-  NodesStop only folder fill short old new before after blocks report refusal =
-      StopsPutting (Fails files.faults) only short (λ told. IsPutAt files output new blocks told fill short folder) old new report before after refusal
+  abbrev pub NodesStop : List (List ℕ) → List ℕ → Fill → Bool → Bool → F → F → Stream → Stream → Blocks → Report → Refusal → Type 0
+  NodesStop only folder fill wide short old new before after blocks report refusal =
+      StopsPutting (Fails files.faults) only wide short (λ told. IsPutAt files output new blocks told fill short folder) old new report before after refusal
 
   -- a block could not be read again: nodes from the first after the root on have their fates, and their lines as far as the output took them
-  abbrev pub NodesCut : List (List ℕ) → List ℕ → Fill → Bool → F → Stream → Stream → Blocks → Report → Type 0
-  NodesCut only folder fill short new before after blocks report =
-      PutsBy report.volume ((heard : Bool) × (fates : List Fate) × Puts (node_line [] short report) (IsDone (asked only report) (IsPutAt files output new blocks report fill short folder)) report.nodes before after heard fates) ⊥
+  abbrev pub NodesCut : List (List ℕ) → List ℕ → Fill → Bool → Bool → F → Stream → Stream → Blocks → Report → Type 0
+  NodesCut only folder fill wide short new before after blocks report =
+      PutsBy report.volume ((heard : Bool) × (fates : List Fate) × Puts (node_line [] wide short report) (IsDone (asked only report) (IsPutAt files output new blocks report fill short folder)) report.nodes before after heard fates) ⊥
 
 -- ---- by the request
 
@@ -135,13 +135,13 @@ module _ {F I M S W : Type 0} (files : Ghosts F I M S W) (output : W → Stream)
 pub record Unlisted {F I M S W : Type 0} (reach : Reach F I M S W) (r : ExtractRequest) (there : List ℕ) (old new : F) (before after : Stream) (blocks : Blocks) (report : Report) (refusal : Refusal) : Type 0 where
   pub one : F
   pub good : Bool
-  pub puts : PutsOf (texts r.only.items) r.short_names (IsNodePut reach r one blocks) old one report before after good
+  pub puts : PutsOf (texts r.only.items) (is_wide r.volume.profile) r.short_names (IsNodePut reach r one blocks) old one report before after good
   pub unput : IsUnput (Fails reach.files.faults ⊎ SinkFails reach.output) refusal
   pub stays : refusal ≢ Unkept → reach.files.holds new there ≡ reach.files.holds one there
 
 -- extracting the nodes ended with this error, and nothing outside of their folder changed; or putting their manifest did
 abbrev pub ListStops : {F I M S W : Type 0} → Reach F I M S W → ExtractRequest → Option (List ℕ) → F → F → Stream → Stream → Blocks → Report → Refusal → Type 0
-ListStops reach r place old new before after blocks report refusal = (NodesStop reach.files reach.output (texts r.only.items) r.folder.now (fill_of r.fill) r.short_names old new before after blocks report refusal × SparesNodes reach.files r.folder.now old new) ⊎
+ListStops reach r place old new before after blocks report refusal = (NodesStop reach.files reach.output (texts r.only.items) r.folder.now (fill_of r.fill) (is_wide r.volume.profile) r.short_names old new before after blocks report refusal × SparesNodes reach.files r.folder.now old new) ⊎
     MatchOption place ⊥ (λ there. Unlisted reach r there old new before after blocks report refusal)
 
 -- at some moment the nodes were put and reported, and their manifest put, and then putting the lost files ended with this error
@@ -232,7 +232,7 @@ pub record CutBeyond {F I M S W O : Type 0} (reach : Reach F I M S W) (stream : 
 -- A block of a report's volume could not be read again. Nothing was made or reported then; or nodes were, up to some one, and nothing outside of their folder changed; or what is lost was, as far.
 abbrev pub ListedCut : {F I M S W O : Type 0} → Reach F I M S W → (O → Stream) → ExtractRequest → Option (List ℕ) → F → F → O → O → ℕ → Blocks → Report → Type 0
 ListedCut reach stream r place old new before after last blocks report = ((new ≡ old) × (after ≡ before)) ⊎
-    (NodesCut reach.files reach.output (texts r.only.items) r.folder.now (fill_of r.fill) r.short_names new (stream before) (stream after) blocks report × SparesNodes reach.files r.folder.now old new) ⊎
+    (NodesCut reach.files reach.output (texts r.only.items) r.folder.now (fill_of r.fill) (is_wide r.volume.profile) r.short_names new (stream before) (stream after) blocks report × SparesNodes reach.files r.folder.now old new) ⊎
     MatchOption r.lost ⊥ (λ folder. CutAdding reach stream r place folder.now old new before after blocks report) ⊎
     MatchOption r.trees ⊥ (λ folder. CutBeyond reach stream r place folder.now old new before after last blocks report)
 

@@ -58,7 +58,7 @@ fn put_first<B: BlockStore, F: Files, O: Sink>(
     requires { 0 < length listing.now.nodes.items }
     ensures put { IfOk result (λ first. B.tells → (n : NodeFields) → slice_get (listing_by B.states listing.now).nodes 0 ≡ Some n →
         IsPutAt F.Files F.Output.stream files.new (B.states listing.now.table.now) (listing_by B.states listing.now) Fill.Refuse short folder.now 0 n first.fate ×
-        TellsLines first.heard (O.stream out.old) (O.stream out.new) (node_line word.now short (listing_by B.states listing.now) first.fate n)) }
+        TellsLines first.heard (O.stream out.old) (O.stream out.new) (node_line word.now false short (listing_by B.states listing.now) first.fate n)) }
     ensures memory { OnErr result (out.new ≡ out.old) }
     ensures spares { SparesNodes F.Files folder.now files.old files.new }
     ensures fails { IsErrOf result GaveUp.Unread → (B.fails → ⊥) → ⊥ }
@@ -71,7 +71,16 @@ fn put_first<B: BlockStore, F: Files, O: Sink>(
     let done = put_node(alloc, listing, 0, Fill::Refuse, false, path, &spare, files)?;
     let fate = name_file(path, done.fate, files);
     let node = node_at(listing, 0);
-    let heard = tell(alloc, true, fate, word, &node.path, &target.own, out)?;
+    let heard = tell(
+        alloc,
+        true,
+        fate,
+        false,
+        word,
+        &node.path,
+        &target.own,
+        out,
+    )?;
     let mut totals = Totals::new();
     remark_on_fate(alloc, listing, word, node, fate, &mut totals, files);
     set_written_time(alloc, word, node, fate, folder, place, times, files);
@@ -91,7 +100,7 @@ fn put_tree<B: BlockStore, F: Files, O: Sink>(
     out: &mut O,
 ) -> Result<bool, Stop>
     ensures put { B.tells → (heard : Bool) × (fates : List Fate) × Each (IsPutAt F.Files F.Output.stream files.new (B.states listing.now.table.now) (listing_by B.states listing.now) Fill.Refuse short folder.now) 0 (listing_by B.states listing.now).nodes fates ×
-        TellsLines heard (O.stream out.old) (O.stream out.new) (fate_lines (node_line word.now short (listing_by B.states listing.now)) (listing_by B.states listing.now).nodes fates) ×
+        TellsLines heard (O.stream out.old) (O.stream out.new) (fate_lines (node_line word.now false short (listing_by B.states listing.now)) (listing_by B.states listing.now).nodes fates) ×
         IfOk result (λ good. (length fates ≡ length listing.now.nodes.items) × (heard ≡ true) × (good ≡ all_good fates)) ×
         IfErr result (IfStopped (λ refusal. (refusal ≡ Refusal.Memory alloc_error) ⊎ ((refusal ≡ Refusal.Output) × (heard ≡ false))) ⊤) }
     ensures spares { SparesNodes F.Files folder.now files.old files.new }
@@ -113,6 +122,7 @@ fn put_tree<B: BlockStore, F: Files, O: Sink>(
         alloc,
         listing,
         word,
+        false,
         &["/"],
         Fill::Refuse,
         short,

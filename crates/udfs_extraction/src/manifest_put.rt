@@ -6,7 +6,7 @@ ghost use Rattle.udfs_salvage.specs.Listings.{listing_by};
 ghost use Rattle.udfs_words.specs.Requests.{texts};
 ghost use Rattle.udfs_common.specs.Keeping.{IsKept};
 ghost use Rattle.udfs_common.specs.Refusing.{IsUnput};
-ghost use Rattle.udfs_extraction.specs.ByRequest.{MakesNodes, fill_of};
+ghost use Rattle.udfs_extraction.specs.ByRequest.{MakesNodes, fill_of, is_wide};
 ghost use Rattle.udfs_extraction.specs.Extracting.{SparesNodes};
 ghost use Rattle.udfs_extraction.specs.Manifests.{ByManifest, IsPutLast, MayPut, notes_text};
 ghost use Rattle.udfs_extraction.specs.Refused.{ListStops, NodesCut};
@@ -117,7 +117,7 @@ pub fn list_report<B: ReportStore, F: Files, O: Sink>(
     requires { F.tells → B.tells }
     ensures made { IfOk result (λ good. B.tells → (one : F) × MakesNodes ⟦<F as Known>⟧.reach request.now (option_map string_bytes place.now) files.old one files.new (O.stream out.old) (O.stream out.new) (B.states listing.now.table.now) (listing_by B.states listing.now) good) }
     ensures why { IfErr result (λ stop. B.tells → IfStopped (ListStops ⟦<F as Known>⟧.reach request.now (option_map string_bytes place.now) files.old files.new (O.stream out.old) (O.stream out.new) (B.states listing.now.table.now) (listing_by B.states listing.now))
-        (NodesCut F.Files F.Output.stream (texts request.now.only.items) request.now.folder.now (fill_of request.now.fill) request.now.short_names files.new (O.stream out.old) (O.stream out.new) (B.states listing.now.table.now) (listing_by B.states listing.now)) stop) }
+        (NodesCut F.Files F.Output.stream (texts request.now.only.items) request.now.folder.now (fill_of request.now.fill) (is_wide request.now.volume.profile) request.now.short_names files.new (O.stream out.old) (O.stream out.new) (B.states listing.now.table.now) (listing_by B.states listing.now)) stop) }
     ensures still { IsErrOf result Stop.Unread → SparesNodes F.Files request.now.folder.now files.old files.new }
     ensures no_node { (i : ℕ) → IsErrOf result (Stop.Refused (Refusal.NoNode i)) → files.new ≡ files.old }
     ensures spares { SparesListed ⟦<F as Known>⟧.reach request.now (option_map string_bytes place.now) files.old files.new }

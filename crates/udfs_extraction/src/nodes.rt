@@ -4,7 +4,7 @@ ghost use Rattle.std.specs.Prelude.{◌≡◌, ◌<◌, ◌⊎◌, ℕ, Bool, tr
 ghost use Rattle.udfs_host_fs.specs.Disk.{Goes, Fails, SinkFails};
 ghost use Rattle.udfs_salvage.specs.Listings.{listing_by};
 ghost use Rattle.udfs_words.specs.Requests.{texts};
-ghost use Rattle.udfs_extraction.specs.ByRequest.{IsNodePut, fill_of};
+ghost use Rattle.udfs_extraction.specs.ByRequest.{IsNodePut, fill_of, is_wide};
 ghost use Rattle.udfs_extraction.specs.Extracting.{IsDone, IsElsewhere, IsIn, IsPutAt, Puts, Spares, SparesNodes, Stay, all_good, asked, is_good, node_line};
 ghost use Rattle.udfs_extraction.specs.Manifests.{IsManifest, PutsNoted, notes_text};
 ghost use Rattle.udfs_extraction.specs.Refused.{NodesCut, NodesStop};
@@ -29,6 +29,7 @@ use udfs_remarks::remarks::{UNREAD, remark_on_left_out, remark_on_listing_by};
 use udfs_remarks::wanted::texts_of;
 use udfs_salvage::choosing::chosen_are_whole;
 use udfs_salvage::{Fill, Listing, ReportStore, Volume, write_volume_line};
+use udfs_volume::Profile;
 use udfs_words::request::ExtractRequest;
 
 /// What is done with a node.
@@ -78,12 +79,13 @@ pub fn still_good(good: bool, fate: Fate) -> bool
     }
 }
 
-/// Goes through the nodes after the root, in order, run by run; `word` stands before their paths in what is printed. Where the output fails, it goes on, but
+/// Goes through the nodes after the root, in order, run by run; `word` stands before their paths in what is printed. By the wide rules a torn file that is written is told as filled. Where the output fails, it goes on, but
 /// prints no more.
 pub fn put_nodes<B: BlockStore, F: Files, O: Sink>(
     alloc: Global,
     listing: &Listing<'_, B>,
     word: &str,
+    wide: bool,
     only: &[&str],
     fill: Fill,
     short: bool,
@@ -93,7 +95,7 @@ pub fn put_nodes<B: BlockStore, F: Files, O: Sink>(
     files: &mut F,
     out: &mut O,
 ) -> Result<Told, GaveUp>
-    ensures put { B.tells → (heard : Bool) × (fates : List Fate) × Puts (node_line word.now short (listing_by B.states listing.now)) (IsDone (texts only.now)
+    ensures put { B.tells → (heard : Bool) × (fates : List Fate) × Puts (node_line word.now wide short (listing_by B.states listing.now)) (IsDone (texts only.now)
         (IsPutAt F.Files F.Output.stream files.new (B.states listing.now.table.now) (listing_by B.states listing.now) fill short folder.now))
         (listing_by B.states listing.now).nodes (O.stream out.old) (O.stream out.new) heard fates ×
         IfOk result (λ told. (length fates ≡ length (drop 1 (listing_by B.states listing.now).nodes)) × (told.heard ≡ heard) × (told.good ≡ all_good fates) ×
@@ -109,7 +111,7 @@ pub fn put_nodes<B: BlockStore, F: Files, O: Sink>(
     let mut next = 1;
     while next < listing.nodes.len() {
         next = put_run(
-            alloc, listing, next, word, only, fill, short, digest, folder, times, &mut way,
+            alloc, listing, next, word, wide, only, fill, short, digest, folder, times, &mut way,
             &mut told, files, out,
         )?;
     }
@@ -167,6 +169,7 @@ pub fn put_report<B: ReportStore, F: Files, O: Sink>(
     listing: &Listing<'_, B>,
     only: &[&str],
     fill: Fill,
+    wide: bool,
     short: bool,
     digest: bool,
     folder: &str,
@@ -174,12 +177,12 @@ pub fn put_report<B: ReportStore, F: Files, O: Sink>(
     files: &mut F,
     out: &mut O,
 ) -> Result<Made, Stop>
-    ensures put { IfOk result (λ made. B.tells → PutsNoted (texts only.now) short
+    ensures put { IfOk result (λ made. B.tells → PutsNoted (texts only.now) wide short
         (λ told. IsPutAt F.Files F.Output.stream files.new (B.states listing.now.table.now) told fill short folder.now)
         (λ told fates text. digest ≡ true → F.tells → IsManifest (F.holds files.new) folder.now short told fates text)
         files.old files.new (listing_by B.states listing.now) (O.stream out.old) (O.stream out.new) made.good (option_map (λ m. notes_text short (listing_by B.states listing.now) m.items) made.manifest)) }
-    ensures why { IfErr result (λ stop. B.tells → IfStopped (NodesStop F.Files F.Output.stream (texts only.now) folder.now fill short files.old files.new (O.stream out.old) (O.stream out.new) (B.states listing.now.table.now) (listing_by B.states listing.now))
-        (NodesCut F.Files F.Output.stream (texts only.now) folder.now fill short files.new (O.stream out.old) (O.stream out.new) (B.states listing.now.table.now) (listing_by B.states listing.now)) stop) }
+    ensures why { IfErr result (λ stop. B.tells → IfStopped (NodesStop F.Files F.Output.stream (texts only.now) folder.now fill wide short files.old files.new (O.stream out.old) (O.stream out.new) (B.states listing.now.table.now) (listing_by B.states listing.now))
+        (NodesCut F.Files F.Output.stream (texts only.now) folder.now fill wide short files.new (O.stream out.old) (O.stream out.new) (B.states listing.now.table.now) (listing_by B.states listing.now)) stop) }
     ensures no_node { (i : ℕ) → IsErrOf result (Stop.Refused (Refusal.NoNode i)) → files.new ≡ files.old }
     ensures stays { F.tells → Stay (F.holds files.old) (F.holds files.new) }
     ensures outside { (q : List ℕ) → (¬ IsIn folder.now q) → F.holds files.new q ≡ F.holds files.old q }
@@ -206,7 +209,7 @@ pub fn put_report<B: ReportStore, F: Files, O: Sink>(
                 return Err(Stop::Refused(Refusal::Folder));
             }
             let told = match put_nodes(
-                alloc, listing, "", chosen, fill, short, digest, folder, times, files, out,
+                alloc, listing, "", wide, chosen, fill, short, digest, folder, times, files, out,
             ) {
                 Ok(told) => told,
                 Err(GaveUp::OutOfMemory) => {
@@ -244,6 +247,16 @@ fn fill_of(fill: bool) -> Fill
     if fill { Fill::Byte(0) } else { Fill::Refuse }
 }
 
+/// Whether a volume is read by the wide rules.
+fn is_wide(profile: Profile) -> bool
+    ensures { result ≡ is_wide profile }
+{
+    match profile {
+        Profile::Strict => false,
+        Profile::Wide => true,
+    }
+}
+
 /// Makes what a request asks for of a report: see [`put_report`].
 pub fn make_nodes<B: ReportStore, F: Files, O: Sink>(
     alloc: Global,
@@ -254,11 +267,11 @@ pub fn make_nodes<B: ReportStore, F: Files, O: Sink>(
     files: &mut F,
     out: &mut O,
 ) -> Result<Made, Stop>
-    ensures put { IfOk result (λ made. B.tells → PutsNoted (texts request.now.only.items) request.now.short_names (IsNodePut ⟦<F as Known>⟧.reach request.now files.new (B.states listing.now.table.now))
+    ensures put { IfOk result (λ made. B.tells → PutsNoted (texts request.now.only.items) (is_wide request.now.volume.profile) request.now.short_names (IsNodePut ⟦<F as Known>⟧.reach request.now files.new (B.states listing.now.table.now))
         (λ told fates text. digest ≡ true → F.tells → IsManifest (F.holds files.new) request.now.folder.now request.now.short_names told fates text)
         files.old files.new (listing_by B.states listing.now) (O.stream out.old) (O.stream out.new) made.good (option_map (λ m. notes_text request.now.short_names (listing_by B.states listing.now) m.items) made.manifest)) }
-    ensures why { IfErr result (λ stop. B.tells → IfStopped (NodesStop F.Files F.Output.stream (texts request.now.only.items) request.now.folder.now (fill_of request.now.fill) request.now.short_names files.old files.new (O.stream out.old) (O.stream out.new) (B.states listing.now.table.now) (listing_by B.states listing.now))
-        (NodesCut F.Files F.Output.stream (texts request.now.only.items) request.now.folder.now (fill_of request.now.fill) request.now.short_names files.new (O.stream out.old) (O.stream out.new) (B.states listing.now.table.now) (listing_by B.states listing.now)) stop) }
+    ensures why { IfErr result (λ stop. B.tells → IfStopped (NodesStop F.Files F.Output.stream (texts request.now.only.items) request.now.folder.now (fill_of request.now.fill) (is_wide request.now.volume.profile) request.now.short_names files.old files.new (O.stream out.old) (O.stream out.new) (B.states listing.now.table.now) (listing_by B.states listing.now))
+        (NodesCut F.Files F.Output.stream (texts request.now.only.items) request.now.folder.now (fill_of request.now.fill) (is_wide request.now.volume.profile) request.now.short_names files.new (O.stream out.old) (O.stream out.new) (B.states listing.now.table.now) (listing_by B.states listing.now)) stop) }
     ensures no_node { (i : ℕ) → IsErrOf result (Stop.Refused (Refusal.NoNode i)) → files.new ≡ files.old }
     ensures elsewhere { (q : List ℕ) → IsElsewhere (asked (texts request.now.only.items) (listing_by B.states listing.now)) (fill_of request.now.fill) request.now.short_names (listing_by B.states listing.now) request.now.folder.now q → F.holds files.new q ≡ F.holds files.old q }
     ensures spares { SparesNodes F.Files request.now.folder.now files.old files.new }
@@ -266,12 +279,14 @@ pub fn make_nodes<B: ReportStore, F: Files, O: Sink>(
 {
     let only = request.only.as_slice();
     let fill = fill_of(request.fill);
+    let wide = is_wide(request.volume.profile);
     let short = request.short_names;
     match put_report(
         alloc,
         listing,
         only,
         fill,
+        wide,
         short,
         digest,
         request.folder,

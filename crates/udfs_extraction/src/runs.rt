@@ -5,7 +5,7 @@ ghost use Rattle.udfs_host_fs.specs.Disk.{Fails, Goes, SinkFails};
 ghost use Rattle.udfs_salvage.specs.Listings.{listing_by};
 ghost use Rattle.udfs_walk.specs.NodeFields.{NodeFields};
 ghost use Rattle.udfs_words.specs.Requests.{texts};
-ghost use Rattle.udfs_extraction.specs.Extracting.{IsDone, IsPutAt, TellsOn, all_good, fate_line, is_good, node_line};
+ghost use Rattle.udfs_extraction.specs.Extracting.{IsDone, IsPutAt, TellsOn, all_good, fate_line, is_filled, is_good, node_line};
 ghost use Rattle.udfs_extraction.specs.Manifests.{AreLines, notes_of, notes_text};
 ghost use Rattle.udfs_extraction.specs.Runs.{AreFresh, AreHeld, AreKept, ArePlaced, IsEnd, IsHeld, IsOfPut, IsPlaced, RunsOn, SameButPuts, SparesRun};
 ghost use Rattle.udfs_extraction.specs.ShortNames.{IsWay, placed};
@@ -17,7 +17,7 @@ use crate::node_files::{node_at, path_in, put_chosen};
 use crate::nodes::{Done, Fate, still_good};
 use crate::places::place_of;
 use crate::spare::Spare;
-use crate::telling::tell;
+use crate::telling::{is_filled, tell};
 use crate::times::note_time;
 use std::alloc::{AllocError, Global};
 use udfs_common::files::Files;
@@ -161,6 +161,7 @@ fn tell_put<B: BlockStore, F: Files, O: Sink>(
     put: &Put,
     named: bool,
     word: &str,
+    wide: bool,
     only: &[&str],
     folder: &str,
     times: &Times,
@@ -170,7 +171,7 @@ fn tell_put<B: BlockStore, F: Files, O: Sink>(
 ) -> Result<(), AllocError>
     requires { index < length listing.now.nodes.items }
     ensures told { OnOk result ((fate : Fate) × IsEnd named put.now.done.fate fate ×
-        ((n : NodeFields) → slice_get (listing_by B.states listing.now).nodes index ≡ Some n → TellsOn told.old.heard told.new.heard (O.stream out.old) (O.stream out.new) (fate_line word.now fate n.path put.now.place.own)) ×
+        ((n : NodeFields) → slice_get (listing_by B.states listing.now).nodes index ≡ Some n → TellsOn told.old.heard told.new.heard (O.stream out.old) (O.stream out.new) (fate_line word.now (is_filled wide n.standing) fate n.path put.now.place.own)) ×
         (told.new.good ≡ (if is_good fate then told.old.good else false)) × (told.new.manifest.items ≡ told.old.manifest.items ++ notes_of fate put.now.done.digest index)) }
     ensures untold { OnErr result ((out.new ≡ out.old) × (told.new.heard ≡ told.old.heard)) }
     ensures named { named ≡ true → files.new ≡ files.old }
@@ -182,7 +183,10 @@ fn tell_put<B: BlockStore, F: Files, O: Sink>(
     note(&mut told.manifest, Done { fate, digest }, index)?;
     let node = node_at(listing, index);
     let own = &put.place.own;
-    let heard = tell(alloc, told.heard, fate, word, &node.path, own, out)?;
+    let filled = is_filled(wide, &node.standing);
+    let heard = tell(
+        alloc, told.heard, fate, filled, word, &node.path, own, out,
+    )?;
     told.heard = heard;
     told.good = still_good(told.good, fate);
     remark_on_fate(alloc, listing, word, node, fate, &mut told.totals, files);
@@ -211,6 +215,7 @@ fn tell_each<B: BlockStore, F: Files, O: Sink>(
     puts: &[Put],
     named: bool,
     word: &str,
+    wide: bool,
     only: &[&str],
     folder: &str,
     times: &Times,
@@ -223,7 +228,7 @@ fn tell_each<B: BlockStore, F: Files, O: Sink>(
     requires kept { named ≡ true → F.tells → AreKept (F.holds files.old) (F.may_leave files.old) puts.now }
     // As the files were before any of them was removed.
     ensures put { (fill : Fill) (short digest : Bool) → AreHeld F.Files F.Output.stream files.old (texts only.now) (B.states listing.now.table.now) (listing_by B.states listing.now) fill short digest folder.now first puts.now →
-        (fates : List Fate) × RunsOn (node_line word.now short (listing_by B.states listing.now))
+        (fates : List Fate) × RunsOn (node_line word.now wide short (listing_by B.states listing.now))
         (λ k n fate. IsDone (texts only.now) (IsPutAt F.Files F.Output.stream files.old (B.states listing.now.table.now) (listing_by B.states listing.now) fill short folder.now) k n fate × (named ≡ false → fate ≢ Fate.Written))
         first (listing_by B.states listing.now).nodes told.old.heard told.new.heard (O.stream out.old) (O.stream out.new) fates ×
         OnOk result ((length fates ≡ length puts.now) × (told.new.good ≡ (if all_good fates then told.old.good else false)) ×
@@ -242,6 +247,7 @@ fn tell_each<B: BlockStore, F: Files, O: Sink>(
             put,
             named,
             word,
+            wide,
             only,
             folder,
             times,
@@ -260,6 +266,7 @@ pub fn put_run<B: BlockStore, F: Files, O: Sink>(
     listing: &Listing<'_, B>,
     first: usize,
     word: &str,
+    wide: bool,
     only: &[&str],
     fill: Fill,
     short: bool,
@@ -274,7 +281,7 @@ pub fn put_run<B: BlockStore, F: Files, O: Sink>(
     requires after { 0 < first }
     requires first { first < length listing.now.nodes.items }
     requires way { IsWay (listing_by B.states listing.now).nodes (first - 1) way.old.items }
-    ensures put { B.tells → (fates : List Fate) × RunsOn (node_line word.now short (listing_by B.states listing.now))
+    ensures put { B.tells → (fates : List Fate) × RunsOn (node_line word.now wide short (listing_by B.states listing.now))
         (IsDone (texts only.now) (IsPutAt F.Files F.Output.stream files.new (B.states listing.now.table.now) (listing_by B.states listing.now) fill short folder.now))
         first (listing_by B.states listing.now).nodes told.old.heard told.new.heard (O.stream out.old) (O.stream out.new) fates ×
         IfOk result (λ next. (next ≡ first + length fates) × (told.new.good ≡ (if all_good fates then told.old.good else false)) ×
@@ -292,7 +299,7 @@ pub fn put_run<B: BlockStore, F: Files, O: Sink>(
     let made = puts.as_slice();
     let named = name_files(made, files);
     tell_each(
-        alloc, listing, first, made, named, word, only, folder, times, told, files, out,
+        alloc, listing, first, made, named, word, wide, only, folder, times, told, files, out,
     )?;
     put?;
     Ok(first + made.len())

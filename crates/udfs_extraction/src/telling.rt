@@ -3,14 +3,14 @@
 ghost use Rattle.std.specs.Prelude.{◌≡◌, ◌<◌, ◌++◌, true, false, IfOk, OnErr, string_bytes};
 ghost use Rattle.udfs_salvage.specs.NodeTexts.{names_text};
 ghost use Rattle.udfs_salvage.specs.Texts.{line};
-ghost use Rattle.udfs_extraction.specs.Extracting.{TellsOn, fate_line, written_line};
+ghost use Rattle.udfs_extraction.specs.Extracting.{TellsOn, fate_line, is_filled, written_line, written_word};
 
 use crate::nodes::Fate;
 use std::alloc::{AllocError, Global};
 use udfs_osta::Name;
 use udfs_reading::{Sink, WriteFault, write_all};
 use udfs_salvage::push_names;
-use udfs_walk::Path;
+use udfs_walk::{Path, Standing};
 
 /// A keyword, the word before paths, the path of a node and a line feed.
 fn line_of(alloc: Global, keyword: &str, word: &str, names: &Path) -> Result<String, AllocError>
@@ -23,19 +23,28 @@ fn line_of(alloc: Global, keyword: &str, word: &str, names: &Path) -> Result<Str
     Ok(text)
 }
 
-/// The line of a node that was written, with its short name where it has one.
+/// The word of a file that was written, or filled.
+fn written_word(filled: bool) -> &'static str
+    ensures { result.now ≡ written_word filled }
+{
+    if filled { "filled " } else { "written " }
+}
+
+/// The line of a file that was written, or filled, with its short name where it has one.
 fn written_line(
     alloc: Global,
+    filled: bool,
     word: &str,
     names: &Path,
     own: &Option<Name>,
 ) -> Result<String, AllocError>
-    ensures { IfOk result (λ text. string_bytes text ≡ written_line word.now names.now own.now) }
+    ensures { IfOk result (λ text. string_bytes text ≡ written_line filled word.now names.now own.now) }
 {
+    let keyword = written_word(filled);
     match own {
-        None => line_of(alloc, "written ", word, names),
+        None => line_of(alloc, keyword, word, names),
         Some(short) => {
-            let mut text = String::from_str(alloc, "written ")?;
+            let mut text = String::from_str(alloc, keyword)?;
             text.push_str(word)?;
             push_names(&mut text, names)?;
             text.push_str(" as ")?;
@@ -46,17 +55,25 @@ fn written_line(
     }
 }
 
-/// Prints what became of a node, with a word before its path, if the output took all before it, and returns whether it took this too. Where memory runs out, nothing is printed.
+/// Whether by the rules of a profile, the wide ones or not, a file of this standing is told as filled where it was written.
+pub fn is_filled(wide: bool, standing: &Standing) -> bool
+    ensures { result ≡ is_filled wide standing.now }
+{
+    wide && !matches!(standing, Standing::Whole)
+}
+
+/// Prints what became of a node, whose file is told as filled or as written, with a word before its path, if the output took all before it, and returns whether it took this too. Where memory runs out, nothing is printed.
 pub fn tell<O: Sink>(
     alloc: Global,
     heard: bool,
     fate: Fate,
+    filled: bool,
     word: &str,
     names: &Path,
     own: &Option<Name>,
     out: &mut O,
 ) -> Result<bool, AllocError>
-    ensures lines { IfOk result (λ still. TellsOn heard still (O.stream out.old) (O.stream out.new) (fate_line word.now fate names.now own.now)) }
+    ensures lines { IfOk result (λ still. TellsOn heard still (O.stream out.old) (O.stream out.new) (fate_line word.now filled fate names.now own.now)) }
     ensures memory { OnErr result (out.new ≡ out.old) }
 {
     if !heard {
@@ -64,7 +81,7 @@ pub fn tell<O: Sink>(
     }
     let line = match fate {
         Fate::Made | Fate::Passed => return Ok(true),
-        Fate::Written => written_line(alloc, word, names, own)?,
+        Fate::Written => written_line(alloc, filled, word, names, own)?,
         Fate::Failed | Fate::Left => line_of(alloc, "failed ", word, names)?,
         Fate::Skipped => line_of(alloc, "skipped ", word, names)?,
     };

@@ -76,6 +76,6 @@ returns-clause-put g c known n at =
     (subst (λ p. IsKept (F.holds after) (F.may_leave after) p bytes) here (named.kept (end.1.same is_named ∙ written) told bytes (subst (λ p. F.holds c.put_node.new.files p ≡ Some (Some bytes)) (sym here) there))))
     (record { asked = λ asked. held; passed = λ passed. let bad : true ≡ false = passed in cc }) in (
       put.asked refl,
-      subst (λ (o : Option (List ℕ)). TellsLines c.in_ok-heard.heard (S.stream c.args.out.now) (S.stream c.tell.new.out) (fate_line c.args.word.now fate n.path o)) own
-          (subst (λ (p : List (List ℕ)). TellsLines c.in_ok-heard.heard (S.stream c.args.out.now) (S.stream c.tell.new.out) (fate_line c.args.word.now fate p c.in_ok-target.target.own)) path c.in_ok-heard.ensures.lines),
+      subst (λ (o : Option (List ℕ)). TellsLines c.in_ok-heard.heard (S.stream c.args.out.now) (S.stream c.tell.new.out) (fate_line c.args.word.now false fate n.path o)) own
+          (subst (λ (p : List (List ℕ)). TellsLines c.in_ok-heard.heard (S.stream c.args.out.now) (S.stream c.tell.new.out) (fate_line c.args.word.now false fate p c.in_ok-target.target.own)) path c.in_ok-heard.ensures.lines),
     )

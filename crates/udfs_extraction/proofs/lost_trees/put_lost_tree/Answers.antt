@@ -33,7 +33,7 @@ returns-in-Ok-put_tree-clause-put g c known =
       put.0,
       record { seat = at; fates = put.1 },
       (found.1, subst (λ p. Each (IsPutAt F g.F.Output.Sink.stream c.put_tree.new.files (g.B.BlockStore.states l.table.now) (listing_by g.B.BlockStore.states l) Refuse c.args.short p) 0 (listing_by g.B.BlockStore.states l).nodes put.1) path put.2),
-      subst (λ w. TellsLines put.0 (S.stream c.args.out.now) (S.stream c.put_tree.new.out) (fate_lines (node_line w c.args.short (listing_by g.B.BlockStore.states l)) (listing_by g.B.BlockStore.states l).nodes put.1)) word put.3,
+      subst (λ w. TellsLines put.0 (S.stream c.args.out.now) (S.stream c.put_tree.new.out) (fate_lines (node_line w false c.args.short (listing_by g.B.BlockStore.states l)) (listing_by g.B.BlockStore.states l).nodes put.1)) word put.3,
       put.4,
       put.5,
     )
@@ -65,7 +65,7 @@ returns-clause-put g c known =
       put.0,
       record { seat = at; fates = put.1 },
       (found.1, subst (λ p. Each (IsPutAt F g.F.Output.Sink.stream c.put_tree.new.files (g.B.BlockStore.states l.table.now) (listing_by g.B.BlockStore.states l) Refuse c.args.short p) 0 (listing_by g.B.BlockStore.states l).nodes put.1) path put.2),
-      subst (λ w. TellsLines put.0 (S.stream c.args.out.now) (S.stream c.put_tree.new.out) (fate_lines (node_line w c.args.short (listing_by g.B.BlockStore.states l)) (listing_by g.B.BlockStore.states l).nodes put.1)) word put.3,
+      subst (λ w. TellsLines put.0 (S.stream c.args.out.now) (S.stream c.put_tree.new.out) (fate_lines (node_line w false c.args.short (listing_by g.B.BlockStore.states l)) (listing_by g.B.BlockStore.states l).nodes put.1)) word put.3,
       put.4,
       put.5,
     )

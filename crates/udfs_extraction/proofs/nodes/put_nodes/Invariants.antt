@@ -15,7 +15,7 @@ invariant-loop-next g l =
     let only = map (λ (word : Bor (List ℕ)). word.now) l.only in
     let report = listing_by g.B.BlockStore.states l.listing in
     record {
-      put : g.B.BlockStore.tells → (fates : List Fate) × Puts (node_line l.word l.short report) (IsDone only (IsPutAt F g.F.Output.Sink.stream l.files (g.B.BlockStore.states l.listing.table.now) report l.fill l.short l.folder)) report.nodes (S.stream l.initial.out) (S.stream l.out) l.told.heard fates ×
+      put : g.B.BlockStore.tells → (fates : List Fate) × Puts (node_line l.word l.wide l.short report) (IsDone only (IsPutAt F g.F.Output.Sink.stream l.files (g.B.BlockStore.states l.listing.table.now) report l.fill l.short l.folder)) report.nodes (S.stream l.initial.out) (S.stream l.out) l.told.heard fates ×
           (length fates + 1 ≡ l.next) × (l.told.good ≡ all_good fates) × (l.digest ≡ true → F.tells → IsManifest (F.holds l.files) l.folder l.short report fates (notes_text l.short report l.told.manifest.items));
       after : 0 < l.next;
       way : IsWay report.nodes (l.next - 1) l.way.items;

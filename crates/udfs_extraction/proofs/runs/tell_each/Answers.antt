@@ -3,7 +3,7 @@ use Rattle.std.proofs.lemmas.List.{append-nil, length-map}
 use Rattle.udfs_walk.specs.NodeFields.{NodeFields}
 use Rattle.udfs_salvage.specs.Found.{volume_now}
 use Rattle.udfs_salvage.specs.Listings.{full_in, listing_by}
-use Rattle.udfs_extraction.specs.Extracting.{IsDone, IsPutAt, TellsOn, fate_line, fate_lines, is_good, node_line}
+use Rattle.udfs_extraction.specs.Extracting.{IsDone, IsPutAt, TellsOn, fate_line, fate_lines, is_filled, is_good, node_line}
 use Rattle.udfs_extraction.specs.Manifests.{IsLine, IsNoted, notes_of, notes_text}
 use Rattle.udfs_extraction.specs.ShortNames.{placed}
 use Rattle.udfs_extraction.specs.declared.nodes.Fate.{Fate}
@@ -48,7 +48,7 @@ loop-k-preserved g c =
     let files = c.args.files.now in
     record {
       told = λ fill short digest held.
-          let lined = node_line c.args.word.now short report in
+          let lined = node_line c.args.word.now c.args.wide short report in
           let P : ℕ → NodeFields → Fate → Type 0 = λ j m f. IsDone only (IsPutAt F out files (g.B.BlockStore.states l.table.now) report fill short c.args.folder.now) j m f × (c.args.named ≡ false → f ≢ Written) in
           let before = inv.told fill short digest held in
           let fates = before.0 in
@@ -63,7 +63,7 @@ loop-k-preserved g c =
               each = each_more P first (drop first nodes) fates n fate at before.1.each (subst (λ j. P j n fate) here one);
               lines = subst (TellsOn c.args.told.now.heard c.tell_put.new.told.heard (S.stream c.args.out.now) (S.stream c.tell_put.new.out)) (sym (lines_more lined (drop first nodes) fates n fate at))
                   (tells_chain c.args.told.now.heard c.loop-k.told.heard c.tell_put.new.told.heard (S.stream c.args.out.now) (S.stream c.loop-k.out) (S.stream c.tell_put.new.out) _ _ before.1.lines
-                  (subst (λ (own : Option (List ℕ)). TellsOn c.loop-k.told.heard c.tell_put.new.told.heard (S.stream c.loop-k.out) (S.stream c.tell_put.new.out) (fate_line c.args.word.now fate n.path own)) h.own (step.told.2 n node.1)));
+                  (subst (λ (own : Option (List ℕ)). TellsOn c.loop-k.told.heard c.tell_put.new.told.heard (S.stream c.loop-k.out) (S.stream c.tell_put.new.out) (fate_line c.args.word.now (is_filled c.args.wide n.standing) fate n.path own)) h.own (step.told.2 n node.1)));
             },
             (let more = length-append fates (fate ∷ []) in let count = before.2 in omega (arith, more, count)),
             step.told.3 ∙ ap (λ b. if is_good fate then b else false) before.3 ∙ if_both (is_good fate) _ c.args.told.now.good ∙ ap (λ b. if b then c.args.told.now.good else false) (sym (good_more fates fate)),
@@ -87,7 +87,7 @@ returns-in_err-tell_put-clause-put g c fill short digest held =
     let report = listing_by g.B.BlockStore.states c.args.listing.now in
     let before = c.loop-k.invariant.told fill short digest held in
     let untold = c.in_err-tell_put.ensures.untold in
-    let text = fate_lines (node_line c.args.word.now short report) (drop c.args.first report.nodes) before.0 in (
+    let text = fate_lines (node_line c.args.word.now c.args.wide short report) (drop c.args.first report.nodes) before.0 in (
       before.0,
       record {
         each = before.1.each;

@@ -20,7 +20,7 @@ invariant-loop-k g l =
     let report = listing_by g.B.BlockStore.states l.listing in
     record {
       told : (fill : Fill) (short digest : Bool) → AreHeld F out l.initial.files only (g.B.BlockStore.states l.listing.table.now) report fill short digest l.folder l.first l.puts →
-          (fates : List Fate) × RunsOn (node_line l.word short report) (λ k n fate. IsDone only (IsPutAt F out l.initial.files (g.B.BlockStore.states l.listing.table.now) report fill short l.folder) k n fate × (l.named ≡ false → fate ≢ Written))
+          (fates : List Fate) × RunsOn (node_line l.word l.wide short report) (λ k n fate. IsDone only (IsPutAt F out l.initial.files (g.B.BlockStore.states l.listing.table.now) report fill short l.folder) k n fate × (l.named ≡ false → fate ≢ Written))
           l.first report.nodes l.initial.told.heard l.told.heard (S.stream l.initial.out) (S.stream l.out) fates ×
           (length fates ≡ l.k) × (l.told.good ≡ (if all_good fates then l.initial.told.good else false)) ×
           (digest ≡ true → F.tells → (text : List ℕ) × AreLines (placed short report) (F.holds l.initial.files) l.folder l.first (drop l.first report.nodes) fates text ×

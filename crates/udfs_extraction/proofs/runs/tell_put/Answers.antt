@@ -1,8 +1,11 @@
-use Rattle.std.proofs.Common.{◌≡◌, ◌∙◌, List, ℕ, ap, rules, subst, sym}
+use Rattle.std.proofs.Common.{◌≡◌, ◌∙◌, Bool, List, ℕ, ap, not, rules, subst, sym}
+use Rattle.std.specs.Prelude.{◌&&◌}
+use Rattle.udfs_walk.specs.Unsettled.{is_whole}
+use Rattle.udfs_salvage.proofs.ListedNodes.{same_whole_in}
 use Rattle.udfs_walk.specs.NodeFields.{NodeFields}
 use Rattle.udfs_salvage.specs.Found.{volume_now}
 use Rattle.udfs_salvage.specs.Listings.{full_in}
-use Rattle.udfs_extraction.specs.Extracting.{TellsOn, fate_line}
+use Rattle.udfs_extraction.specs.Extracting.{TellsOn, fate_line, is_filled}
 use Rattle.udfs_extraction.proofs.RunLemmas.{put_goes, put_others}
 use Rattle.udfs_extraction.proofs.runs.tell_put.Goals as goal
 
@@ -17,7 +20,10 @@ returns-clause-told g c =
       c.end_of-fate.ensures.end,
       λ n at.
           let same : full_in (g.B.BlockStore.states l.table.now) (volume_now l.volume) m ≡ n = let e = sym c.node_at-node.ensures ∙ at in cc in
-          subst (λ (p : List (List ℕ)). TellsOn c.args.told.now.heard c.in_ok-heard.heard (S.stream c.args.out.now) (S.stream c.tell.new.out) (fate_line c.args.word.now fate p c.args.put.now.place.own)) (seen ∙ ap (λ (x : NodeFields). x.path) same) c.in_ok-heard.ensures.lines,
+          let whole : is_whole n.standing ≡ is_whole m.standing = ap (λ (x : NodeFields). is_whole x.standing) (sym same) ∙ same_whole_in (g.B.BlockStore.states l.table.now) (volume_now l.volume) m.icb m.standing in
+          let filled : c.is_filled-filled.result ≡ is_filled c.args.wide n.standing = c.is_filled-filled.ensures ∙ ap (λ b. c.args.wide && not b) (sym whole) in
+          subst (λ (b : Bool). TellsOn c.args.told.now.heard c.in_ok-heard.heard (S.stream c.args.out.now) (S.stream c.tell.new.out) (fate_line c.args.word.now b fate n.path c.args.put.now.place.own)) filled
+          (subst (λ (p : List (List ℕ)). TellsOn c.args.told.now.heard c.in_ok-heard.heard (S.stream c.args.out.now) (S.stream c.tell.new.out) (fate_line c.args.word.now c.is_filled-filled.result fate p c.args.put.now.place.own)) (seen ∙ ap (λ (x : NodeFields). x.path) same) c.in_ok-heard.ensures.lines),
       c.still_good-told.ensures,
       c.in_ok-note.ensures,
     )
