@@ -173,7 +173,7 @@ out skipped /A\nwritten /B\n
 files 2
 
 $ extract --last 600 --profile wide --to out --fill disc.tab
-out written /A\nwritten /B\n
+out filled /A\nwritten /B\n
 has out/A text «2048*a»«2048*\0»«904*c»
 
 $ summary --last 600 --profile wide disc.tab
