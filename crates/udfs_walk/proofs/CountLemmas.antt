@@ -9,7 +9,7 @@ use Rattle.std.specs.declared.cmp.Ordering.{Ordering}
 use Rattle.std.specs.declared.cmp.Ordering.TheVariants.{Less, Equal, Greater}
 use Rattle.std.proofs.lemmas.Bool.{eq-eqb}
 use Rattle.std.proofs.lemmas.List.{length-map, map-append}
-use Rattle.std.proofs.lemmas.List.Elements.{Contains-append_left, Contains-push}
+use Rattle.std.proofs.lemmas.List.Elements.{Contains-append_left, Contains-append_right, Contains-push}
 use Rattle.std.proofs.lemmas.Map.Keys.{IsStrictlyIncreasing-from_sorted}
 use Rattle.udfs_lattice.specs.TableLaws.{eq_by_cmp-nat}
 use Rattle.udfs_lattice.specs.Volumes.{ascending, insert_once}
@@ -17,15 +17,13 @@ use Rattle.udfs_lattice.proofs.Inclusion.{Includes, included, contained, in_noth
 use Rattle.udfs_lattice.proofs.PublicLaws.{ascending_contains}
 use Rattle.udfs_volume.specs.Seen.{IsRising}
 use Rattle.udfs_volume.proofs.PublicLaws.{ascending_rises}
-use Rattle.udfs_tag.specs.declared.layouts.LongAd.{LongAd}
-use Rattle.udfs_space.specs.Places.{View}
 use Rattle.udfs_walk.specs.Frames.{FrameFields}
-use Rattle.udfs_walk.specs.Counting.{AreWithin, IsCounted, icb_key, icbs_of}
+use Rattle.udfs_walk.specs.Counting.{AreWithin, IsCounted, KeepsCount, icb_key, icbs_of}
 use Rattle.udfs_walk.specs.NodeFields.{NodeFields}
 use Rattle.udfs_file.specs.declared.directories.DirEntry.{DirEntry}
 use Rattle.udfs_walk.specs.declared.memos.Kept.{Kept}
 use Rattle.udfs_walk.specs.declared.memos.Memo.{Memo}
-use Rattle.udfs_walk.proofs.Owed.{IsWalking, left_in, left_last}
+use Rattle.udfs_walk.proofs.Owed.{left_in, left_last}
 use Rattle.udfs_walk.proofs.Rising.{increasing_rises}
 
 -- ---- one more is kept
@@ -168,58 +166,37 @@ few_icbs nodes =
     let same : length (map icb_key nodes) ≡ length nodes = length-map nodes icb_key in
     omega (arith, once, same)
 
--- so there is one walk at most for each node
-counted_few : (start : ℕ) (nodes : List NodeFields) (memo : Memo) (walks : ℕ) → IsCounted start (map icb_key nodes) memo walks → walks ≤ start + length nodes
-counted_few start nodes memo walks c =
-    let once : walks ≤ start + length (icbs_of nodes) = counted_once start (map icb_key nodes) memo walks c in
-    let few : length (icbs_of nodes) ≤ length nodes = few_icbs nodes in
-    omega (arith, once, few)
-
--- never more than the limit of nodes
-pub counted_walking : (v : View) (root : LongAd) (start : ℕ) (nodes : List NodeFields) (memo : Memo) (walks room : ℕ) (frames : List FrameFields)
-    → IsWalking v root nodes frames room → IsCounted start (map icb_key nodes) memo walks → walks ≤ start + 65536
-counted_walking v root start nodes memo walks room frames w c =
-    let once : walks ≤ start + length nodes = counted_few start nodes memo walks c in
-    let few = w.few in
-    omega (arith, once, few)
-
--- nor while one more is gone to
-pub counted_step : (v : View) (root : LongAd) (start : ℕ) (nodes : List NodeFields) (memo : Memo) (walks room after : ℕ) (frames rest : List FrameFields) (f : FrameFields)
-    → IsWalking v root nodes frames room → IsCounted start (map icb_key nodes) memo walks → frames ≡ rest ++ f ∷ []
+-- one walk at most for each node so far, so no more than the limit of nodes, nor while one more is gone to
+pub walks_few : (start walks after : ℕ) (nodes : List NodeFields) (frames rest : List FrameFields) (f : FrameFields) (room : ℕ)
+    → length nodes + left_in frames + room ≡ 65536 → walks ≤ start + length nodes → frames ≡ rest ++ f ∷ []
     → (f.left ≡ [] → after ≡ walks) → after ≤ walks + 1 → after ≤ start + 65536
-counted_step v root start nodes memo walks room after frames rest f w c e idle one_more = go f.left refl
+walks_few start walks after nodes frames rest f room few once e idle one_more = go f.left refl
   where
     go : (es : List DirEntry) → f.left ≡ es → after ≤ start + 65536
-    go [] none =
-        let same : after ≡ walks = idle none in
-        let few : walks ≤ start + 65536 = counted_walking v root start nodes memo walks room frames w c in
-        omega (arith, same, few)
+    go [] none = let same : after ≡ walks = idle none in omega (arith, same, once, few)
     go (entry ∷ es) some =
-        let once : walks ≤ start + length nodes = counted_few start nodes memo walks c in
         let left : left_in frames ≡ left_in rest + length f.left = ap left_in e ∙ left_last rest f in
         let one : length f.left ≡ suc (length es) = ap length some in
-        let few = w.few in
         omega (arith, once, left, one, few, one_more)
 
 -- ---- one node more
-counted_wider : (start : ℕ) (icbs more : List ℕ) (memo : Memo) (walks : ℕ) → AreWithin icbs more → IsCounted start icbs memo walks → IsCounted start more memo walks
-counted_wider start icbs more memo walks w c = record {
-  count = c.count;
-  once = c.once;
-  within = λ n i. w n (c.within n i);
-}
-
 icbs_more : (nodes more : List NodeFields) (node : NodeFields) → more ≡ nodes ++ node ∷ [] → map icb_key more ≡ map icb_key nodes ++ icb_key node ∷ []
 icbs_more nodes more node e = ap (map icb_key) e ∙ map-append icb_key nodes (node ∷ [])
 
-pub counted_more : (start : ℕ) (nodes more : List NodeFields) (node : NodeFields) (old new : Memo) (before after : ℕ) → more ≡ nodes ++ node ∷ []
-    → ((icbs : List ℕ) → Contains icbs (icb_key node) → IsCounted start icbs old before → IsCounted start icbs new after)
-    → IsCounted start (map icb_key nodes) old before → IsCounted start (map icb_key more) new after
-counted_more start nodes more node old new before after e step c =
+pub counted_more : (nodes more : List NodeFields) (node : NodeFields) (first old new : Memo) (begun before after : ℕ) → more ≡ nodes ++ node ∷ []
+    → ((start : ℕ) (icbs : List ℕ) → Contains icbs (icb_key node) → IsCounted start icbs old before → IsCounted start icbs new after)
+    → KeepsCount (map icb_key nodes) first begun old before → KeepsCount (map icb_key more) first begun new after
+counted_more nodes more node first old new begun before after e step kept start icbs w c =
     let now = icbs_more nodes more node e in
-    step (map icb_key more) (subst (λ icbs. Contains icbs (icb_key node)) (sym now) (Contains-push (map icb_key nodes) (icb_key node)))
-    (counted_wider start (map icb_key nodes) (map icb_key more) old before
-    (λ n i. subst (λ icbs. Contains icbs n) (sym now) (Contains-append_left (map icb_key nodes) (icb_key node ∷ []) n i)) c)
+    step start icbs (w (icb_key node) (subst (λ ks. Contains ks (icb_key node)) (sym now) (Contains-push (map icb_key nodes) (icb_key node))))
+    (kept start icbs (λ n i. w n (subst (λ ks. Contains ks n) (sym now) (Contains-append_left (map icb_key nodes) (icb_key node ∷ []) n i))) c)
+
+-- what two walks keep, one after the other
+pub counted_both : (ns ms ks : List ℕ) (first old new : Memo) (begun before after : ℕ) → ks ≡ ns ++ ms
+    → KeepsCount ns first begun old before → KeepsCount ms old before new after → KeepsCount ks first begun new after
+counted_both ns ms ks first old new begun before after e p q start icbs w c =
+    q start icbs (λ n i. w n (subst (λ l. Contains l n) (sym e) (Contains-append_right ns ms n i)))
+    (p start icbs (λ n i. w n (subst (λ l. Contains l n) (sym e) (Contains-append_left ns ms n i))) c)
 
 -- ---- nothing is kept yet
 empty_ordered : {X : Type 0} (m : BTreeMap ℕ X) → IsEmpty m → IsOrdered nat_cmp m
@@ -229,9 +206,9 @@ empty_ordered m e = subst (λ es. IsStrictlySortedBy nat_cmp (keys_of es)) (sym 
 empty_within : {X : Type 0} (m : BTreeMap ℕ X) (icbs : List ℕ) → IsEmpty m → AreWithin (keys m) icbs
 empty_within m icbs e n i = in_nothing n (subst (λ es. Contains (keys_of es) n) e i)
 
-pub counted_none : (start : ℕ) (memo : Memo) → IsEmpty memo.kept → IsCounted start [] memo start
-counted_none start memo e = record {
+pub counted_none : (start : ℕ) (icbs : List ℕ) (memo : Memo) → IsEmpty memo.kept → IsCounted start icbs memo start
+counted_none start icbs memo e = record {
   count = let none : btree_map_len memo.kept ≡ 0 = ap length e in omega (arith, none);
   once = empty_ordered memo.kept e;
-  within = empty_within memo.kept [] e;
+  within = empty_within memo.kept icbs e;
 }

@@ -19,6 +19,7 @@ pub mod MemoLemmas
 pub mod SettleLemmas
 pub mod FirstGaps
 pub mod CountLemmas
+pub mod ForestLemmas
 pub mod EntryAddresses
 pub mod WholeFiles
 pub mod WholeRoutes

@@ -238,7 +238,7 @@ room_some nodes more frames rest next f g n b room less h e t em en less_is =
     let r : left_in (rest ++ g ∷ []) ≡ left_in rest + length g.left = left_last rest g in
     omega (arith, l, a, k, r, t, h, less_is)
 
-none_left : (xs : List FrameFields) → length xs ≡ 0 → xs ≡ []
+pub none_left : {A : Type 0} (xs : List A) → length xs ≡ 0 → xs ≡ []
 none_left [] h = refl
 none_left (x ∷ xs) h = absurd (let z : ⊥ = omega (arith, h) in z)
 

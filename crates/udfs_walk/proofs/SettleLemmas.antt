@@ -96,7 +96,7 @@ settled_key : (v : View) (n : NodeFields) → icb_key (settled v n) ≡ icb_key 
 unfolding settled
 settled_key v n = ap (λ (a : LongAd). number_of (icb_of a)) (kept_address v n (waits n) (target v n.icb))
 
-settled_keys : (v : View) (ns : List NodeFields) → map icb_key (map (settled v) ns) ≡ map icb_key ns
+pub settled_keys : (v : View) (ns : List NodeFields) → map icb_key (map (settled v) ns) ≡ map icb_key ns
 settled_keys v [] = refl
 settled_keys v (n ∷ ns) = λ i. settled_key v n i ∷ settled_keys v ns i
 

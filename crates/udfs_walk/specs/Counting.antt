@@ -1,6 +1,7 @@
 -- How many walks over bodies the walk over all routes makes.
 --     icbs_of nodes                         the information control blocks of nodes, each once
 --     IsCounted start icbs memo walks       each walk so far left what it found, and at these information control blocks alone
+--     KeepsCount icbs old before new after  what was counted before stays so: the walks since were at these alone
 --     IsWithinTaken icbs taken              the next node has one of these
 use Rattle.std.specs.Prelude.{◌≡◌, ◌+◌, ℕ, ⊤, List, Option, Some, None, map, Contains}
 use Rattle.std.specs.BTreeMap.{IsOrdered, btree_map_len, keys}
@@ -28,6 +29,10 @@ pub record IsCounted (start : ℕ) (icbs : List ℕ) (memo : Memo) (walks : ℕ)
   pub count : walks ≡ start + btree_map_len memo.kept
   pub once : IsOrdered nat_cmp memo.kept
   pub within : AreWithin (keys memo.kept) icbs
+
+-- from one memo and number of walks to another: among whichever information control blocks these are, what was counted stays so
+abbrev pub KeepsCount : List ℕ → Memo → ℕ → Memo → ℕ → Type 0
+KeepsCount ns old before new after = (start : ℕ) (icbs : List ℕ) → AreWithin ns icbs → IsCounted start icbs old before → IsCounted start icbs new after
 
 -- the node that was gone to, if one was, has one of these information control blocks
 abbrev pub IsWithinTaken : {F : Type 0} → List ℕ → Option (NodeFields × F) → Type 0

@@ -23,6 +23,7 @@ pub mod Gathering
 pub mod GivingUp
 pub mod Memos
 pub mod Counting
+pub mod Forests
 pub mod Trees
 pub mod Needs
 pub mod Lawful

@@ -12,6 +12,7 @@ mod bare;
 mod block_runs;
 mod children;
 pub mod counting;
+mod forests;
 mod gaps;
 mod kinds;
 pub mod known_laws;
@@ -33,6 +34,7 @@ pub use answers::{Node, NodesError, NodesGaveUp, Unnamed};
 pub use bare::{
     full_entries, full_entries_by, full_nodes, full_nodes_by, full_standing, full_standing_by,
 };
+pub use forests::{counted_forest_by, forest_by};
 pub use node_bodies::{body_at, body_by, tail_at, tail_by};
 pub use paths::Path;
 pub use rereads::{bare_reread, bare_reread_by, reread};

@@ -1,9 +1,9 @@
 //! The nodes to which 64 names lead, settled last of all: a shorter route may have led to the same bodies before.
 
-ghost use Rattle.std.specs.Prelude.{◌≡◌, ◌≤◌, ◌+◌, ℕ, List, IsErrOf, OnOk, length, map, Contains};
+ghost use Rattle.std.specs.Prelude.{◌≡◌, ◌≤◌, ◌+◌, ℕ, List, IfOk, IsErrOf, OnOk, length, map, Contains};
 ghost use Rattle.udfs_lattice.specs.Volumes.{ascending};
 ghost use Rattle.udfs_space.specs.Views.{view_by};
-ghost use Rattle.udfs_walk.specs.Counting.{IsCounted, icb_key, icbs_of};
+ghost use Rattle.udfs_walk.specs.Counting.{AreWithin, IsCounted, KeepsCount, icb_key};
 ghost use Rattle.udfs_walk.specs.Memos.{HasWords};
 ghost use Rattle.udfs_walk.specs.Unsettled.{settled, waits};
 
@@ -58,7 +58,7 @@ fn settle<L: Ledger, B: BlockStore>(
 }
 
 /// Settles all nodes, each information control block by one walk at most.
-pub(crate) fn settle_all<L: Ledger, B: BlockStore>(
+fn settle_all<L: Ledger, B: BlockStore>(
     alloc: Global,
     view: StoreView<'_, B>,
     nodes: &mut [Node],
@@ -67,11 +67,35 @@ pub(crate) fn settle_all<L: Ledger, B: BlockStore>(
 ) -> Result<(), GaveUp>
     requires { B.tells → HasWords (view_by B.states view) memo.old }
     ensures settled { OnOk result (B.tells → nodes.new ≡ map (settled (view_by B.states view.entry)) nodes.old) }
-    ensures within { B.tells → (start : ℕ) → IsCounted start (map icb_key nodes.old) memo.old walks.old → walks.new ≤ start + length (icbs_of nodes.old) }
+    ensures words { OnOk result (B.tells → HasWords (view_by B.states view.entry) memo.new) }
+    ensures counted { OnOk result (B.tells → KeepsCount (map icb_key nodes.old) memo.old walks.old memo.new walks.new) }
+    ensures within { B.tells → (start : ℕ) (icbs : List ℕ) → AreWithin (map icb_key nodes.old) icbs
+        → IsCounted start icbs memo.old walks.old → walks.new ≤ start + length (ascending icbs) }
     ensures fails { IsErrOf result GaveUp.Unread → B.fails }
 {
     for node in nodes.iter_mut() {
         settle(alloc, view, node, memo, walks)?;
     }
     Ok(())
+}
+
+/// The nodes, all settled.
+pub(crate) fn settled_nodes<L: Ledger, B: BlockStore>(
+    alloc: Global,
+    view: StoreView<'_, B>,
+    found: Vec<Node>,
+    memo: &mut Memo,
+    walks: &mut Walks<L>,
+) -> Result<Vec<Node>, GaveUp>
+    requires { B.tells → HasWords (view_by B.states view) memo.old }
+    ensures settled { IfOk result (λ nodes. B.tells → nodes.items ≡ map (settled (view_by B.states view.entry)) found.items) }
+    ensures words { IfOk result (λ nodes. B.tells → HasWords (view_by B.states view.entry) memo.new) }
+    ensures counted { IfOk result (λ nodes. B.tells → KeepsCount (map icb_key found.items) memo.old walks.old memo.new walks.new) }
+    ensures within { B.tells → (start : ℕ) (icbs : List ℕ) → AreWithin (map icb_key found.items) icbs
+        → IsCounted start icbs memo.old walks.old → walks.new ≤ start + length (ascending icbs) }
+    ensures fails { IsErrOf result GaveUp.Unread → B.fails }
+{
+    let mut nodes = found;
+    settle_all(alloc, view, &mut nodes, memo, walks)?;
+    Ok(nodes)
 }

@@ -5,7 +5,7 @@ ghost use Rattle.udfs_lattice.specs.Tables.{state_of};
 ghost use Rattle.udfs_space.specs.Places.{view};
 ghost use Rattle.udfs_space.specs.Views.{view_by, view_now};
 ghost use Rattle.udfs_walk.specs.Bare.{full_node};
-ghost use Rattle.udfs_walk.specs.Counting.{IsCounted, IsWithinTaken, icb_key, icbs_of};
+ghost use Rattle.udfs_walk.specs.Counting.{IsCounted, IsWithinTaken, KeepsCount, icb_key, icbs_of};
 ghost use Rattle.udfs_walk.specs.GivingUp.{IfTold};
 ghost use Rattle.udfs_walk.specs.Memos.{IsMemo};
 ghost use Rattle.udfs_walk.specs.Unsettled.{AreUnsettled, unsettled};
@@ -20,7 +20,7 @@ use crate::children::Children;
 use crate::counting::Walks;
 use crate::memos::Memo;
 use crate::paths::{Names, Path};
-use crate::settling::settle_all;
+use crate::settling::settled_nodes;
 use crate::visits::{Visit, visited};
 use bitflags::Flags;
 use std::alloc::{AllocError, Global};
@@ -262,32 +262,34 @@ fn begun_nodes<L: Ledger, B: BlockStore>(
     found
 }
 
-/// The nodes of a volume, not yet settled, and what is kept of their bodies.
-fn unsettled_nodes<L: Ledger, B: BlockStore>(
+/// The nodes at the ends of all routes from a root, not yet settled. What is found of their bodies is kept: no body of which
+/// something is kept is walked over.
+pub(crate) fn unsettled_nodes<L: Ledger, B: BlockStore>(
     alloc: Global,
     view: StoreView<'_, B>,
     root: LongAd,
+    memo: &mut Memo,
     walks: &mut Walks<L>,
-) -> Result<(Vec<Node>, Memo), NodesGaveUp>
-    ensures nodes { B.tells → MatchResult result (λ found. AreUnsettled (view_by B.states view.entry) root found.0.items)
+) -> Result<Vec<Node>, NodesGaveUp>
+    requires { B.tells → IsMemo (view_by B.states view) memo.old }
+    ensures nodes { B.tells → MatchResult result (λ found. AreUnsettled (view_by B.states view.entry) root found.items)
         (IfTold (IsNodesRefused (view_by B.states view.entry) root)) }
-    ensures memo { IfOk result (λ found. B.tells → IsMemo (view_by B.states view.entry) found.1) }
-    ensures counted { IfOk result (λ found. B.tells → IsCounted walks.old (map icb_key found.0.items) found.1 walks.new) }
-    ensures few { B.tells → walks.new ≤ walks.old + 65536 }
+    ensures memo { IfOk result (λ found. B.tells → IsMemo (view_by B.states view.entry) memo.new) }
+    ensures counted { IfOk result (λ found. B.tells → KeepsCount (map icb_key found.items) memo.old walks.old memo.new walks.new) }
+    ensures few { walks.new ≤ walks.old + 65536 }
     ensures fails { IsErrOf result NodesGaveUp.Unread → B.fails }
 {
     let path = Path::root(alloc)?;
     // `room` more nodes may still be found, besides those that were and the entries that are left.
     let mut room: usize = MOST_NODES - 1;
-    let mut memo = Memo::new(alloc);
-    let (node, frame) = Frame::enter(alloc, view, root, path, &[], false, room, &mut memo, walks)?;
+    let (node, frame) = Frame::enter(alloc, view, root, path, &[], false, room, memo, walks)?;
     room -= count_left(&frame);
     let mut nodes = Vec::new(alloc);
     put(&mut nodes, node)?;
     let mut frames = Vec::new(alloc);
     keep(&mut frames, frame)?;
     'walk: while let Some(mut frame) = frames.pop() {
-        let (node, below) = match frame.step(alloc, view, room, &mut memo, walks)? {
+        let (node, below) = match frame.step(alloc, view, room, memo, walks)? {
             None => continue,
             Some(taken) => taken,
         };
@@ -296,7 +298,7 @@ fn unsettled_nodes<L: Ledger, B: BlockStore>(
         keep(&mut frames, Some(frame))?;
         keep(&mut frames, below)?;
     }
-    Ok((nodes, memo))
+    Ok(nodes)
 }
 
 /// The same as [`counted_nodes`], by any store of blocks.
@@ -316,8 +318,9 @@ pub fn counted_nodes_by<L: Ledger, B: BlockStore>(
     ensures few { B.tells → walks.new ≤ walks.old + 65536 }
     ensures fails { IsErrOf result NodesGaveUp.Unread → B.fails }
 {
-    let (mut nodes, mut memo) = unsettled_nodes(alloc, view, root, walks)?;
-    settle_all(alloc, view, &mut nodes, &mut memo, walks)?;
+    let mut memo = Memo::new(alloc);
+    let found = unsettled_nodes(alloc, view, root, &mut memo, walks)?;
+    let nodes = settled_nodes(alloc, view, found, &mut memo, walks)?;
     Ok(nodes)
 }
 

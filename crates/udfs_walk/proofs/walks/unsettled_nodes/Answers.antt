@@ -2,9 +2,9 @@ use Rattle.std.proofs.Common.{◌∙◌, ap, subst, sym, ◌∷◌, ◌++◌, �
 use Rattle.std.specs.Prelude.{MatchOption}
 use Rattle.udfs_space.specs.Views.{view_by}
 use Rattle.udfs_walk.specs.Frames.{IsEntryTaken, IsOneFewer, count_left, frames_with}
-use Rattle.udfs_walk.specs.Counting.{IsWithinTaken, icb_key}
-use Rattle.udfs_walk.proofs.CountLemmas.{counted_more, counted_none, counted_step, counted_walking}
-use Rattle.udfs_walk.proofs.Owed.{room_none, room_short, room_some, room_start, start_refused, walk_refused, walk_start, walk_none, walk_some, walk_done}
+use Rattle.udfs_walk.specs.Counting.{IsWithinTaken}
+use Rattle.udfs_walk.proofs.CountLemmas.{counted_more, walks_few}
+use Rattle.udfs_walk.proofs.Owed.{none_left, room_none, room_short, room_some, room_start, start_refused, walk_refused, walk_start, walk_none, walk_some, walk_done}
 use Rattle.udfs_walk.proofs.walks.unsettled_nodes.Goals as goal
 
 pub walk-init : goal.walk-init
@@ -17,8 +17,9 @@ walk-init g c =
           (omega (arith, c.count_left-room.ensures, c.in_ok-node.ensures.few));
       few = room_start c.in_ok-node.node c.in_ok-node.frame _ _ _ one kept (omega (arith, c.count_left-room.ensures, c.in_ok-node.ensures.few));
       memo = c.in_ok-node.ensures.memo;
-      counted = λ told. counted_more c.args.walks.now [] _ c.in_ok-node.node _ _ c.args.walks.now _ one
-          (c.in_ok-node.ensures.counted told c.args.walks.now) (counted_none c.args.walks.now _ c.new-memo.ensures);
+      once = let more = c.in_ok-node.ensures.once in let n = ap length one in omega (arith, more, n);
+      counted = λ told. counted_more [] _ c.in_ok-node.node c.args.memo.now c.args.memo.now _ c.args.walks.now c.args.walks.now _ one
+          (c.in_ok-node.ensures.counted told) (λ start icbs w k. k);
     }
 
 pub walk-preserved-in-None : goal.walk-preserved-in-None
@@ -28,7 +29,12 @@ walk-preserved-in-None g c = record {
   few = room_none c.walk.nodes.items c.walk.frames.items c.pop.new.self.items c.in-Some.frame c.walk.room c.walk.invariant.few c.in-Some.ensures.items
       (subst (λ o. IsOneFewer (length c.in-Some.frame.left) o (length c.step.new.self.left)) c.in-None.is c.in_ok-step.ensures.one).0;
   memo = c.in_ok-step.ensures.memo;
-  counted = λ told. c.in_ok-step.ensures.counted told c.args.walks.now (map icb_key c.walk.nodes.items) (subst (IsWithinTaken (map icb_key c.walk.nodes.items)) (sym c.in-None.is) tt) (c.walk.invariant.counted told);
+  once =
+      let none = (subst (λ o. IsOneFewer (length c.in-Some.frame.left) o (length c.step.new.self.left)) c.in-None.is c.in_ok-step.ensures.one).0 in
+      let same = c.in_ok-step.ensures.idle (none_left c.in-Some.frame.left none) in
+      let before = c.walk.invariant.once in
+      omega (arith, same, before);
+  counted = λ told start icbs w k. c.in_ok-step.ensures.counted told start icbs (subst (IsWithinTaken icbs) (sym c.in-None.is) tt) (c.walk.invariant.counted told start icbs w k);
 }
 
 pub walk-smaller : goal.walk-smaller
@@ -51,8 +57,13 @@ walk-preserved g c =
           (subst (λ o. IsOneFewer (length c.in-Some.frame.left) o (length c.step.new.self.left)) c.in-Some-2.is c.in_ok-step.ensures.one)
           c.in_ok-put-2.ensures kept (omega (arith, c.count_left-room-in-Some.ensures, few));
       memo = c.in_ok-step.ensures.memo;
-      counted = λ told. counted_more c.args.walks.now c.walk.nodes.items _ c.in-Some-2.taken.0 _ _ _ _ c.in_ok-put-2.ensures
-          (λ icbs i. c.in_ok-step.ensures.counted told c.args.walks.now icbs (subst (IsWithinTaken icbs) (sym c.in-Some-2.is) i)) (c.walk.invariant.counted told);
+      once =
+          let more = ap length c.in_ok-put-2.ensures ∙ length-append c.walk.nodes.items (c.in-Some-2.taken.0 ∷ []) in
+          let one = c.in_ok-step.ensures.once in
+          let before = c.walk.invariant.once in
+          omega (arith, more, one, before);
+      counted = λ told. counted_more c.walk.nodes.items _ c.in-Some-2.taken.0 c.args.memo.now c.walk.memo _ c.args.walks.now c.walk.walks _ c.in_ok-put-2.ensures
+          (λ start icbs i. c.in_ok-step.ensures.counted told start icbs (subst (IsWithinTaken icbs) (sym c.in-Some-2.is) i)) (c.walk.invariant.counted told);
     }
 
 pub returns-clause-nodes : goal.returns-clause-nodes
@@ -68,20 +79,20 @@ returns-in_err-step-clause-nodes g c told =
     (c.walk.invariant.walking told) c.in-Some.ensures.items (c.in_err-step.ensures.refused told)
 
 pub returns-clause-few : goal.returns-clause-few
-returns-clause-few g c told = counted_walking (view_by g.B.BlockStore.states c.args.view) c.args.root c.args.walks.now c.walk.nodes.items _ _ c.walk.room c.walk.frames.items (c.walk.invariant.walking told) (c.walk.invariant.counted told)
+returns-clause-few g c = let once = c.walk.invariant.once in let few = c.walk.invariant.few in omega (arith, once, few)
 
 pub returns-in_err-step-clause-few : goal.returns-in_err-step-clause-few
-returns-in_err-step-clause-few g c told = counted_step (view_by g.B.BlockStore.states c.args.view) c.args.root c.args.walks.now c.walk.nodes.items _ _ c.walk.room _ c.walk.frames.items c.pop.new.self.items c.in-Some.frame
-    (c.walk.invariant.walking told) (c.walk.invariant.counted told) c.in-Some.ensures.items c.in_err-step.ensures.idle c.in_err-step.ensures.once
+returns-in_err-step-clause-few g c = walks_few c.args.walks.now c.walk.walks _ c.walk.nodes.items c.walk.frames.items c.pop.new.self.items c.in-Some.frame c.walk.room
+    c.walk.invariant.few c.walk.invariant.once c.in-Some.ensures.items c.in_err-step.ensures.idle c.in_err-step.ensures.once
 
 pub returns-in_err-put-2-clause-few : goal.returns-in_err-put-2-clause-few
-returns-in_err-put-2-clause-few g c told = counted_step (view_by g.B.BlockStore.states c.args.view) c.args.root c.args.walks.now c.walk.nodes.items _ _ c.walk.room _ c.walk.frames.items c.pop.new.self.items c.in-Some.frame
-    (c.walk.invariant.walking told) (c.walk.invariant.counted told) c.in-Some.ensures.items c.in_ok-step.ensures.idle c.in_ok-step.ensures.once
+returns-in_err-put-2-clause-few g c = walks_few c.args.walks.now c.walk.walks _ c.walk.nodes.items c.walk.frames.items c.pop.new.self.items c.in-Some.frame c.walk.room
+    c.walk.invariant.few c.walk.invariant.once c.in-Some.ensures.items c.in_ok-step.ensures.idle c.in_ok-step.ensures.once
 
 pub returns-in_err-keep-2-clause-few : goal.returns-in_err-keep-2-clause-few
-returns-in_err-keep-2-clause-few g c told = counted_step (view_by g.B.BlockStore.states c.args.view) c.args.root c.args.walks.now c.walk.nodes.items _ _ c.walk.room _ c.walk.frames.items c.pop.new.self.items c.in-Some.frame
-    (c.walk.invariant.walking told) (c.walk.invariant.counted told) c.in-Some.ensures.items c.in_ok-step.ensures.idle c.in_ok-step.ensures.once
+returns-in_err-keep-2-clause-few g c = walks_few c.args.walks.now c.walk.walks _ c.walk.nodes.items c.walk.frames.items c.pop.new.self.items c.in-Some.frame c.walk.room
+    c.walk.invariant.few c.walk.invariant.once c.in-Some.ensures.items c.in_ok-step.ensures.idle c.in_ok-step.ensures.once
 
 pub returns-in_err-keep-3-clause-few : goal.returns-in_err-keep-3-clause-few
-returns-in_err-keep-3-clause-few g c told = counted_step (view_by g.B.BlockStore.states c.args.view) c.args.root c.args.walks.now c.walk.nodes.items _ _ c.walk.room _ c.walk.frames.items c.pop.new.self.items c.in-Some.frame
-    (c.walk.invariant.walking told) (c.walk.invariant.counted told) c.in-Some.ensures.items c.in_ok-step.ensures.idle c.in_ok-step.ensures.once
+returns-in_err-keep-3-clause-few g c = walks_few c.args.walks.now c.walk.walks _ c.walk.nodes.items c.walk.frames.items c.pop.new.self.items c.in-Some.frame c.walk.room
+    c.walk.invariant.few c.walk.invariant.once c.in-Some.ensures.items c.in_ok-step.ensures.idle c.in_ok-step.ensures.once
