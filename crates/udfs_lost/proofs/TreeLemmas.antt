@@ -1,131 +1,106 @@
--- The trees of lost folders, and the routes from all of them together.
-use Rattle.std.proofs.Common.{◌≡◌, refl, sym, ◌∙◌, ap, subst, ℕ, ◌+◌, ◌-◌, ◌<◌, ◌≤◌, List, [], ◌∷◌, ◌++◌, length, map, take, arith, get_or}
-use Rattle.std.specs.Prelude.{zero, suc, sum_by}
+-- The trees of lost folders, of the nodes that are found from all of them together.
+use Rattle.std.proofs.Common.{◌≡◌, refl, sym, ◌∙◌, ap, subst, ℕ, ◌+◌, ◌<◌, ◌≤◌, List, [], ◌∷◌, ◌++◌, length, map, take, arith, get_or}
+use Rattle.std.specs.Prelude.{sum_by}
 use Rattle.std.specs.List.{AllZip}
-use Rattle.std.proofs.lemmas.List.{length-map}
-use Rattle.std.proofs.lemmas.List.Sums.{sum_by-append}
-use Rattle.udfs_lattice.proofs.Inclusion.{included}
+use Rattle.std.specs.declared.alloc.Global.{Global}
+use Rattle.std.specs.declared.vec.Vec.{Vec}
+use Rattle.std.proofs.lemmas.List.{length-append, length-map, map-append, take_more, take_all}
+use Rattle.std.proofs.lemmas.List.Sums.{sum_by-cons}
 use Rattle.udfs_space.specs.Places.{View}
 use Rattle.udfs_walk.specs.Bare.{full_node}
+use Rattle.udfs_walk.specs.Forests.{IsForest, IsForestRefused, IsTree}
 use Rattle.udfs_walk.specs.NodeFields.{NodeFields}
-use Rattle.udfs_walk.specs.Routes.{HasMoreRoutes, Route}
 use Rattle.udfs_walk.specs.Targets.{Icb}
-use Rattle.udfs_walk.specs.UnnamedEntries.{address_of}
-use Rattle.udfs_walk.specs.Walks.{AreNodes, IsNodesRefused}
 use Rattle.udfs_walk.specs.declared.answers.NodesError.{NodesError}
 use Rattle.udfs_walk.specs.declared.answers.NodesError.TheVariants.{TooManyPaths, OutOfMemory}
-use Rattle.udfs_walk.proofs.PublicLaws.{more_routes}
-use Rattle.udfs_lost.specs.LostTrees.{AreLostTrees, AreRoutesFrom, HaveMoreRoutes, IsLostTree, IsTreesRefused, count_nodes}
+use Rattle.udfs_lost.specs.LostTrees.{AreLostTrees, AreOf, IsLostTree, IsTreesRefused, count_nodes}
 use Rattle.udfs_lost.specs.declared.trees.LostTree.{LostTree}
-use Rattle.udfs_lost.proofs.Members.{take_next, take_whole}
 
--- ---- sums
-sum_first : {A : Type 0} (f : A → ℕ) (x : A) (xs : List A) → sum_by f (x ∷ xs) ≡ f x + sum_by f xs
-sum_first f x xs = let e : sum_by f ((x ∷ []) ++ xs) ≡ sum_by f (x ∷ []) + sum_by f xs = sum_by-append f (x ∷ []) xs in omega (arith, e)
+-- ---- the trees so far
+-- the first of the folders, and the first of the nodes
+pub record AreFirst (folders : List Icb) (forest left : List (Vec NodeFields Global)) (trees : List LostTree) : Type 0 where
+  pub folders_are : map (λ (t : LostTree). t.folder) trees ≡ take (length trees) folders
+  pub nodes_are : map (λ (t : LostTree). t.nodes) trees ++ left ≡ forest
 
-pub count_more : (trees : List LostTree) (t : LostTree) → count_nodes (trees ++ t ∷ []) ≡ count_nodes trees + length t.nodes.items
-count_more trees t = let e : count_nodes (trees ++ t ∷ []) ≡ count_nodes trees + count_nodes (t ∷ []) = sum_by-append (λ (x : LostTree). length x.nodes.items) trees (t ∷ []) in omega (arith, e)
+no_trees : (folders : List Icb) → [] ≡ take 0 folders
+no_trees [] = refl
+no_trees (f ∷ folders) = refl
 
--- ---- one tree more
-zip_snoc : {A B : Type 0} (R : A → B → Type 0) (xs : List A) (ys : List B) (x : A) (y : B) → AllZip R xs ys → R x y → AllZip R (xs ++ x ∷ []) (ys ++ y ∷ [])
-zip_snoc R [] [] x y h r = (r, tt)
-zip_snoc R [] (z ∷ ys) x y h r = absurd h
-zip_snoc R (w ∷ xs) [] x y h r = absurd h
-zip_snoc R (w ∷ xs) (z ∷ ys) x y h r = (h.0, zip_snoc R xs ys x y h.1 r)
-
-no_trees : (v : View) (folders : List Icb) (trees : List LostTree) → trees ≡ [] → AllZip (IsLostTree v) (take 0 folders) trees
-no_trees v [] trees e = subst (AllZip (IsLostTree v) []) (sym e) tt
-no_trees v (f ∷ folders) trees e = subst (AllZip (IsLostTree v) []) (sym e) tt
-
--- the trees of the first folders, and the room that they leave
-pub record AreGrowing (v : View) (folders : List Icb) (i : ℕ) (room : ℕ) (trees : List LostTree) : Type 0 where
-  pub each : AllZip (IsLostTree v) (take i folders) trees
-  pub count : room + count_nodes trees ≡ 65536
-
-pub growing_none : (v : View) (folders : List Icb) (trees : List LostTree) → trees ≡ [] → AreGrowing v folders 0 65536 trees
-growing_none v folders trees e = record { each = no_trees v folders trees e; count = (let z : count_nodes trees ≡ 0 = ap count_nodes e in omega (arith, z)) }
-
-pub growing_more : (v : View) (folders : List Icb) (i room less : ℕ) (trees more : List LostTree) (f : Icb) (t : LostTree) → i < length folders → f ≡ get_or folders i f → IsLostTree v f t
-    → length t.nodes.items ≤ room → less ≡ room - length t.nodes.items → more ≡ trees ++ t ∷ [] → AreGrowing v folders i room trees → AreGrowing v folders (i + 1) less more
-growing_more v folders i room less trees more f t h at is fits l m g = record {
-  each = subst (λ z. AllZip (IsLostTree v) z more) (sym (take_next folders i f h at)) (subst (AllZip (IsLostTree v) (take i folders ++ f ∷ [])) (sym m) (zip_snoc (IsLostTree v) (take i folders) trees f t g.each is));
-  count = (let a : count_nodes more ≡ count_nodes trees + length t.nodes.items = ap count_nodes m ∙ count_more trees t in let b : room + count_nodes trees ≡ 65536 = g.count in omega (arith, a, b, fits, l));
+pub first_none : (folders : List Icb) (forest left : List (Vec NodeFields Global)) (trees : List LostTree) → trees ≡ [] → left ≡ forest → AreFirst folders forest left trees
+first_none folders forest left trees e l = record {
+  folders_are = ap (map (λ (t : LostTree). t.folder)) e ∙ no_trees folders ∙ ap (λ (ts : List LostTree). take (length ts) folders) (sym e);
+  nodes_are = (λ i. map (λ (t : LostTree). t.nodes) (e i) ++ l i);
 }
 
-pub growing_done : (v : View) (folders : List Icb) (i room : ℕ) (trees : List LostTree) → length folders ≤ i → AreGrowing v folders i room trees → AreLostTrees v folders trees
-growing_done v folders i room trees h g = record {
-  each = subst (λ z. AllZip (IsLostTree v) z trees) (take_whole folders i h) g.each;
-  few = (let b : room + count_nodes trees ≡ 65536 = g.count in omega (arith, b));
+pub first_more : (folders : List Icb) (forest left less : List (Vec NodeFields Global)) (trees more : List LostTree) (d f : Icb) (nodes : Vec NodeFields Global) → length trees < length folders → f ≡ get_or folders (length trees) d
+    → left ≡ nodes ∷ less → more ≡ trees ++ record { folder = f; nodes = nodes } ∷ [] → AreFirst folders forest left trees → AreFirst folders forest less more
+first_more folders forest left less trees more d f nodes h is l m a = record {
+  folders_are = ap (map (λ (t : LostTree). t.folder)) m ∙ map-append (λ (t : LostTree). t.folder) trees _ ∙ (λ i. a.folders_are i ++ is i ∷ []) ∙ sym (take_more folders (length trees) d h)
+      ∙ ap (λ n. take n folders) (sym (ap length m ∙ length-append trees _));
+  nodes_are = ap (λ (ts : List LostTree). map (λ (t : LostTree). t.nodes) ts ++ less) m ∙ ap (λ ns. ns ++ less) (map-append (λ (t : LostTree). t.nodes) trees _)
+      ∙ moved (map (λ (t : LostTree). t.nodes) trees) nodes less ∙ ap (λ ns. map (λ (t : LostTree). t.nodes) trees ++ ns) (sym l) ∙ a.nodes_are;
 }
-
--- ---- routes from all folders
-no_routes : (v : View) (f : Icb) → AreRoutesFrom v f []
-no_routes v f = record { in_order = tt; lead = λ r c. absurd (included [] r c) }
-
--- at least as many routes lead on as there are nodes
-record HasRoutes (v : View) (f : Icb) (count : ℕ) : Type 0 where
-  routes : List Route
-  from : AreRoutesFrom v f routes
-  many : count ≤ length routes
-
-routes_of : (v : View) (f : Icb) (nodes : List NodeFields) → AreNodes v (address_of f) nodes → HasRoutes v f (length nodes)
-routes_of v f nodes are = go (length are.walks) refl
   where
-    same : length nodes ≡ length are.walks
-    same = ap length are.is ∙ length-map are.walks _
+    moved : (xs : List (Vec NodeFields Global)) (x : Vec NodeFields Global) (ys : List (Vec NodeFields Global)) → (xs ++ x ∷ []) ++ ys ≡ xs ++ x ∷ ys
+    moved [] x ys = refl
+    moved (z ∷ xs) x ys = ap (λ zs. z ∷ zs) (moved xs x ys)
 
-    go : (n : ℕ) → length are.walks ≡ n → HasRoutes v f (length nodes)
-    go zero e = record { routes = []; from = no_routes v f; many = omega (arith, e, same) }
-    go (suc n) e = let x : HasMoreRoutes v (address_of f) n = more_routes v (address_of f) are.walks n are.walk (omega (arith, e)) in
-        record { routes = x.routes; from = record { in_order = x.in_order; lead = x.lead }; many = (let m : n < length x.routes = x.more in omega (arith, m, e, same)) }
+-- as long as nodes are left, a folder is left
+pub folder_left : (folders : List Icb) (forest left less : List (Vec NodeFields Global)) (trees : List LostTree) (nodes : Vec NodeFields Global) → length forest ≡ length folders → left ≡ nodes ∷ less
+    → AreFirst folders forest left trees → length trees < length folders
+folder_left folders forest left less trees nodes e l a =
+    let all : length (map (λ (t : LostTree). t.nodes) trees) + length left ≡ length forest = sym (length-append (map (λ (t : LostTree). t.nodes) trees) left) ∙ ap length a.nodes_are in
+    let same : length (map (λ (t : LostTree). t.nodes) trees) ≡ length trees = length-map trees (λ (t : LostTree). t.nodes) in
+    let some : length left ≡ length (nodes ∷ less) = ap length l in
+    omega (arith, e, all, same, some)
 
--- routes from each of the folders, this many together
-record HaveRoutes (v : View) (folders : List Icb) (count : ℕ) : Type 0 where
-  routes : List (List Route)
-  each : AllZip (AreRoutesFrom v) folders routes
-  many : count ≤ sum_by length routes
+pub first_all : (folders : List Icb) (forest left : List (Vec NodeFields Global)) (trees : List LostTree) → length forest ≡ length folders → left ≡ [] → AreFirst folders forest left trees → AreOf folders forest trees
+first_all folders forest left trees e l a =
+    let is : map (λ (t : LostTree). t.nodes) trees ≡ forest = sym (nothing_on (map (λ (t : LostTree). t.nodes) trees)) ∙ ap (λ ns. map (λ (t : LostTree). t.nodes) trees ++ ns) (sym l) ∙ a.nodes_are in
+    let many : length folders ≤ length trees = (let n : length trees ≡ length forest = sym (length-map trees (λ (t : LostTree). t.nodes)) ∙ ap length is in omega (arith, n, e)) in
+    record { folders_are = a.folders_are ∙ take_all (length trees) folders many; nodes_are = is }
+  where
+    nothing_on : (xs : List (Vec NodeFields Global)) → xs ++ [] ≡ xs
+    nothing_on [] = refl
+    nothing_on (x ∷ xs) = ap (λ zs. x ∷ zs) (nothing_on xs)
 
-some_routes : (v : View) (folders : List Icb) → HaveRoutes v folders 0
-some_routes v [] = record { routes = []; each = tt; many = omega arith }
-some_routes v (f ∷ folders) = let x : HaveRoutes v folders 0 = some_routes v folders in record { routes = [] ∷ x.routes; each = (no_routes v f, x.each); many = omega arith }
+-- ---- they are the lost trees
+as_long : {A B : Type 0} (R : A → B → Type 0) (xs : List A) (ys : List B) → AllZip R xs ys → length ys ≡ length xs
+as_long R [] [] z = refl
+as_long R [] (y ∷ ys) z = absurd z
+as_long R (x ∷ xs) [] z = absurd z
+as_long R (x ∷ xs) (y ∷ ys) z = let e : length ys ≡ length xs = as_long R xs ys z.1 in omega (arith, e)
 
-with_routes : (v : View) (f : Icb) (folders : List Icb) (count more : ℕ) → HasRoutes v f count → HaveRoutes v folders more → HaveRoutes v (f ∷ folders) (count + more)
-with_routes v f folders count more x y = record {
-  routes = x.routes ∷ y.routes;
-  each = (x.from, y.each);
-  many = (let a : sum_by length (x.routes ∷ y.routes) ≡ length x.routes + sum_by length y.routes = sum_first length x.routes y.routes in let b : count ≤ length x.routes = x.many in let c : more ≤ sum_by length y.routes = y.many in omega (arith, a, b, c));
-}
+pub one_each : (v : View) (folders : List Icb) (forest : List (Vec NodeFields Global)) → IsForest v folders (map (λ (t : Vec NodeFields Global). map (full_node v) t.items) forest) → length forest ≡ length folders
+one_each v folders forest z = sym (length-map forest (λ (t : Vec NodeFields Global). map (full_node v) t.items)) ∙ as_long (IsTree v) folders (map (λ (t : Vec NodeFields Global). map (full_node v) t.items) forest) z.each
 
-weaker : (v : View) (folders : List Icb) (a b : ℕ) → a ≡ b → HaveRoutes v folders a → HaveRoutes v folders b
-weaker v folders a b e x = subst (HaveRoutes v folders) e x
+each_tree : (v : View) (trees : List LostTree) → AllZip (IsTree v) (map (λ (t : LostTree). t.folder) trees) (map (λ (t : Vec NodeFields Global). map (full_node v) t.items) (map (λ (t : LostTree). t.nodes) trees))
+    → AllZip (IsLostTree v) (map (λ (t : LostTree). t.folder) trees) trees
+each_tree v [] z = tt
+each_tree v (t ∷ trees) z = (record { folder = refl; nodes = z.0 }, each_tree v trees z.1)
 
--- those of the trees so far, and of the next folder
-up_to : (v : View) (folders : List Icb) (i : ℕ) (f : Icb) (trees : List LostTree) (count : ℕ) → i < length folders → f ≡ get_or folders i f → AllZip (IsLostTree v) (take i folders) trees → HasRoutes v f count
-    → HaveRoutes v folders (count_nodes trees + count)
-up_to v [] i f trees count h at z x = absurd (let w : ⊥ = omega (arith, h) in w)
-up_to v (g ∷ folders) zero f [] count h at z x = weaker v (g ∷ folders) (count + 0) (count_nodes [] + count) (omega arith) (with_routes v g folders count 0 (subst (λ y. HasRoutes v y count) at x) (some_routes v folders))
-up_to v (g ∷ folders) zero f (t ∷ trees) count h at z x = absurd z
-up_to v (g ∷ folders) (suc i) f [] count h at z x = absurd z
-up_to v (g ∷ folders) (suc i) f (t ∷ trees) count h at z x = weaker v (g ∷ folders) (length (map (full_node v) t.nodes.items) + (count_nodes trees + count)) (count_nodes (t ∷ trees) + count)
-    (let a : count_nodes (t ∷ trees) ≡ length t.nodes.items + count_nodes trees = sum_first (λ (y : LostTree). length y.nodes.items) t trees in
-    let b : length (map (full_node v) t.nodes.items) ≡ length t.nodes.items = length-map t.nodes.items (full_node v) in omega (arith, a, b))
-    (with_routes v g folders (length (map (full_node v) t.nodes.items)) (count_nodes trees + count) (routes_of v g (map (full_node v) t.nodes.items) z.0.nodes) (up_to v folders i f trees count (omega (arith, h)) at z.1 x))
+as_many : (v : View) (trees : List LostTree) → sum_by length (map (λ (t : Vec NodeFields Global). map (full_node v) t.items) (map (λ (t : LostTree). t.nodes) trees)) ≡ count_nodes trees
+as_many v [] = refl
+as_many v (t ∷ trees) =
+    let rest : List (List NodeFields) = map (λ (t : Vec NodeFields Global). map (full_node v) t.items) (map (λ (t : LostTree). t.nodes) trees) in
+    let a : sum_by length (map (full_node v) t.nodes.items ∷ rest) ≡ length (map (full_node v) t.nodes.items) + sum_by length rest = sum_by-cons length (map (full_node v) t.nodes.items) rest in
+    let b : length (map (full_node v) t.nodes.items) ≡ length t.nodes.items = length-map t.nodes.items (full_node v) in
+    let c : sum_by length rest ≡ count_nodes trees = as_many v trees in
+    let d : count_nodes (t ∷ trees) ≡ length t.nodes.items + count_nodes trees = sum_by-cons (λ (x : LostTree). length x.nodes.items) t trees in
+    let e : sum_by length (map (full_node v) t.nodes.items ∷ rest) ≡ count_nodes (t ∷ trees) = omega (arith, a, b, c, d) in e
 
-refused_with : (v : View) (folders : List Icb) (i room : ℕ) (f : Icb) (trees : List LostTree) (count : ℕ) → i < length folders → f ≡ get_or folders i f → AreGrowing v folders i room trees → room < count → HasRoutes v f count
-    → HaveMoreRoutes v folders 65536
-refused_with v folders i room f trees count h at g over x = let y : HaveRoutes v folders (count_nodes trees + count) = up_to v folders i f trees count h at g.each x in
-    record { routes = y.routes; each = y.each; more = (let a : room + count_nodes trees ≡ 65536 = g.count in let b : count_nodes trees + count ≤ sum_by length y.routes = y.many in omega (arith, a, b, over)) }
+pub are_lost : (v : View) (folders : List Icb) (forest : List (Vec NodeFields Global)) (trees : List LostTree) → IsForest v folders (map (λ (t : Vec NodeFields Global). map (full_node v) t.items) forest) → AreOf folders forest trees
+    → AreLostTrees v folders trees
+are_lost v folders forest trees z a =
+    let own : IsForest v (map (λ (t : LostTree). t.folder) trees) (map (λ (t : Vec NodeFields Global). map (full_node v) t.items) (map (λ (t : LostTree). t.nodes) trees))
+    = subst (λ (p : List Icb × List (Vec NodeFields Global)). IsForest v p.0 (map (λ (t : Vec NodeFields Global). map (full_node v) t.items) p.1)) (λ i. (sym a.folders_are i, sym a.nodes_are i)) z in
+    record {
+      each = subst (λ fs. AllZip (IsLostTree v) fs trees) a.folders_are (each_tree v trees own.each);
+      few = (let n : sum_by length (map (λ (t : Vec NodeFields Global). map (full_node v) t.items) (map (λ (t : LostTree). t.nodes) trees)) ≡ count_nodes trees = as_many v trees in
+          let few : sum_by length (map (λ (t : Vec NodeFields Global). map (full_node v) t.items) (map (λ (t : LostTree). t.nodes) trees)) ≤ 65536 = own.few in omega (arith, n, few));
+    }
 
--- there is no room for the nodes of the next folder
-pub no_room : (v : View) (folders : List Icb) (i room : ℕ) (f : Icb) (trees : List LostTree) (nodes : List NodeFields) → i < length folders → f ≡ get_or folders i f → AreGrowing v folders i room trees
-    → AreNodes v (address_of f) (map (full_node v) nodes) → room < length nodes → IsTreesRefused v folders TooManyPaths
-no_room v folders i room f trees nodes h at g are over = refused_with v folders i room f trees (length (map (full_node v) nodes)) h at g
-    (let b : length (map (full_node v) nodes) ≡ length nodes = length-map nodes (full_node v) in omega (arith, b, over)) (routes_of v f (map (full_node v) nodes) are)
-
--- the walk from the next folder was refused
-pub walk_refused : (v : View) (folders : List Icb) (i room : ℕ) (f : Icb) (trees : List LostTree) (error : NodesError) → i < length folders → f ≡ get_or folders i f → AreGrowing v folders i room trees
-    → IsNodesRefused v (address_of f) error → IsTreesRefused v folders error
-walk_refused v folders i room f trees TooManyPaths h at g x = refused_with v folders i room f trees (length x.routes) h at g
-    (let a : room + count_nodes trees ≡ 65536 = g.count in let b : 65536 < length x.routes = x.more in omega (arith, a, b))
-    (record { routes = x.routes; from = record { in_order = x.in_order; lead = x.lead }; many = omega arith })
-walk_refused v folders i room f trees OutOfMemory h at g x = tt
+-- too many paths for all roots are too many for the folders
+pub forest_refused : (v : View) (folders : List Icb) (error : NodesError) → IsForestRefused v folders error → IsTreesRefused v folders error
+forest_refused v folders TooManyPaths x = x
+forest_refused v folders OutOfMemory x = tt

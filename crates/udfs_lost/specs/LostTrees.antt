@@ -1,11 +1,15 @@
 -- The trees of lost folders.
 --     AreLostTrees view folders trees              the nodes of the walk from each of these folders
 --     IsTreesRefused view folders error            there are too many
-use Rattle.std.specs.Prelude.{◌≡◌, ◌≤◌, ◌<◌, ⊤, ℕ, List, length, map, sum_by, IsSome, Contains}
+--     AreOf folders forest trees                   the trees have these folders and these nodes, in this order
+use Rattle.std.specs.Prelude.{◌≡◌, ◌≤◌, ⊤, ℕ, List, length, map, sum_by}
 use Rattle.std.specs.List.{AllZip}
+use Rattle.std.specs.declared.alloc.Global.{Global}
+use Rattle.std.specs.declared.vec.Vec.{Vec}
 use Rattle.udfs_space.specs.Places.{View}
 use Rattle.udfs_walk.specs.Bare.{full_node}
-use Rattle.udfs_walk.specs.Routes.{Route, IsInOrder, walked}
+use Rattle.udfs_walk.specs.Forests.{HaveMoreRoutes}
+use Rattle.udfs_walk.specs.NodeFields.{NodeFields}
 use Rattle.udfs_walk.specs.Targets.{Icb}
 use Rattle.udfs_walk.specs.UnnamedEntries.{address_of}
 use Rattle.udfs_walk.specs.Walks.{AreNodes}
@@ -27,16 +31,10 @@ pub record AreLostTrees (view : View) (folders : List Icb) (trees : List LostTre
   pub each : AllZip (IsLostTree view) folders trees
   pub few : count_nodes trees ≤ 65536
 
--- the routes, in order, each lead from the folder to a node
-pub record AreRoutesFrom (view : View) (folder : Icb) (routes : List Route) : Type 0 where
-  pub in_order : IsInOrder routes
-  pub lead : (route : Route) → Contains routes route → IsSome (walked view (address_of folder) route)
-
--- more than `count` routes lead from these folders to nodes, all of them together
-pub record HaveMoreRoutes (view : View) (folders : List Icb) (count : ℕ) : Type 0 where
-  pub routes : List (List Route)
-  pub each : AllZip (AreRoutesFrom view) folders routes
-  pub more : count < sum_by length routes
+-- the trees have these folders and these nodes, in this order
+pub record AreOf (folders : List Icb) (forest : List (Vec NodeFields Global)) (trees : List LostTree) : Type 0 where
+  pub folders_are : map (λ (t : LostTree). t.folder) trees ≡ folders
+  pub nodes_are : map (λ (t : LostTree). t.nodes) trees ≡ forest
 
 -- TooManyPaths comes only where more than 65,536 routes lead from all folders together; OutOfMemory may always come
 abbrev pub IsTreesRefused : View → List Icb → NodesError → Type 0

@@ -4,7 +4,7 @@ ghost use Rattle.std.specs.Prelude.{◌≡◌, ◌&&◌, ◌||◌, IfOk, IsErrOf
 ghost use Rattle.std.specs.List.{list_any};
 ghost use Rattle.udfs_lattice.specs.Volumes.{Blocks};
 ghost use Rattle.udfs_space.specs.Places.{view};
-ghost use Rattle.udfs_space.specs.Views.{view_by, view_now};
+ghost use Rattle.udfs_space.specs.Views.{view_by};
 ghost use Rattle.udfs_walk.specs.Targets.{Icb, is_icb};
 ghost use Rattle.udfs_walk.specs.UnnamedEntries.{names};
 ghost use Rattle.udfs_lost.specs.Folders.{icb_of_entry, is_taken};
@@ -17,8 +17,7 @@ use std::alloc::{AllocError, Global};
 use udfs_file::Kind;
 use udfs_file::file_sets::address_fault;
 use udfs_lattice::{BlockStore, GaveUp, ReadFault};
-use udfs_osta::OutOfMemory;
-use udfs_space::{Space, StoreView, View};
+use udfs_space::{Space, StoreView};
 use udfs_tag::LbAddr;
 use udfs_walk::{Node, Unnamed};
 
@@ -76,31 +75,6 @@ fn is_lost<B: BlockStore>(
 
 /// The lost files among entries that no name leads to: files of link count above 0, or, with `deleted`, of any, that no node of
 /// these trees names. They are in the order of the entries.
-///
-/// # Errors
-///
-/// [`OutOfMemory`] where memory runs out.
-pub fn lost_files<'a>(
-    alloc: Global,
-    view: View<'_>,
-    deleted: bool,
-    trees: &[LostTree],
-    entries: &'a [Unnamed],
-) -> Result<Vec<&'a Unnamed>, OutOfMemory>
-    ensures { IfOk result (λ files. map (λ file. file.now) files.items ≡ lost_files (view_now view.entry) deleted trees.now entries.now) }
-{
-    let stored = StoreView {
-        blocks: view.table,
-        space: view.space,
-    };
-    match lost_files_by(alloc, stored, deleted, trees, entries) {
-        Ok(files) => Ok(files),
-        Err(GaveUp::OutOfMemory) => Err(AllocError),
-        Err(GaveUp::Unread) => unreachable!(),
-    }
-}
-
-/// The same as [`lost_files`], by any store of blocks.
 ///
 /// # Errors
 ///

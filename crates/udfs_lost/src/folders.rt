@@ -1,7 +1,7 @@
 //! Lost folders: directories that no known name leads to.
 
 ghost use Rattle.std.specs.Prelude.{◌≡◌, IfErr, IfOk, IsErrOf, OnErr};
-ghost use Rattle.udfs_space.specs.Views.{view_by, view_now};
+ghost use Rattle.udfs_space.specs.Views.{view_by};
 ghost use Rattle.udfs_walk.specs.GivingUp.{IfTold};
 ghost use Rattle.udfs_lost.specs.Folders.{AreLostRoots, IsRootsRefused, is_directory, is_lost_folder, lost_folders};
 
@@ -10,9 +10,9 @@ use crate::search::roots;
 use std::alloc::Global;
 use udfs_file::Kind;
 use udfs_lattice::{BlockStore, GaveUp, ReadFault};
-use udfs_space::{StoreView, View};
+use udfs_space::StoreView;
 use udfs_tag::LbAddr;
-use udfs_walk::{NodesError, NodesGaveUp, Unnamed};
+use udfs_walk::{NodesGaveUp, Unnamed};
 
 /// Whether it is a directory.
 pub(crate) fn is_directory(kind: Kind) -> bool
@@ -73,34 +73,8 @@ fn lost_folders<B: BlockStore>(
 ///
 /// # Errors
 ///
-/// [`NodesError::TooManyPaths`] where a directory to which a lost folder leads lists more than 65,535 entries, and
-/// [`NodesError::OutOfMemory`] where memory runs out.
-pub fn lost_roots(
-    alloc: Global,
-    view: View<'_>,
-    deleted: bool,
-    entries: &[Unnamed],
-) -> Result<Vec<LbAddr>, NodesError>
-    ensures roots { IfOk result (λ roots. AreLostRoots (view_now view.entry) (lost_folders (view_now view.entry) deleted entries.now) roots.items) }
-    ensures refused { IfErr result (IsRootsRefused (view_now view.entry) (lost_folders (view_now view.entry) deleted entries.now)) }
-{
-    let stored = StoreView {
-        blocks: view.table,
-        space: view.space,
-    };
-    match lost_roots_by(alloc, stored, deleted, entries) {
-        Ok(roots) => Ok(roots),
-        Err(NodesGaveUp::TooManyPaths) => Err(NodesError::TooManyPaths),
-        Err(NodesGaveUp::OutOfMemory) => Err(NodesError::OutOfMemory),
-        Err(NodesGaveUp::Unread) => unreachable!(),
-    }
-}
-
-/// The same as [`lost_roots`], by any store of blocks.
-///
-/// # Errors
-///
-/// As those of [`lost_roots`], and `Unread` where the bytes of a known block could not be read.
+/// `TooManyPaths` where a directory to which a lost folder leads lists more than 65,535 entries, `OutOfMemory` where memory
+/// runs out, and `Unread` where the bytes of a known block could not be read.
 pub fn lost_roots_by<B: BlockStore>(
     alloc: Global,
     view: StoreView<'_, B>,

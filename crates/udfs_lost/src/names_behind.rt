@@ -3,7 +3,7 @@
 ghost use Rattle.std.specs.Prelude.{◌≡◌, [], IfOk, IsErrOf, List, filter_map, fold, length, map, option_map, take};
 ghost use Rattle.std.specs.List.{cons_option};
 ghost use Rattle.udfs_tag.specs.Fields.{number_of};
-ghost use Rattle.udfs_space.specs.Views.{view_by, view_now};
+ghost use Rattle.udfs_space.specs.Views.{view_by};
 ghost use Rattle.udfs_file.specs.FoundNames.{entries_in};
 ghost use Rattle.udfs_lost.specs.Folders.{icb_of_entry};
 ghost use Rattle.udfs_lost.specs.FoundNames.{Found, found_names, found_of, is_torn, is_torn_folder, torn_folders, with_name};
@@ -17,8 +17,8 @@ use std::marker::Model;
 use udfs_file::file_sets::address_fault;
 use udfs_file::{DirEntry, FoundNames};
 use udfs_lattice::{BlockStore, GaveUp};
-use udfs_osta::{Name, OutOfMemory};
-use udfs_space::{StoreView, View};
+use udfs_osta::Name;
+use udfs_space::StoreView;
 use udfs_walk::{Node, Standing, Unnamed, body_by};
 
 /// The most names that are told of one directory.
@@ -202,30 +202,6 @@ fn names_in<'a, B: BlockStore>(
 /// of their places. Where two different names name one entry, both are among them; the same name of an entry is there once. The body of the directory is read once.
 ///
 /// They are evidence and no proof: the bytes of such a name may be left over from an older state of the directory.
-///
-/// # Errors
-///
-/// [`OutOfMemory`] where memory runs out.
-pub fn found_names<'a>(
-    alloc: Global,
-    view: View<'_>,
-    lost: &Unplaced<'a>,
-    folder: &Node,
-) -> Result<Vec<FoundName<'a>>, OutOfMemory>
-    ensures { IfOk result (λ found. found.items ≡ found_names (view_now view.entry) lost.now folder.now.icb) }
-{
-    let stored = StoreView {
-        blocks: view.table,
-        space: view.space,
-    };
-    match found_names_by(alloc, stored, lost, folder) {
-        Ok(found) => Ok(found),
-        Err(GaveUp::OutOfMemory) => Err(AllocError),
-        Err(GaveUp::Unread) => unreachable!(),
-    }
-}
-
-/// The same as [`found_names`], by any store of blocks.
 ///
 /// # Errors
 ///

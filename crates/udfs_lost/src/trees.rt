@@ -1,19 +1,15 @@
 //! The trees of lost folders.
 
-ghost use Rattle.std.specs.Prelude.{◌≡◌, ◌++◌, ◌∷◌, [], IfOk, IsErrOf, MatchResult};
+ghost use Rattle.std.specs.Prelude.{◌≡◌, ◌++◌, ◌∷◌, [], IfOk, IsErrOf, MatchResult, length};
 ghost use Rattle.udfs_space.specs.Views.{view_by, view_now};
 ghost use Rattle.udfs_walk.specs.GivingUp.{IfTold};
-ghost use Rattle.udfs_lost.specs.LostTrees.{AreLostTrees, IsTreesRefused};
+ghost use Rattle.udfs_lost.specs.LostTrees.{AreLostTrees, AreOf, IsTreesRefused};
 
-use crate::entries::entry_address;
 use std::alloc::{AllocError, Global};
 use udfs_lattice::BlockStore;
 use udfs_space::{StoreView, View};
 use udfs_tag::LbAddr;
-use udfs_walk::{Node, NodesError, NodesGaveUp, bare_nodes_by};
-
-/// The nodes that all lost trees together may have.
-const MOST_NODES: usize = 65_536;
+use udfs_walk::{Node, NodesError, NodesGaveUp, forest_by};
 
 /// The tree of a lost folder.
 #[derive(Debug, Drop)]
@@ -33,8 +29,25 @@ fn put(trees: &mut Vec<LostTree>, folder: LbAddr, nodes: Vec<Node>) -> Result<()
     Ok(())
 }
 
-/// The trees of these folders, one of each: what the walk over a volume's routes finds from the folder in place of the root. The
-/// walk of each folder reads a body at most once; what is in the trees of several folders is read once for each.
+/// The trees of these folders, in this order, where these are the nodes of each.
+fn of_folders(
+    alloc: Global,
+    folders: &[LbAddr],
+    forest: Vec<Vec<Node>>,
+) -> Result<Vec<LostTree>, AllocError>
+    ensures { IfOk result (λ trees. length forest.items ≡ length folders.now → AreOf folders.now forest.items trees.items) }
+{
+    let mut trees = Vec::new(alloc);
+    for nodes in forest {
+        if let Some(folder) = folders.get(trees.len()) {
+            put(&mut trees, *folder, nodes)?;
+        }
+    }
+    Ok(trees)
+}
+
+/// The trees of these folders, one of each: what the walk over a volume's routes finds from the folder in place of the root. A
+/// body is walked over at most once, however many of the folders lead there.
 ///
 /// # Errors
 ///
@@ -74,15 +87,7 @@ pub fn lost_trees_by<B: BlockStore>(
         (IfTold (IsTreesRefused (view_by B.states view.entry) folders.now)) }
     ensures fails { IsErrOf result NodesGaveUp.Unread → B.fails }
 {
-    let mut room = MOST_NODES;
-    let mut trees = Vec::new(alloc);
-    for folder in folders {
-        let nodes = bare_nodes_by(alloc, view, entry_address(*folder))?;
-        if nodes.len() > room {
-            return Err(NodesGaveUp::TooManyPaths);
-        }
-        room -= nodes.len();
-        put(&mut trees, *folder, nodes)?;
-    }
+    let forest = forest_by(alloc, view, folders)?;
+    let trees = of_folders(alloc, folders, forest)?;
     Ok(trees)
 }

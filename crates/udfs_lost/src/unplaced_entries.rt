@@ -2,7 +2,7 @@
 
 ghost use Rattle.std.specs.Prelude.{◌≡◌, ◌++◌, ◌∷◌, [], IfOk, IsErrOf, List, cond, filter, map, option_map};
 ghost use Rattle.std.specs.List.{list_any};
-ghost use Rattle.udfs_space.specs.Views.{view_by, view_now};
+ghost use Rattle.udfs_space.specs.Views.{view_by};
 ghost use Rattle.udfs_walk.specs.Targets.{Icb, is_icb};
 ghost use Rattle.udfs_walk.specs.declared.answers.Unnamed.{Unnamed};
 ghost use Rattle.udfs_lost.specs.Folders.{icb_of_entry};
@@ -16,8 +16,7 @@ use std::alloc::{AllocError, Global};
 use std::collections::BTreeMap;
 use std::marker::Model;
 use udfs_lattice::{BlockStore, GaveUp};
-use udfs_osta::OutOfMemory;
-use udfs_space::{StoreView, View};
+use udfs_space::StoreView;
 use udfs_tag::LbAddr;
 use udfs_walk::Unnamed;
 
@@ -148,31 +147,6 @@ fn with_roots<'a>(
 }
 
 /// Of entries that no name leads to the lost files, and then those from which one of these lost trees is walked: with `deleted` also files of link count 0.
-///
-/// # Errors
-///
-/// [`OutOfMemory`] where memory runs out.
-pub fn unplaced_in<'a>(
-    alloc: Global,
-    view: View<'_>,
-    deleted: bool,
-    trees: &[LostTree],
-    entries: &'a [Unnamed],
-) -> Result<Unplaced<'a>, OutOfMemory>
-    ensures { IfOk result (λ found. found ≡ unplaced (view_now view.entry) deleted trees.now entries.now) }
-{
-    let stored = StoreView {
-        blocks: view.table,
-        space: view.space,
-    };
-    match unplaced_by(alloc, stored, deleted, trees, entries) {
-        Ok(found) => Ok(found),
-        Err(GaveUp::OutOfMemory) => Err(AllocError),
-        Err(GaveUp::Unread) => unreachable!(),
-    }
-}
-
-/// The same as [`unplaced_in`], by any store of blocks.
 ///
 /// # Errors
 ///

@@ -6,12 +6,13 @@
 use Rattle.std.specs.Prelude.{◌≡◌, ◌⊎◌, ⊤, Bool, List, [], Option, Some, None}
 use Rattle.udfs_lattice.specs.Volumes.{Blocks}
 use Rattle.udfs_space.specs.Places.{View}
+use Rattle.udfs_walk.specs.Forests.{HaveMoreRoutes}
 use Rattle.udfs_walk.specs.Targets.{Icb}
 use Rattle.udfs_walk.specs.declared.answers.NodesError.{NodesError}
 use Rattle.udfs_walk.specs.declared.answers.NodesError.TheVariants.{TooManyPaths, OutOfMemory}
 use Rattle.udfs_walk.specs.declared.answers.Unnamed.{Unnamed}
 use Rattle.udfs_lost.specs.Folders.{AreLostRoots, HaveLargeDirectory, lost_folders}
-use Rattle.udfs_lost.specs.LostTrees.{AreLostTrees, HaveMoreRoutes}
+use Rattle.udfs_lost.specs.LostTrees.{AreLostTrees}
 use Rattle.udfs_lost.specs.declared.trees.LostTree.{LostTree}
 use Rattle.udfs_salvage.specs.declared.surveys.Survey as code_survey
 use Rattle.udfs_overview.specs.Searched.{Searched, searched_now, searched_of}
