@@ -76,10 +76,16 @@ fn nodes_65535_are_reported(rt: HostRuntime) -> Result<(), Fail> {
 static NODES_65536_ARE_REPORTED: &str = r"
 = nodes_65536_are_reported
 disc doubling 1
-but
 
+but
 $ report --last 600 disc.tab
 out-lines 65536 node\x20
+
+# Where the file set is not read, the root is a lost folder with as many; its link count is 1.
+write 273 48 \x01
+but 272
+$ list --lost --paths --last 600 disc.tab
+out-lines 65536 lost:1/
 ";
 
 #[test]
@@ -90,9 +96,14 @@ fn nodes_65536_are_reported(rt: HostRuntime) -> Result<(), Fail> {
 static NODES_65537_HAVE_NO_REPORT: &str = r"
 = nodes_65537_have_no_report
 disc doubling 2
-but
 
+but
 $ report --last 600 disc.tab
+refused udfsalvage: fault 3 TooManyPaths\n
+
+write 273 48 \x01
+but 272
+$ list --lost --last 600 disc.tab
 refused udfsalvage: fault 3 TooManyPaths\n
 ";
 
