@@ -1,10 +1,10 @@
 -- The trees of several roots, and the routes from all of them together.
 use Rattle.std.proofs.Common.{◌≡◌, refl, sym, ◌∙◌, ap, subst, ℕ, ◌+◌, ◌-◌, ◌<◌, ◌≤◌, List, [], ◌∷◌, ◌++◌, length, map, take, arith, get_or, Err}
-use Rattle.std.specs.Prelude.{zero, suc, sum_by, flat_map, IsErrAnd, MatchResult, Result}
+use Rattle.std.specs.Prelude.{zero, suc, sum_by, IsErrAnd, MatchResult, Result}
 use Rattle.std.specs.List.{AllZip}
-use Rattle.std.proofs.lemmas.List.{length-map, map-append, take_more, take_all}
+use Rattle.std.proofs.lemmas.List.{append-nil, length-map, map-append, take_more, take_all}
 use Rattle.std.proofs.lemmas.List.Concat.{flat_map-append}
-use Rattle.std.proofs.lemmas.List.Sums.{sum_by-append, sum_by-cons}
+use Rattle.std.proofs.lemmas.List.Sums.{sum_by-cons, sum_by_push}
 use Rattle.std.proofs.lemmas.Result.{err_from_is_err_and}
 use Rattle.udfs_lattice.proofs.Inclusion.{included}
 use Rattle.udfs_space.specs.Places.{View}
@@ -25,6 +25,10 @@ use Rattle.udfs_walk.proofs.CountLemmas.{counted_both}
 use Rattle.udfs_walk.proofs.PublicLaws.{more_routes}
 use Rattle.udfs_walk.proofs.SettleLemmas.{are_settled, settled_keys}
 
+-- how many nodes there are in all
+abbrev count_in : List (List NodeFields) → ℕ
+count_in trees = sum_by length trees
+
 -- ---- one tree more
 zip_snoc : {A B : Type 0} (R : A → B → Type 0) (xs : List A) (ys : List B) (x : A) (y : B) → AllZip R xs ys → R x y → AllZip R (xs ++ x ∷ []) (ys ++ y ∷ [])
 zip_snoc R [] [] x y h r = (r, tt)
@@ -39,26 +43,23 @@ no_trees v (root ∷ roots) trees e = subst (AllZip (IsUnsettledTree v) []) (sym
 -- the trees of the first roots, and the room that they leave
 pub record AreGrowing (v : View) (roots : List Icb) (i : ℕ) (room : ℕ) (trees : List (List NodeFields)) : Type 0 where
   pub each : AllZip (IsUnsettledTree v) (take i roots) trees
-  pub count : room + sum_by length trees ≡ 65536
+  pub count : room + count_in trees ≡ 65536
 
 pub growing_none : (v : View) (roots : List Icb) (trees : List (List NodeFields)) → trees ≡ [] → AreGrowing v roots 0 65536 trees
-growing_none v roots trees e = record { each = no_trees v roots trees e; count = (let z : sum_by length trees ≡ 0 = ap (sum_by length) e in omega (arith, z)) }
+growing_none v roots trees e = record { each = no_trees v roots trees e; count = (let z : count_in trees ≡ 0 = ap count_in e in omega (arith, z)) }
 
 pub growing_more : (v : View) (roots : List Icb) (i room less : ℕ) (trees more : List (List NodeFields)) (d : Icb) (t : List NodeFields) → i < length roots → IsUnsettledTree v (get_or roots i d) t
     → length t ≤ room → less ≡ room - length t → more ≡ trees ++ t ∷ [] → AreGrowing v roots i room trees → AreGrowing v roots (i + 1) less more
 growing_more v roots i room less trees more d t h is fits l m g = record {
   each = subst (λ z. AllZip (IsUnsettledTree v) z more) (sym (take_more roots i d h))
       (subst (AllZip (IsUnsettledTree v) (take i roots ++ get_or roots i d ∷ [])) (sym m) (zip_snoc (IsUnsettledTree v) (take i roots) trees (get_or roots i d) t g.each is));
-  count = (let a : sum_by length more ≡ sum_by length trees + sum_by length (t ∷ []) = ap (sum_by length) m ∙ sum_by-append length trees (t ∷ []) in
-      let one : sum_by length (t ∷ []) ≡ length t + sum_by length [] = sum_by-cons length t [] in
-      let none : sum_by length [] ≡ 0 = refl in
-      let b : room + sum_by length trees ≡ 65536 = g.count in omega (arith, a, one, none, b, fits, l));
+  count = (let a : count_in more ≡ count_in trees + length t = ap count_in m ∙ sum_by_push length trees t in let b : room + count_in trees ≡ 65536 = g.count in omega (arith, a, b, fits, l));
 }
 
 pub growing_done : (v : View) (roots : List Icb) (i room : ℕ) (trees : List (List NodeFields)) → length roots ≤ i → AreGrowing v roots i room trees → IsUnsettledForest v roots trees
 growing_done v roots i room trees h g = record {
   each = subst (λ z. AllZip (IsUnsettledTree v) z trees) (take_all i roots h) g.each;
-  few = (let b : room + sum_by length trees ≡ 65536 = g.count in omega (arith, b));
+  few = (let b : room + count_in trees ≡ 65536 = g.count in omega (arith, b));
 }
 
 -- ---- routes from all roots
@@ -101,20 +102,20 @@ with_routes v root roots count more x y = record {
 
 -- those of the trees so far, and of the next root
 up_to : (v : View) (roots : List Icb) (i : ℕ) (d : Icb) (trees : List (List NodeFields)) (count : ℕ) → i < length roots → AllZip (IsUnsettledTree v) (take i roots) trees → HasRoutes v (get_or roots i d) count
-    → HaveRoutes v roots (sum_by length trees + count)
+    → HaveRoutes v roots (count_in trees + count)
 up_to v [] i d trees count h z x = absurd (let w : ⊥ = omega (arith, h) in w)
-up_to v (root ∷ roots) zero d [] count h z x = subst (HaveRoutes v (root ∷ roots)) (let e : count + 0 ≡ sum_by length [] + count = omega arith in e) (with_routes v root roots count 0 x (some_routes v roots))
+up_to v (root ∷ roots) zero d [] count h z x = subst (HaveRoutes v (root ∷ roots)) (let e : count + 0 ≡ count_in [] + count = omega arith in e) (with_routes v root roots count 0 x (some_routes v roots))
 up_to v (root ∷ roots) zero d (t ∷ trees) count h z x = absurd z
 up_to v (root ∷ roots) (suc i) d [] count h z x = absurd z
 up_to v (root ∷ roots) (suc i) d (t ∷ trees) count h z x = subst (HaveRoutes v (root ∷ roots))
-    (let a : sum_by length (t ∷ trees) ≡ length t + sum_by length trees = sum_by-cons length t trees in
-    let e : length t + (sum_by length trees + count) ≡ sum_by length (t ∷ trees) + count = omega (arith, a) in e)
-    (with_routes v root roots (length t) (sum_by length trees + count) (routes_of v root t z.0) (up_to v roots i d trees count (omega (arith, h)) z.1 x))
+    (let a : count_in (t ∷ trees) ≡ length t + count_in trees = sum_by-cons length t trees in
+    let e : length t + (count_in trees + count) ≡ count_in (t ∷ trees) + count = omega (arith, a) in e)
+    (with_routes v root roots (length t) (count_in trees + count) (routes_of v root t z.0) (up_to v roots i d trees count (omega (arith, h)) z.1 x))
 
 refused_with : (v : View) (roots : List Icb) (i room : ℕ) (d : Icb) (trees : List (List NodeFields)) (count : ℕ) → i < length roots → AreGrowing v roots i room trees → room < count → HasRoutes v (get_or roots i d) count
     → HaveMoreRoutes v roots 65536
-refused_with v roots i room d trees count h g over x = let y : HaveRoutes v roots (sum_by length trees + count) = up_to v roots i d trees count h g.each x in
-    record { routes = y.routes; each = y.each; more = (let a : room + sum_by length trees ≡ 65536 = g.count in let b : sum_by length trees + count ≤ sum_by length y.routes = y.many in omega (arith, a, b, over)) }
+refused_with v roots i room d trees count h g over x = let y : HaveRoutes v roots (count_in trees + count) = up_to v roots i d trees count h g.each x in
+    record { routes = y.routes; each = y.each; more = (let a : room + count_in trees ≡ 65536 = g.count in let b : count_in trees + count ≤ sum_by length y.routes = y.many in omega (arith, a, b, over)) }
 
 -- there is no room for the nodes of the next root
 pub no_room : (v : View) (roots : List Icb) (i room : ℕ) (d : Icb) (trees : List (List NodeFields)) (nodes : List NodeFields) → i < length roots → AreGrowing v roots i room trees
@@ -128,7 +129,7 @@ tree_refused v roots i room d trees P r error h lt g told = let x = err_from_is_
   where
     go : (e : NodesGaveUp) → IfTold (IsNodesRefused v (address_of (get_or roots i d))) e → IfTold (IsForestRefused v roots) e
     go TooManyPaths x = refused_with v roots i room d trees (length x.routes) lt g
-        (let a : room + sum_by length trees ≡ 65536 = g.count in let b : 65536 < length x.routes = x.more in omega (arith, a, b))
+        (let a : room + count_in trees ≡ 65536 = g.count in let b : 65536 < length x.routes = x.more in omega (arith, a, b))
         (record { routes = x.routes; from = record { in_order = x.in_order; lead = x.lead }; many = omega arith })
     go OutOfMemory x = tt
     go Unread x = tt
@@ -145,30 +146,29 @@ settled_each v [] (t ∷ trees) z = absurd z
 settled_each v (root ∷ roots) [] z = absurd z
 settled_each v (root ∷ roots) (t ∷ trees) z = (are_settled v (address_of root) t (map (settled v) t) z.0 refl, settled_each v roots trees z.1)
 
-as_many : (v : View) (trees : List (List NodeFields)) → sum_by length (map (λ (t : List NodeFields). map (full_node v) (map (settled v) t)) trees) ≡ sum_by length trees
+as_many : (v : View) (trees : List (List NodeFields)) → count_in (map (λ (t : List NodeFields). map (full_node v) (map (settled v) t)) trees) ≡ count_in trees
 as_many v [] = refl
 as_many v (t ∷ trees) =
-    let a : sum_by length (map (full_node v) (map (settled v) t) ∷ map (λ (t : List NodeFields). map (full_node v) (map (settled v) t)) trees)
-    ≡ length (map (full_node v) (map (settled v) t)) + sum_by length (map (λ (t : List NodeFields). map (full_node v) (map (settled v) t)) trees)
+    let a : count_in (map (full_node v) (map (settled v) t) ∷ map (λ (t : List NodeFields). map (full_node v) (map (settled v) t)) trees)
+    ≡ length (map (full_node v) (map (settled v) t)) + count_in (map (λ (t : List NodeFields). map (full_node v) (map (settled v) t)) trees)
     = sum_by-cons length (map (full_node v) (map (settled v) t)) (map (λ (t : List NodeFields). map (full_node v) (map (settled v) t)) trees) in
     let b : length (map (full_node v) (map (settled v) t)) ≡ length t = length-map (map (settled v) t) (full_node v) ∙ length-map t (settled v) in
-    let c : sum_by length (t ∷ trees) ≡ length t + sum_by length trees = sum_by-cons length t trees in
-    let d : sum_by length (map (λ (t : List NodeFields). map (full_node v) (map (settled v) t)) trees) ≡ sum_by length trees = as_many v trees in
-    let e : sum_by length (map (full_node v) (map (settled v) t) ∷ map (λ (t : List NodeFields). map (full_node v) (map (settled v) t)) trees) ≡ sum_by length (t ∷ trees) = omega (arith, a, b, c, d) in e
+    let c : count_in (t ∷ trees) ≡ length t + count_in trees = sum_by-cons length t trees in
+    let d : count_in (map (λ (t : List NodeFields). map (full_node v) (map (settled v) t)) trees) ≡ count_in trees = as_many v trees in
+    let e : count_in (map (full_node v) (map (settled v) t) ∷ map (λ (t : List NodeFields). map (full_node v) (map (settled v) t)) trees) ≡ count_in (t ∷ trees) = omega (arith, a, b, c, d) in e
 
 -- whatever holds the nodes of a tree
 module _ {T : Type 0} (items : T → List NodeFields) where
   pub forest_settled : (v : View) (roots : List Icb) (found trees : List T) → IsUnsettledForest v roots (map items found) → map items trees ≡ map (λ t. map (settled v) (items t)) found
       → IsForest v roots (map (λ t. map (full_node v) (items t)) trees)
   forest_settled v roots found trees u e =
-      let full : List (List NodeFields) → List (List NodeFields) = map (map (full_node v)) in
       let is : map (λ (t : List NodeFields). map (full_node v) (map (settled v) t)) (map items found) ≡ map (λ t. map (full_node v) (items t)) trees
-      = sym (fused (map (settled v)) (map (full_node v)) (map items found)) ∙ ap full (fused items (map (settled v)) found ∙ sym e) ∙ fused items (map (full_node v)) trees in
+      = sym (fused (map (settled v)) (map (full_node v)) (map items found)) ∙ ap (map (map (full_node v))) (fused items (map (settled v)) found ∙ sym e) ∙ fused items (map (full_node v)) trees in
       record {
         each = subst (AllZip (IsTree v) roots) is (settled_each v roots (map items found) u.each);
-        few = (let a : sum_by length (map (λ (t : List NodeFields). map (full_node v) (map (settled v) t)) (map items found)) ≡ sum_by length (map items found) = as_many v (map items found) in
-            let b : sum_by length (map (λ (t : List NodeFields). map (full_node v) (map (settled v) t)) (map items found)) ≡ sum_by length (map (λ t. map (full_node v) (items t)) trees) = ap (sum_by length) is in
-            let c : sum_by length (map items found) ≤ 65536 = u.few in omega (arith, a, b, c));
+        few = (let a : count_in (map (λ (t : List NodeFields). map (full_node v) (map (settled v) t)) (map items found)) ≡ count_in (map items found) = as_many v (map items found) in
+            let b : count_in (map (λ (t : List NodeFields). map (full_node v) (map (settled v) t)) (map items found)) ≡ count_in (map (λ t. map (full_node v) (items t)) trees) = ap count_in is in
+            let c : count_in (map items found) ≤ 65536 = u.few in omega (arith, a, b, c));
       }
 
   -- those that were settled, and one more
@@ -186,11 +186,7 @@ module _ {T : Type 0} (items : T → List NodeFields) where
 
 -- ---- the information control blocks of one tree more
 keys_more : (trees more : List (List NodeFields)) (t : List NodeFields) → more ≡ trees ++ t ∷ [] → keys_in more ≡ keys_in trees ++ map icb_key t
-keys_more trees more t e = ap keys_in e ∙ flat_map-append (map icb_key) trees (t ∷ []) ∙ ap (λ ks. keys_in trees ++ ks) (nothing_on (map icb_key t))
-  where
-    nothing_on : (ks : List ℕ) → ks ++ [] ≡ ks
-    nothing_on [] = refl
-    nothing_on (k ∷ ks) = ap (λ z. k ∷ z) (nothing_on ks)
+keys_more trees more t e = ap keys_in e ∙ flat_map-append (map icb_key) trees (t ∷ []) ∙ ap (λ ks. keys_in trees ++ ks) (append-nil (map icb_key t))
 
 pub counted_tree : (trees more : List (List NodeFields)) (t : List NodeFields) (first old new : Memo) (begun before after : ℕ) → more ≡ trees ++ t ∷ []
     → KeepsCount (keys_in trees) first begun old before → KeepsCount (map icb_key t) old before new after → KeepsCount (keys_in more) first begun new after

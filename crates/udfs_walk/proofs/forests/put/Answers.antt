@@ -5,5 +5,5 @@ use Rattle.std.specs.declared.vec.Vec.{Vec}
 use Rattle.udfs_walk.specs.NodeFields.{NodeFields}
 use Rattle.udfs_walk.proofs.forests.put.Goals as goal
 
-pub returns-clause-0 : goal.returns-clause-0
-returns-clause-0 c = ap (map (λ (tree : Vec NodeFields Global). tree.items)) c.in_ok-push.ensures.items ∙ map-append (λ (tree : Vec NodeFields Global). tree.items) c.args.trees.now.items (c.args.tree ∷ [])
+pub returns : goal.returns
+returns c = ap (map (λ (tree : Vec NodeFields Global). tree.items)) c.in_ok-push.ensures.items ∙ map-append (λ (tree : Vec NodeFields Global). tree.items) c.args.trees.now.items (c.args.tree ∷ [])
