@@ -17,7 +17,7 @@ use std::marker::Model;
 use udfs_file::file_sets::address_fault;
 use udfs_file::{DirEntry, FoundNames};
 use udfs_lattice::{BlockStore, GaveUp};
-use udfs_osta::Name;
+use udfs_osta::{Name, OutOfMemory};
 use udfs_space::StoreView;
 use udfs_walk::{Node, Standing, Unnamed, body_by};
 
