@@ -1,12 +1,12 @@
 -- Torn directories, each once; and the names that are found in one.
-use Rattle.std.proofs.Common.{◌≡◌, refl, sym, ◌∙◌, ap, subst, ℕ, ◌+◌, ◌<◌, ◌≤◌, Bool, true, false, cond, not, ◌&&◌, ◌||◌, List, [], ◌∷◌, ◌++◌, length, take, drop, get_or, map, arith, Option, Some, None, is_none, append_assoc}
+use Rattle.std.proofs.Common.{◌≡◌, refl, sym, ◌∙◌, ap, subst, ℕ, ◌+◌, ◌<◌, ◌≤◌, Bool, true, false, cond, not, ◌&&◌, ◌||◌, List, [], ◌∷◌, ◌++◌, length, take, drop, get_or, map, Option, Some, None, is_none, append_assoc}
 use Rattle.std.specs.Prelude.{MatchOption, filter, filter_map, fold, is_some, option_map, option_and_then}
 use Rattle.std.specs.Borrow.{Bor}
 use Rattle.std.specs.BTreeMap.{BTreeMap, Updates, get}
-use Rattle.std.specs.List.{cons_option, find, list_all, list_any}
+use Rattle.std.specs.List.{cons_option, list_all, list_any}
 use Rattle.std.specs.Ordering.{nat_cmp}
 use Rattle.std.proofs.lemmas.List.Folds.{list_all-append}
-use Rattle.std.proofs.lemmas.List.{append-nil, drop_all, drop_more, map-append, map_more, take-map, take_all, take_at}
+use Rattle.std.proofs.lemmas.List.{append-nil, drop_all, drop_more, map-append, map_more, take-map}
 use Rattle.std.proofs.lemmas.List.Elements.{filter_more}
 use Rattle.udfs_tag.specs.declared.layouts.LongAd.{LongAd}
 use Rattle.udfs_space.specs.Places.{View}

@@ -6,7 +6,7 @@
 --     found_names view us a              those names of it that name one of these entries, at most 65,536, each name of an entry once
 --     is_found view us nodes trees icb   such a name of the entry at an information control block is found
 --     BareNamesWillDo                    nodes and entries need not have their blocks and holes
-use Rattle.std.specs.Prelude.{◌≡◌, ◌==◌, ℕ, Bool, true, false, not, ◌&&◌, ◌||◌, List, [], ◌∷◌, ◌++◌, bytes_eq, fold, take, filter, filter_map, map, cond, Option, Some, None, option_map, option_and_then}
+use Rattle.std.specs.Prelude.{◌≡◌, ◌==◌, ℕ, Bool, true, false, not, ◌&&◌, ◌||◌, List, [], ◌∷◌, ◌++◌, bytes_eq, fold, take, filter, filter_map, map, cond, Option, option_map, option_and_then}
 use Rattle.std.specs.List.{find, list_any}
 use Rattle.udfs_tag.specs.Fields.{number_of}
 use Rattle.udfs_tag.specs.declared.layouts.LongAd.{LongAd}

@@ -1,6 +1,6 @@
 -- Entries beside a table of their numbers, in which they are looked up.
 --     AgreeAt table us        the table has the first of these entries at each number
-use Rattle.std.specs.Prelude.{◌≡◌, ℕ, true, List, Option, option_map}
+use Rattle.std.specs.Prelude.{◌≡◌, ℕ, true, List, option_map}
 use Rattle.std.specs.Borrow.{Bor}
 use Rattle.std.specs.BTreeMap.{BTreeMap, get}
 use Rattle.std.specs.List.{list_all}

@@ -1,10 +1,10 @@
-use Rattle.std.proofs.Common.{◌||◌, ◌∙◌, ap, sym}
+use Rattle.std.proofs.Common.{◌||◌, ◌∙◌, ap}
 use Rattle.std.specs.List.{list_any}
 use Rattle.udfs_space.specs.Views.{view_by}
 use Rattle.udfs_walk.specs.Targets.{is_icb}
 use Rattle.udfs_lost.specs.FoundNames.{is_found_among}
 use Rattle.udfs_lost.specs.declared.trees.LostTree.{LostTree}
-use Rattle.udfs_lost.proofs.ToldLemmas.{any_next, or_nothing}
+use Rattle.udfs_lost.proofs.ToldLemmas.{any_next}
 use Rattle.udfs_lost.proofs.named_entries.found_entries.Goals as goal
 
 pub loop-tree-preserved : goal.loop-tree-preserved

@@ -1,4 +1,4 @@
-use Rattle.std.proofs.Common.{◌≡◌, ◌∙◌, List, [], ap, subst, take}
+use Rattle.std.proofs.Common.{◌∙◌, List, [], ap, subst, take}
 use Rattle.std.specs.Prelude.{filter_map, fold}
 use Rattle.udfs_space.specs.Views.{view_by}
 use Rattle.udfs_file.specs.FoundNames.{entries_in}

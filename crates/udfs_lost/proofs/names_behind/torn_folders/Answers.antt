@@ -1,11 +1,11 @@
-use Rattle.std.proofs.Common.{◌≡◌, ◌∙◌, ◌+◌, ◌++◌, ap, drop, false, map, sym, true}
+use Rattle.std.proofs.Common.{◌∙◌, ◌+◌, ◌++◌, ap, drop, map, sym}
 use Rattle.std.specs.Borrow.{Bor}
 use Rattle.std.specs.List.{list_any}
 use Rattle.std.specs.Prelude.{filter}
 use Rattle.std.proofs.lemmas.List.{map_push}
 use Rattle.udfs_walk.specs.NodeFields.{NodeFields}
 use Rattle.udfs_walk.specs.Targets.{icb_of, is_icb}
-use Rattle.udfs_lost.specs.FoundNames.{is_torn_folder, torn_folders}
+use Rattle.udfs_lost.specs.FoundNames.{torn_folders}
 use Rattle.udfs_lost.specs.Met.{with_icb}
 use Rattle.udfs_lost.proofs.FoundLemmas.{folders_met, folders_more, folders_other, folders_start, is_new}
 use Rattle.udfs_lost.proofs.names_behind.torn_folders.Goals as goal

@@ -4,7 +4,7 @@ use Rattle.udfs_lost.specs.Folders.{IsRootsRefused}
 use Rattle.udfs_lost.specs.Starts.{IsExploreRefused}
 use Rattle.udfs_lost.proofs.EntryLemmas.{refused_on}
 use Rattle.udfs_lost.proofs.Members.{get_default, item_in}
-use Rattle.udfs_lost.proofs.SearchLemmas.{IsStarting, roots_refused, starting_done, starting_more, starting_none, starting_skip}
+use Rattle.udfs_lost.proofs.SearchLemmas.{IsStarting, roots_refused, starting_done, starting_more, starting_skip}
 use Rattle.udfs_lost.proofs.search.starts.Goals as goal
 use Rattle.udfs_lost.proofs.search.starts.Goals.{then-not-contains+in_ok-met+in_ok-put, else-not-contains}
 
