@@ -1,4 +1,4 @@
-use Rattle.std.proofs.Common.{ap, arith, map, refl, subst}
+use Rattle.std.proofs.Common.{ap, arith, map, subst}
 use Rattle.std.specs.declared.alloc.Global.{Global}
 use Rattle.std.specs.declared.vec.Vec.{Vec}
 use Rattle.udfs_space.specs.Views.{view_by}

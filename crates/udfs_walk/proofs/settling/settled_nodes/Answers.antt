@@ -1,4 +1,4 @@
-use Rattle.std.proofs.Common.{◌∙◌, ◌≤◌, ◌+◌, ℕ, List, ap, length, map, subst}
+use Rattle.std.proofs.Common.{◌∙◌, ◌≤◌, ◌+◌, List, ap, length, map, subst}
 use Rattle.udfs_lattice.specs.Volumes.{ascending}
 use Rattle.udfs_space.specs.Views.{view_by}
 use Rattle.udfs_walk.specs.Counting.{AreWithin, IsCounted, KeepsCount, icb_key}

@@ -1,4 +1,4 @@
-use Rattle.std.proofs.Common.{◌∙◌, ap, subst, sym, ◌∷◌, ◌++◌, ◌≤◌, [], map, refl, arith, length, length-append}
+use Rattle.std.proofs.Common.{◌∙◌, ap, subst, sym, ◌∷◌, ◌++◌, ◌≤◌, [], refl, arith, length, length-append}
 use Rattle.std.specs.Prelude.{MatchOption}
 use Rattle.udfs_space.specs.Views.{view_by}
 use Rattle.udfs_walk.specs.Frames.{IsEntryTaken, IsOneFewer, count_left, frames_with}
