@@ -55,6 +55,7 @@ fn next_in<B: BlockStore>(
         if !cursor.has_left() {
             return Ok(None);
         }
+        cursor.keep()?;
         let found = entry_ahead(alloc, cursor, &mut spare, &mut other)?;
         cursor.skip(4);
         match found {

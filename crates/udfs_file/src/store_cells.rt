@@ -323,16 +323,7 @@ impl<'a, B: BlockStore> StoreCursor<'a, B> {
         ensures size { IfOk result (IsSizedStep (length self.now)) }
         ensures fails { OnErr result B.fails }
     {
-        let view = StoreView {
-            blocks: &self.kept,
-            space: self.cells.view.space,
-        };
-        let cells = StoreCells {
-            view,
-            stretches: self.cells.stretches,
-            passed: self.cells.passed,
-        };
-        let step = ahead(profile, &cells, spare, other)?;
+        let step = self.here(profile, spare, other)?;
         Ok(step)
     }
 
@@ -375,21 +366,29 @@ impl<'a, B: BlockStore> StoreCursor<'a, B> {
         Ok(step)
     }
 
-    /// The next descriptor by these rules, or what ends the directory there, without moving.
+    /// The next descriptor by these rules, or what ends the directory there, without moving. The block that is kept is not read again.
     pub(crate) fn here<'r>(
-        &self,
+        &'r self,
         profile: Profile,
         spare: &'r mut [u8; 2048],
         other: &'r mut [u8; 2048],
     ) -> Result<Step<'r>, ReadFault>
-    where
-        'a: 'r,
         ensures value { IfOk result (λ told. B.tells → StepIs told (step_by profile self.now)) }
         ensures bytes { IfOk result (λ told. B.tells → HasFirstBytes self.now told) }
         ensures size { IfOk result (IsSizedStep (length self.now)) }
         ensures fails { OnErr result B.fails }
     {
-        ahead(profile, &self.cells, spare, other)
+        let view = StoreView {
+            blocks: &self.kept,
+            space: self.cells.view.space,
+        };
+        let cells = StoreCells {
+            view,
+            stretches: self.cells.stretches,
+            passed: self.cells.passed,
+        };
+        let step = ahead(profile, &cells, spare, other)?;
+        Ok(step)
     }
 
     /// Whether a byte is left.
