@@ -324,7 +324,7 @@ fn put_both<B: BlockStore, W: Sink>(
 /// file's entry, with the partition reference and a `-` before it where there are two partitions. The folder's own path ends with `/`;
 /// a last column `in PATH` is behind it where its parent's identifier (ECMA-167 4/14.4.3) names a directory that is a node.
 ///
-/// Behind these, unless only paths are asked for, come the names that are found behind holes of torn folders, as `found_names` of
+/// Behind these, unless only paths are asked for, come the names that are found behind holes of torn folders, as `found_names_by` of
 /// `udfs_lost` finds them, of lost files and of folders from which a lost tree is walked: of those folders that are nodes, by their
 /// paths, and of those in lost trees. Before the last column, `found`, is what the entry is called by its block. What has such a line
 /// has none of its own in the lines before, where what is in a folder stands below what it is called. Such a name is evidence and no
